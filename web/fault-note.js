@@ -1,7 +1,7 @@
 // The note on a fault, between the controls and the pictures: at the operator that ended a task, and at the machine before it.
 import {byId, element, put, taskClass} from './elements.js';
 import {explained} from './messages.js';
-import {fittingCauses} from './faults.js';
+import {causeOf, fittingCauses} from './faults.js';
 
 // The faults of the operator that is shown, or of the next one if the page knows them by now; null if there are none.
 export function faultShown({state, faults}) {
@@ -15,14 +15,14 @@ function faultText(rows, {task, name, said, fits}) {
   return [element('strong', {class: taskClass(task)}, `task ${task}: ${name}`), `. ${row?.means ?? ''} ${said} `, element('span', {class: 'dim'}, fittingCauses(row?.advice ?? '', fits))];
 }
 
-// Shows the note. Of many tasks that end at once the first one says why.
+// Shows the note. Of many tasks that end at once one says why.
 export function showFaultNote(fault, rows, act) {
   const box = byId('fault');
   box.hidden = !fault;
   if (!fault) return put(box);
-  const [first, ...others] = fault.wrongs, {operator, past} = fault, name = operator.card ? `card ${operator.card}` : operator.place;
+  const first = causeOf(fault.wrongs), others = fault.wrongs.filter(it => it !== first), {operator, past} = fault, name = operator.card ? `card ${operator.card}` : operator.place;
   const button = past ? element('button', {type: 'button', onclick: () => act('back')}, 'One step back: the machine before it')
     : element('button', {type: 'button', onclick: () => act('forth')}, 'Make it');
   put(box, element('span', {class: 'sign'}, '✕'), element('p', {}, past ? '' : `The next operator, ${name}, will fault. `, faultText(rows, first),
-    others.length ? ` ${others.map(it => `${it.task} ${it.name}`).join(', ')} ${others.length > 1 ? 'follow' : 'follows'}.` : ''), button);
+    others.length ? ` ${others.map(it => `${it.task} ${it.name}`).join(', ')} ${others.length > 1 ? 'end' : 'ends'} with it.` : ''), button);
 }

@@ -142,6 +142,11 @@ export function wrongOf(ending, state, operator) {
   return {said, fits, cells: cells.map(cell => `${task} ${record.number} ${cell.at}`)};
 }
 
+// Of tasks that end by one operator the one that is the cause: a child that ends with its parent isn't.
+export function causeOf(wrongs) {
+  return wrongs.find(it => it.name !== 'PARENT') ?? wrongs[0];
+}
+
 // Of a text of causes the clauses that fit.
 export function fittingCauses(text, fits) {
   if (!fits) return text;

@@ -6,7 +6,7 @@ import {Machine} from './machine.js';
 import {Search} from './search.js';
 import {TASKS} from './course.js';
 import {endingOf} from './changes.js';
-import {wrongOf} from './faults.js';
+import {causeOf, wrongOf} from './faults.js';
 
 const MOST_SHOWN = 1 << 24; // bytes that a command may print
 const MOST_OF_IMAGE = 1 << 26;
@@ -73,7 +73,7 @@ export class Desk {
 
   // The first fault of a run: its count, its operator and what was wrong; null where no task ends by a fault.
   fault({deck, core}) {
-    const search = this.search(deck, core), count = search.firstFault(), state = this.state({deck, core, count}), [wrong] = state.wrongs;
+    const search = this.search(deck, core), count = search.firstFault(), state = this.state({deck, core, count}), wrong = causeOf(state.wrongs);
     return wrong ? {...wrong, count, operator: state.operator} : null;
   }
 

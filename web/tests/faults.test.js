@@ -43,6 +43,8 @@ const FAULTS = [
   ['INVALID OPERATOR', 'NVLD', 4, /^The card is NVLD/, ''],
   ['INVALID OPERATOR', 'ONE', 0, /behind the last card of its segment/, /runs into its filling/],
   ['MEMORY PROTECT', 'ONE / NAMC 1,3 / STOD / EXIT / ROW R / NUM 7', 6, /data row 1,3|names no single word/, /./],
+  ['UPLEVEL', 'MPCW F / MKST / NAMC 2,2 / ENTR / EXIT / SEGMENT F 3 / ONE / NAMC 3,2 / STFF / RETN', 13, /leads into the record that is left\.$/, /^Let the caller own/],
+  ['CRITICAL BLOCK', 'MPCW P / MPCW Q / MKST / NAMC 2,3 / ENTR / EXIT / SEGMENT P 3 / EXIT / SEGMENT Q 3 / MKST / NAMC 0,12 / NAMC 2,2 / ENTR / DLET / EXIT', 18, /^Record 2 would be left, and task 1\.2, started by task 1\.1, lives still\.$/, /^AWAIT the task first/],
   ['DEADLOCK', 'ZERO / MKST / NAMC 0,15 / NAMC 2,2 / ENTR / EXIT', 8, /^Task 1\.1, the last one that was ready, waits by this ENTR\.$/, /in a circle/],
   ['LIMIT', 'L: BRUN L', 4, /^Job 1 has made as many operators as it may/, /^An endless loop: step back/],
 ];
