@@ -108,7 +108,7 @@ export class Machine {
   }
 
   // What a search looks at first: who made the operator, what is next, how deep the stacks are, and whose words are in core. It is a
-  // fourth of a state's work, and is compared with nothing: the state that a search comes to is.
+  // part of a state’s work, and is compared with nothing: the state that a search comes to is.
   glance(count) {
     const {status, bytes} = this.run('image', count);
     if (status !== HALTED) return {over: true};
