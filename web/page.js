@@ -19,7 +19,7 @@ import {nameOfFollowed} from './follow.js';
 import {showDeck, showLine, showMoment} from './step-view.js';
 
 const [LEAST_CORE, MOST_CORE, MOST_FILLED] = [256, 1048575, 65536];
-const SOON_FOUND = 250; // milliseconds of a run whose fault is looked for unasked
+const SOON_FOUND = 1000; // milliseconds of a run whose fault is looked for unasked
 const [STATES_KEPT, AHEAD, ADDRESS_MILLISECONDS] = [60, [1, 2, -1, 3, -2, 4], 200]; // of states: how many are kept, and which are made ahead
 const NO_BROWSER = 'This browser can’t run the machine, which needs WebAssembly with memories of 64 bits: open this page in a Chrome, Edge or Firefox of 2025 or later.';
 const NO_POLICY = 'The policy under which this page was sent forbids WebAssembly, so the machine can’t run here: save the page, and open the file.';

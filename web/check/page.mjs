@@ -221,7 +221,8 @@ async function faults() {
   wants(/^Take \d+ words of core, and run$/.test(await shown('.offer')), 'no button for a core that suffices');
   await browser.click('.offer');
   await stateNow();
-  await browser.until("document.querySelector('#look')", 10);
+  if (/^Find/.test(await shown('.offer'))) await browser.click('.offer'); // of a run that took long, on a slow machine
+  await browser.until("document.querySelector('#look')", 30);
   wants(await shown('#gutter .refused') === '9' && /status 0/.test(await shown('.status.bad')), `a fault at card 9: ${await shown('#gutter .refused')} ${await shown('.status')}`);
   await browser.click('#look');
   let state = await stateNow();
