@@ -325,9 +325,14 @@ export class Page {
     this.prepare();
   }
 
-  // Puts what is shown into the address, soon or now: the moment, or the deck.
+  // Puts what is shown into the address, soon or now: the moment, or the deck. Soon is when nothing is under way any more, since what is
+  // shown until then isn't what the address asks for.
   addressSoon() {
-    this.addresses ??= setTimeout(() => this.address(), ADDRESS_MILLISECONDS);
+    this.addresses ??= setTimeout(() => {
+      this.addresses = null;
+      if (this.working) this.addressSoon();
+      else this.address();
+    }, ADDRESS_MILLISECONDS);
   }
   async address() {
     clearTimeout(this.addresses);

@@ -303,6 +303,7 @@ async function keeps() {
   await browser.value('setTimeout(() => location.reload()) * 0');
   await new Promise(goes => setTimeout(goes, 800));
   await shows('own deck after a reload');
+  await browser.until("location.hash.endsWith(',4096,3')", 10);
   await opens('jensen,4096,13');
   await browser.value('history.back()');
   await browser.until("document.getElementById('deck').value.includes('OWN')", 10);
