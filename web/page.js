@@ -401,7 +401,10 @@ export class Page {
     this.addresses = null;
     const course = courseOf(hash), moment = momentOf(hash);
     if (course) return this.guard(() => this.opensCourse(course));
-    if (!moment) return this.editor.name ? undefined : this.editor.choose('two');
+    if (!moment) {
+      if (!this.editor.name) this.editor.choose('two');
+      return this.say(hash.length > 1 ? 'This page can’t read that address: one is #two,630,20, a deck, its core and a count.' : '');
+    }
     const {session} = this;
     const shown = session?.state && document.body.dataset.view === 'step' && [session.name, session.code].includes(moment.deck) && session.core === moment.core
       && session.state.count === moment.count && session.other === moment.other;

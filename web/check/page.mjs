@@ -316,6 +316,8 @@ async function keeps() {
   await browser.until("document.getElementById('deck').value.includes('OWN')", 10);
   await opens('deck:AAAA,4096,3');
   wants(/isn’t whole/.test((await stateNow()).message), 'half an address: no sentence');
+  await opens('two;630');
+  wants(/can’t read/.test((await stateNow()).message), 'an address that is none: no sentence');
 }
 
 // Under policies that forbid workers, storage or scripts the page runs, or says truly why not.
