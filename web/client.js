@@ -9,27 +9,25 @@ export class Client {
     this.address = URL.createObjectURL(new Blob([source], {type: 'text/javascript'}));
   }
 
-  // Starts a worker, or a desk in the page; fails where the browser can't run the module.
+  // Starts a worker, or a desk in the page where no worker has ever started; fails where the browser can't run the module. A start that
+  // is stopped gives way to the next one.
   async start() {
-    try {
-      if (!this.desk) return await this.startWorker();
-    } catch {
+    if (!this.desk) {
+      const problem = await this.startWorker().then(() => null, it => it);
+      this.works ||= !problem;
+      if (!problem || this.works && problem.message === 'stopped') return;
+      if (this.works) throw problem;
       this.worker?.terminate();
       this.worker = null;
     }
     this.desk = new Desk(message => this.hear(message));
     await this.ask('start', {bytes: this.bytes, compares: this.compares});
   }
-  startWorker() {
+  async startWorker() {
     this.worker = new Worker(this.address);
     this.worker.onmessage = ({data}) => (data.id ? this.answered(data) : this.hear(data));
     this.worker.onerror = event => this.failAll(event.message ?? 'the worker has failed');
     return this.ask('start', {bytes: this.bytes, compares: this.compares});
-  }
-
-  // Whether the work is done in the page itself.
-  get alone() {
-    return Boolean(this.desk);
   }
 
   ask(ask, data) {

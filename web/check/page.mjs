@@ -201,6 +201,14 @@ async function bad_input() {
   await browser.press('Escape');
   state = await stateNow();
   wants(/^Stopped/.test(state.message) && state.count === 0, `the end of a long run, stopped by a key: ${state.count} ${state.message}`);
+  await browser.press('End');
+  await browser.until("document.getElementById('stop').offsetParent", 20);
+  await browser.value("for (let k = 0; k < 3; k++) document.getElementById('stop').click(); 0");
+  wants(/^Stopped/.test((await stateNow()).message), 'Stop three times: no sentence');
+  await browser.press('End');
+  await browser.until("document.getElementById('stop').offsetParent", 20); // a worker computes, since the page answers
+  await browser.press('Escape');
+  await stateNow();
   await writes('', 4096);
   await browser.click('#run');
   wants(/no job/.test((await stateNow()).message), 'an empty deck: no sentence');
