@@ -1,4 +1,4 @@
-"""Reads an image and its backing file, by docs/MACHINE.md alone (sections 4, 13, 15 and 26).
+"""Reads an image and its backing file, by docs/MACHINE.md alone (sections 4, 13, 15 and 24).
 
     python3 reader.py IMAGE                       what `dump` prints of it
     python3 reader.py IMAGE --arrays BACKING      the numbers in its arrays and data rows
@@ -359,6 +359,10 @@ def main() -> int:
         return usage(f"{error.filename}: not a file that can be read")
     except ValueError as error:
         print(f"reader.py: {words[0]}: {error}", file=sys.stderr)
+        return 2
+    whole = len(image.links) * SECTOR_WORDS * WORD_BYTES
+    if len(words) == 3 and len(backing) != whole:
+        print(f"reader.py: {words[2]}: {len(backing)} bytes, but the image's backing file has {whole}", file=sys.stderr)
         return 2
     text = image.dump() if len(words) == 1 else text_of_arrays(image.arrays(backing))
     try:

@@ -30,8 +30,9 @@ usage() {
 program=$(cd "$(dirname "$1")" && pwd)/$(basename "$1")
 shift
 top=$(cd "$(dirname "$0")/.." && pwd)
-room=$(mktemp -d)
+room=$(mktemp -d) || exit 2
 trap 'rm -rf "$room"' EXIT
+trap 'exit 130' HUP INT TERM
 git clone -q "$top" "$room/clone"
 mkdir -p "$room/bin" "$room/blocks" "$room/clone/crates/b67/out"
 for place in "$room/bin/b67" "$room/clone/crates/b67/out/b67"; do

@@ -16,10 +16,11 @@ deck=$1
 program=${2:-b67}
 here=$(cd "$(dirname "$0")" && pwd)
 [ -f "$deck" ] && [ -r "$deck" ] || usage "$deck: not a file that can be read"
-command -v "$program" >/dev/null && [ ! -d "$program" ] || usage "$program: not a program that can be run"
+command -v "$program" >/dev/null && [ ! -d "$(command -v "$program")" ] || usage "$program: not a program that can be run"
 job=
-room=$(mktemp -d)
+room=$(mktemp -d) || exit 2
 trap 'rm -rf "$room"' EXIT
+trap 'exit 130' HUP INT TERM
 "$program" check <"$deck" >"$room/lines"
 status=$?
 line=$(tail -n 1 "$room/lines")

@@ -37,8 +37,11 @@ case $# in
         exit 1
     fi
     [ "$1" = resume ] || exit 0
-    room=$(mktemp -d)
+    [ "$(sums <"$program" | sed 's/ .*//')" = "$(sed -n 's/  b67$//p' "$folder/made-by")" ] ||
+        echo "keep.sh: another program than this one made it, which may be as good: see made-by" >&2
+    room=$(mktemp -d) || exit 2
     trap 'rm -rf "$room"' EXIT
+    trap 'exit 130' HUP INT TERM
     cp "$folder/backing" "$room/backing" && chmod u+w "$room/backing" || exit 1
     "$program" resume --backing "$room/backing" <"$folder/image"
     ;;
@@ -52,9 +55,18 @@ case $# in
     case $core in '' | *[!0-9]* | 0* | ????????*) usage "$core: a size of core is a number from 256 to 1048575" ;; esac
     [ "$core" -ge 256 ] && [ "$core" -le 1048575 ] || usage "$core: a size of core is a number from 256 to 1048575"
     # mkdir refuses what is there already, so nothing of anybody's is written over or removed
-    mkdir "$folder" || usage "$3: name a folder that isn't there yet"
+    if [ -e "$folder/image" ] && [ ! -e "$folder/SUMS" ]; then
+        usage "$3: a call of keep.sh was ended there before it was through: remove the folder, or name another"
+    fi
+    mkdir "$folder" 2>/dev/null || usage "$3: name a folder that isn't there yet, in one that can be written"
     "$program" image --core "$core" --backing "$folder/backing" <"$deck" >"$folder/image"
     status=$?
+    if [ $status = 8 ]; then
+        echo "keep.sh: the image couldn't be written whole: is the disk full? Nothing is kept" >&2
+        rm -f "$folder/backing" "$folder/image"
+        rmdir "$folder"
+        exit 1
+    fi
     if [ $status != 3 ]; then
         echo "keep.sh: the run didn't halt, so there is nothing to keep. Its status: $status; its last line: $(tail -n 1 "$folder/image")" >&2
         [ $status != 0 ] || echo "keep.sh: a card ?HALT n before the first ?JOB halts it after n operators, while a task lives" >&2

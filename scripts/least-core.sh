@@ -15,9 +15,10 @@ usage() {
 deck=$1
 program=${2:-b67}
 [ -f "$deck" ] && [ -r "$deck" ] || usage "$deck: not a file that can be read"
-command -v "$program" >/dev/null && [ ! -d "$program" ] || usage "$program: not a program that can be run"
-room=$(mktemp -d)
+command -v "$program" >/dev/null && [ ! -d "$(command -v "$program")" ] || usage "$program: not a program that can be run"
+room=$(mktemp -d) || exit 2
 trap 'rm -rf "$room"' EXIT
+trap 'exit 130' HUP INT TERM
 core=256
 while :; do
     "$program" run --core "$core" --backing "$room/b" <"$deck" >"$room/lines"

@@ -19,8 +19,9 @@ program=${2:-b67}
 job=${3:-1}
 case $job in [1-8]) ;; *) usage "$job: a job is a number from 1 to 8" ;; esac
 [ -f "$deck" ] && [ -r "$deck" ] || usage "$deck: not a file that can be read"
-room=$(mktemp -d)
+room=$(mktemp -d) || exit 2
 trap 'rm -rf "$room"' EXIT
+trap 'exit 130' HUP INT TERM
 
 # the body, each card on the line that it has in the deck; `kind` says what it is, `prefix` which job of several
 awk -v kind="$room/kind" -v prefix="$room/prefix" -v wanted="$job" '
@@ -47,7 +48,7 @@ prefix=$(cat "$room/prefix" 2>/dev/null)
 : >"$room/cards"
 : >"$room/names"
 if [ "$(cat "$room/kind")" = ASM ]; then
-    command -v "$program" >/dev/null && [ ! -d "$program" ] || usage "$program: not a program that can be run"
+    command -v "$program" >/dev/null && [ ! -d "$(command -v "$program")" ] || usage "$program: not a program that can be run"
     "$program" asm <"$room/body" >"$room/hex" || { cat "$room/hex" >&2; exit 1; }
     # operators alone: number, segment, mnemonic, text; and the names of segments and rows, with their cards
     awk -v names="$room/names" '

@@ -17,7 +17,7 @@ deck=$1
 shift
 program=${B67:-b67}
 [ -f "$deck" ] && [ -r "$deck" ] || usage "$deck: not a file that can be read"
-command -v "$program" >/dev/null && [ ! -d "$program" ] || usage "$program: not a program that can be run"
+command -v "$program" >/dev/null && [ ! -d "$(command -v "$program")" ] || usage "$program: not a program that can be run"
 command -v strace >/dev/null || usage "strace isn't installed, and nothing else here counts the sectors"
 for core in "$@"; do
     case $core in
@@ -25,8 +25,9 @@ for core in "$@"; do
     esac
     [ "$core" -ge 256 ] && [ "$core" -le 1048575 ] || usage "$core: a size of core is a number from 256 to 1048575"
 done
-room=$(mktemp -d)
+room=$(mktemp -d) || exit 2
 trap 'rm -rf "$room"' EXIT
+trap 'exit 130' HUP INT TERM
 echo "   core    read written  last line"
 for core in "$@"; do
     strace -o "$room/calls" -P "$room/b" -e trace=pread64,pwrite64 \

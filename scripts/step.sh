@@ -25,9 +25,10 @@ for count in "$from" "$to"; do
 done
 [ "$from" -le "$to" ] || usage "$from comes after $to"
 [ -f "$deck" ] && [ -r "$deck" ] || usage "$deck: not a file that can be read"
-command -v "$program" >/dev/null && [ ! -d "$program" ] || usage "$program: not a program that can be run"
-room=$(mktemp -d)
+command -v "$program" >/dev/null && [ ! -d "$(command -v "$program")" ] || usage "$program: not a program that can be run"
+room=$(mktemp -d) || exit 2
 trap 'rm -rf "$room"' EXIT
+trap 'exit 130' HUP INT TERM
 "$program" check <"$deck" >"$room/checked" || { tail -n 1 "$room/checked" >&2; exit 2; }
 grep -v '^?HALT' <"$deck" >"$room/whole"
 

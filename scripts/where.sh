@@ -20,9 +20,10 @@ deck=$1
 program=${2:-b67}
 here=$(cd "$(dirname "$0")" && pwd)
 [ -f "$deck" ] && [ -r "$deck" ] || usage "$deck: not a file that can be read"
-command -v "$program" >/dev/null && [ ! -d "$program" ] || usage "$program: not a program that can be run"
-room=$(mktemp -d)
+command -v "$program" >/dev/null && [ ! -d "$(command -v "$program")" ] || usage "$program: not a program that can be run"
+room=$(mktemp -d) || exit 2
 trap 'rm -rf "$room"' EXIT
+trap 'exit 130' HUP INT TERM
 "$program" check <"$deck" >"$room/checked" || { tail -n 1 "$room/checked" >&2; exit 2; }
 grep -v '^?HALT' <"$deck" >"$room/whole"
 # the same after a card ?HALT, whose count is written over in place: spaces at a card's end don't count
