@@ -130,7 +130,7 @@ missing=$(grep -ohE '[0-9][0-9,]* lines' README.md docs/PROOF.md | sed 's/ lines
     grep -qw "$number" "$room/sizes" || echo "$number"
 done)
 if [ -z "$missing" ]; then passed=$((passed + 1)); else wrong "numbers of lines that no script prints: $(echo $missing)"; fi
-missing=$(tr '\n' ' ' <crates/b67_promises/src/lib.rt | grep -oE 'pub use [^;]*;' | sed 's/.*:://' | grep -oE '[a-z_]+' | while read -r name; do
+missing=$(tr '\n' ' ' <crates/b67_promises/src/lib.rt | grep -oE 'pub use [^;]*;' | sed 's/.*:://' | grep -oE '\b[a-z_]+\b' | while read -r name; do
     grep -qE "::$name( |\$)" "$room/sizes" && grep -qF "\`$name\`" docs/TRUST.md || echo "$name"
 done)
 if [ -z "$missing" ]; then passed=$((passed + 1)); else wrong "theorems that docs/TRUST.md or scripts/trust.py leaves out: $(echo $missing)"; fi
