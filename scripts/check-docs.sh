@@ -16,7 +16,7 @@
 # - each link must lead to a file and a heading, and each name of a file or a crate to one (scripts/links.py);
 # - the table of decks must name each folder of decks/, that of crates each crate, some page each script;
 # - the manual page must name each status's line, and its examples must end with status 0 and print something;
-# - each number of lines in README.md and docs/PROOF.md must be one that scripts/trust.py or scripts/sizes.py prints;
+# - each number of lines in README.md and docs/PAPER.md must be one that scripts/trust.py or scripts/sizes.py prints;
 # - docs/TRUST.md must name each public function of b67_promises, docs/TESTED.md the number of rows, README.md that of decks,
 #   docs/ARCHITECTURE.md that of crates.
 set -u
@@ -126,7 +126,7 @@ missing=$(for script in scripts/*.sh scripts/*.py; do grep -qF "$(basename "$scr
 if [ -z "$missing" ]; then passed=$((passed + 1)); else wrong "scripts that no page names: $(echo $missing)"; fi
 python3 scripts/trust.py >"$room/sizes"
 python3 scripts/sizes.py >>"$room/sizes"
-missing=$(grep -ohE '[0-9][0-9,]* lines' README.md docs/PROOF.md | sed 's/ lines//; s/,//g' | sort -u | while read -r number; do
+missing=$(grep -ohE '[0-9][0-9,]* lines' README.md docs/PAPER.md | sed 's/ lines//; s/,//g' | sort -u | while read -r number; do
     grep -qw "$number" "$room/sizes" || echo "$number"
 done)
 if [ -z "$missing" ]; then passed=$((passed + 1)); else wrong "numbers of lines that no script prints: $(echo $missing)"; fi

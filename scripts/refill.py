@@ -1,7 +1,7 @@
 #!/usr/bin/env python3
 """usage: refill.py
 
-Makes again the blocks of docs/TRUST.md and docs/PROOF.md that scripts/trust.py and scripts/sizes.py print: what stands after such
+Makes again the blocks of docs/TRUST.md and docs/PAPER.md that scripts/trust.py and scripts/sizes.py print: what stands after such
 a command becomes what it prints now. Numbers in sentences are left; scripts/check-docs.sh says which of them are old.
 """
 import os
@@ -23,7 +23,7 @@ def main(arguments):
     if arguments:
         print(__doc__.split("\n")[0], file=sys.stderr)
         return 2
-    for page in ["docs/TRUST.md", "docs/PROOF.md"]:
+    for page in ["docs/TRUST.md", "docs/PAPER.md"]:
         path = os.path.join(TOP, page)
         with open(path, encoding="utf-8") as text:
             old = text.read()
