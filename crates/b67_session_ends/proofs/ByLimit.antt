@@ -17,8 +17,7 @@ use Rattle.b67_law_sessions.specs.Orders.{JobInOrderButLimit, IsInOrderButLimit}
 use Rattle.b67_law_sessions.proofs.Limits.{LimitOf, limit_of}
 use Rattle.b67_task_tables.specs.declared.tables.Machine.{Machine}
 use Rattle.b67_task_tables.specs.Tables.{MachineRepresents}
-use Rattle.b67_task_end.specs.declared.families.EndedTask.{EndedTask}
-use Rattle.b67_task_end.specs.Family.{TablesHold, HasSomeHead, pair_of}
+use Rattle.b67_task_end.specs.Family.{TablesHold, HasSomeHead}
 use Rattle.b67_session_ends.specs.Ends.{StandsInPlace, JobLives, Finishes}
 use Rattle.b67_session_ends.specs.Texts.{endings_text}
 use Rattle.b67_session_ends.proofs.Ended.{part_ended, stands_ended, view_ended}
@@ -99,10 +98,10 @@ module _ (x : Storage) (told : Option (List (List ℕ))) (k : Machine) (plan : P
       ∙ ap (endings_text m.constants.number) (e ∙ ap (all_with Limit) (shows plan h m holds named.0 number))
       ∙ ap (λ (p : StepResult). run_text p.lines) part_is
 
-  pub text_by : (live slice : List ℕ) (items ended : List EndedTask) → ((plan : Placement) (s : Session) (m : SessionJob) → TablesHold plan s k.tasks → Has s.jobs m → m.constants.number ≡ k.tasks.last_job → live ≡ deepest_first m.progress.job.tasks)
-      → slice ≡ live → ended ≡ items → map pair_of items ≡ all_with Limit slice → endings_text k.tasks.last_job (map pair_of ended) ≡ run_text part.lines
+  pub text_by : (live slice : List ℕ) (items ended : List (ℕ × Ending)) → ((plan : Placement) (s : Session) (m : SessionJob) → TablesHold plan s k.tasks → Has s.jobs m → m.constants.number ≡ k.tasks.last_job → live ≡ deepest_first m.progress.job.tasks)
+      → slice ≡ live → ended ≡ items → items ≡ all_with Limit slice → endings_text k.tasks.last_job ended ≡ run_text part.lines
   text_by live slice items ended shows same lent all =
-      text_is slice (map pair_of ended) (λ p s m t among e. same ∙ shows p s m t among e) (ap (λ (es : List EndedTask). map pair_of es) lent ∙ all)
+      text_is slice ended (λ p s m t among e. same ∙ shows p s m t among e) (lent ∙ all)
 
   -- the session after it
   pub after_part : (new : Machine) (printed : ℕ)

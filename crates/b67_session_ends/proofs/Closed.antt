@@ -1,5 +1,5 @@
 -- The machine once the chosen task has ended, with those under it, those that are deadlocked then, and the step is counted.
-use Rattle.std.proofs.Common.{◌≡◌, ℕ, ◌≤◌, Bool, true, false, not, List, length, map, Option, Some, refl, sym, ap, ◌∙◌, subst, inl, arith}
+use Rattle.std.proofs.Common.{◌≡◌, ℕ, ◌≤◌, Bool, true, false, not, List, length, Option, Some, refl, sym, ap, ◌∙◌, subst, inl, arith}
 use Rattle.std.specs.List.{list_all}
 use Rattle.b67_word.specs.declared.faults.Ending.{Ending}
 use Rattle.b67_word.specs.declared.faults.Ending.TheVariants.{Deadlock}
@@ -20,8 +20,7 @@ use Rattle.b67_layout.proofs.Weaker.{but_counts}
 use Rattle.b67_task_tables.specs.declared.tables.Tasks.{Tasks}
 use Rattle.b67_task_tables.specs.declared.tables.Machine.{Machine}
 use Rattle.b67_task_tables.specs.Tables.{MachineRepresents, given_of}
-use Rattle.b67_task_end.specs.declared.families.EndedTask.{EndedTask}
-use Rattle.b67_task_end.specs.Family.{TablesHold, HasSomeRow, HasSomeHead, pair_of, endings_of}
+use Rattle.b67_task_end.specs.Family.{TablesHold, HasSomeRow, HasSomeHead, endings_of}
 use Rattle.b67_task_switch.specs.declared.counting.Chosen.{Chosen}
 use Rattle.b67_task_switch.specs.Counted.{choice_of, CountsHaveRoom}
 use Rattle.b67_task_tables.specs.Runs.{Keeps}
@@ -174,14 +173,14 @@ room_still old new c printed same r = subst (λ (z : Tasks). CountsHaveRoom z c)
 
 module _ (x : Storage) (told : Option (List (List ℕ))) (k : Machine) (plan : Placement) (s : Session) (m : SessionJob) (t : Task) (c : Chosen) (w : StandsChosen x told k plan s m t c) (ending : Ending) where
   -- all that end, by what was said of who they are
-  pub all_text : (items dead all slice : List EndedTask) → map pair_of items ≡ endings_of m.progress.job t.number ending → dead ≡ items
-      → ((plan : Placement) (s : Session) (m : SessionJob) (number : ℕ) (ending : Ending) → TablesHold plan s k.tasks → Has s.jobs m → m.constants.number ≡ c.job → map pair_of dead ≡ (ends_task m.progress.job number ending).endings → map pair_of all ≡ (deadlocked (ends_task m.progress.job number ending)).endings)
-      → slice ≡ all → endings_text c.job (map pair_of slice) ≡ run_text (part_of s (choice_of c) m t (ends_with m.progress.job t.number ending)).lines
+  pub all_text : (items dead all slice : List (ℕ × Ending)) → items ≡ endings_of m.progress.job t.number ending → dead ≡ items
+      → ((plan : Placement) (s : Session) (m : SessionJob) (number : ℕ) (ending : Ending) → TablesHold plan s k.tasks → Has s.jobs m → m.constants.number ≡ c.job → dead ≡ (ends_task m.progress.job number ending).endings → all ≡ (deadlocked (ends_task m.progress.job number ending)).endings)
+      → slice ≡ all → endings_text c.job slice ≡ run_text (part_of s (choice_of c) m t (ends_with m.progress.job t.number ending)).lines
   all_text items dead all slice first lent shows lent' =
-      let dead_is : map pair_of dead ≡ (ends_task m.progress.job t.number ending).endings = ap (λ (l : List EndedTask). map pair_of l) lent ∙ first in
-      let all_is : map pair_of all ≡ (deadlocked (ends_task m.progress.job t.number ending)).endings =
+      let dead_is : dead ≡ (ends_task m.progress.job t.number ending).endings = lent ∙ first in
+      let all_is : all ≡ (deadlocked (ends_task m.progress.job t.number ending)).endings =
       shows plan s m t.number ending (holds x told k plan s m t c w) (among x told k plan s m t c w) (own x told k plan s m t c w) dead_is in
-      ap (λ (l : List EndedTask). endings_text c.job (map pair_of l)) lent' ∙ ap (endings_text c.job) all_is
+      ap (endings_text c.job) (lent' ∙ all_is)
 
 -- ---- what stays
 

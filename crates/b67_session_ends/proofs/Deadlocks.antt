@@ -21,8 +21,7 @@ use Rattle.b67_task_tables.specs.declared.tables.Tasks.{Tasks}
 use Rattle.b67_task_tables.specs.declared.tables.Machine.{Machine}
 use Rattle.b67_task_tables.specs.Tables.{MachineRepresents}
 use Rattle.b67_task_end_tables.specs.Deaths.{ending_numbers}
-use Rattle.b67_task_end.specs.declared.families.EndedTask.{EndedTask}
-use Rattle.b67_task_end.specs.Family.{TablesHold, pair_of}
+use Rattle.b67_task_end.specs.Family.{TablesHold}
 use Rattle.b67_session_ends.specs.Closing.{is_dead_of, left_ready, others_of}
 use Rattle.b67_session_ends.specs.Ends.{StandsInPlace}
 use Rattle.b67_session_ends.proofs.AtLimits.{no_tasks, some_tasks}
@@ -31,8 +30,8 @@ use Rattle.b67_session_ends.proofs.Stuck.{dead_is, rows_tell}
 
 -- ---- lists
 
-pub copied_more : (copy new list : List EndedTask) (at : ℕ) (d : EndedTask) → at < length list → copy ≡ take at list → new ≡ copy ++ (get_or list at d ∷ []) → new ≡ take (at + 1) list
-copied_more copy new list at d low e is = is ∙ ap (λ (l : List EndedTask). l ++ (get_or list at d ∷ [])) e ∙ sym (take_more list at d low)
+pub copied_more : (copy new list : List (ℕ × Ending)) (at : ℕ) (d : ℕ × Ending) → at < length list → copy ≡ take at list → new ≡ copy ++ (get_or list at d ∷ []) → new ≡ take (at + 1) list
+copied_more copy new list at d low e is = is ∙ ap (λ (l : List (ℕ × Ending)). l ++ (get_or list at d ∷ [])) e ∙ sym (take_more list at d low)
 
 filter_same : (p q : ℕ → Bool) (ns : List ℕ) → ((n : ℕ) → p n ≡ q n) → filter p ns ≡ filter q ns
 filter_same p q [] same = refl
@@ -41,29 +40,28 @@ filter_same p q (n ∷ ns) same = elim (cases_Bool (q n)) [
   | inr t ↦ let own : p n ≡ false = same n ∙ t in rw (own, t) (filter_same p q ns same)
 ]
 
-pub others_is : (dead : List EndedTask) (ns : List ℕ) → others_of dead ns ≡ others (ending_numbers (map pair_of dead)) ns
-others_is dead ns = filter_same (λ (n : ℕ). not (is_dead_of dead n)) (λ (n : ℕ). not (among (ending_numbers (map pair_of dead)) n)) ns (λ n. ap not (dead_is dead n))
+pub others_is : (dead : List (ℕ × Ending)) (ns : List ℕ) → others_of dead ns ≡ others (ending_numbers dead) ns
+others_is dead ns = filter_same (λ (n : ℕ). not (is_dead_of dead n)) (λ (n : ℕ). not (among (ending_numbers dead) n)) ns (λ n. ap not (dead_is dead n))
 
-pub joined_none : (dead : List EndedTask) (n : ℕ) (list : List EndedTask) {b : Bool} → b ≡ true → b ≡ is_dead_of dead n → map pair_of list ≡ map pair_of list ++ all_with Deadlock (others_of dead (n ∷ []))
+pub joined_none : (dead : List (ℕ × Ending)) (n : ℕ) (list : List (ℕ × Ending)) {b : Bool} → b ≡ true → b ≡ is_dead_of dead n → list ≡ list ++ all_with Deadlock (others_of dead (n ∷ []))
 joined_none dead n list t e =
     let one : is_dead_of dead n ≡ true = sym e ∙ t in
     let none : others_of dead (n ∷ []) ≡ [] = rw one refl in
-    sym (ap (λ (ns : List ℕ). map pair_of list ++ all_with Deadlock ns) none ∙ append-nil (map pair_of list))
+    sym (ap (λ (ns : List ℕ). list ++ all_with Deadlock ns) none ∙ append-nil list)
 
-pub joined_one : (dead : List EndedTask) (n : ℕ) (list new : List EndedTask) {b : Bool} → b ≡ false → b ≡ is_dead_of dead n → new ≡ list ++ (record { number = n; ending = Deadlock } ∷ [])
-    → map pair_of new ≡ map pair_of list ++ all_with Deadlock (others_of dead (n ∷ []))
+pub joined_one : (dead : List (ℕ × Ending)) (n : ℕ) (list new : List (ℕ × Ending)) {b : Bool} → b ≡ false → b ≡ is_dead_of dead n → new ≡ list ++ (n, Deadlock) ∷ []
+    → new ≡ list ++ all_with Deadlock (others_of dead (n ∷ []))
 joined_one dead n list new t e is =
     let one : is_dead_of dead n ≡ false = sym e ∙ t in
-    let own : EndedTask = record { number = n; ending = Deadlock } in
     let all : others_of dead (n ∷ []) ≡ n ∷ [] = rw one refl in
-    ap (λ (l : List EndedTask). map pair_of l) is ∙ map-append pair_of list (own ∷ []) ∙ sym (ap (λ (ns : List ℕ). map pair_of list ++ all_with Deadlock ns) all)
+    is ∙ sym (ap (λ (ns : List ℕ). list ++ all_with Deadlock ns) all)
 
-module _ (dead first : List EndedTask) where
+module _ (dead first : List (ℕ × Ending)) where
   abbrev Stuck : List ℕ → List (ℕ × Ending)
-  Stuck ns = map pair_of first ++ all_with Deadlock (others_of dead ns)
+  Stuck ns = first ++ all_with Deadlock (others_of dead ns)
 
-  pub stuck_more : (list new : List EndedTask) (ns : List ℕ) (at d : ℕ) → at < length ns → map pair_of list ≡ Stuck (take at ns) → map pair_of new ≡ map pair_of list ++ all_with Deadlock (others_of dead (get_or ns at d ∷ []))
-      → map pair_of new ≡ Stuck (take (at + 1) ns)
+  pub stuck_more : (list new : List (ℕ × Ending)) (ns : List ℕ) (at d : ℕ) → at < length ns → list ≡ Stuck (take at ns) → new ≡ list ++ all_with Deadlock (others_of dead (get_or ns at d ∷ []))
+      → new ≡ Stuck (take (at + 1) ns)
   stuck_more list new ns at d low e more =
       let stays : ℕ → Bool = λ n. not (is_dead_of dead n) in
       let one : List ℕ = get_or ns at d ∷ [] in
@@ -73,10 +71,10 @@ module _ (dead first : List EndedTask) where
       map-append (λ (n : ℕ). (n, Deadlock)) (others_of dead before) (others_of dead one) in
       more
       ∙ ap (λ (l : List (ℕ × Ending)). l ++ all_with Deadlock (others_of dead one)) e
-      ∙ append_assoc (map pair_of first) (all_with Deadlock (others_of dead before)) (all_with Deadlock (others_of dead one))
-      ∙ sym (ap (λ (l : List ℕ). Stuck l) (take_more ns at d low) ∙ ap (λ (l : List ℕ). map pair_of first ++ all_with Deadlock l) joined ∙ ap (λ (l : List (ℕ × Ending)). map pair_of first ++ l) mapped)
+      ∙ append_assoc first (all_with Deadlock (others_of dead before)) (all_with Deadlock (others_of dead one))
+      ∙ sym (ap (λ (l : List ℕ). Stuck l) (take_more ns at d low) ∙ ap (λ (l : List ℕ). first ++ all_with Deadlock l) joined ∙ ap (λ (l : List (ℕ × Ending)). first ++ l) mapped)
 
-  pub stuck_all : (list : List EndedTask) (ns : List ℕ) (at : ℕ) → length ns ≤ at → map pair_of list ≡ Stuck (take at ns) → map pair_of list ≡ Stuck ns
+  pub stuck_all : (list : List (ℕ × Ending)) (ns : List ℕ) (at : ℕ) → length ns ≤ at → list ≡ Stuck (take at ns) → list ≡ Stuck ns
   stuck_all list ns at past e = e ∙ ap (λ (l : List ℕ). Stuck l) (take_all at ns past)
 
 -- ---- the endings
@@ -85,8 +83,8 @@ turned : (b c : Bool) → c ≡ not b → b ≡ not c
 turned true c e = rw e refl
 turned false c e = rw e refl
 
-module _ (plan : Placement) (s : Session) (tasks : Tasks) (h : TablesHold plan s tasks) (m : SessionJob) (inm : Has s.jobs m) (dead : List EndedTask) where
-  module _ (number : ℕ) (ending : Ending) (e : map pair_of dead ≡ (ends_task m.progress.job number ending).endings) where
+module _ (plan : Placement) (s : Session) (tasks : Tasks) (h : TablesHold plan s tasks) (m : SessionJob) (inm : Has s.jobs m) (dead : List (ℕ × Ending)) where
+  module _ (number : ℕ) (ending : Ending) (e : dead ≡ (ends_task m.progress.job number ending).endings) where
     abbrev gone : Settled
     gone = ends_task m.progress.job number ending
 
@@ -95,7 +93,7 @@ module _ (plan : Placement) (s : Session) (tasks : Tasks) (h : TablesHold plan s
 
     stuck_is : (job : ℕ) → m.constants.number ≡ job → is_stuck m.progress.job number ending ≡ not (list_any (left_ready job dead) tasks.rows.items)
     stuck_is job own =
-        let tells : list_any (left_ready m.constants.number dead) tasks.rows.items ≡ not (waiting (map pair_of dead)) = rows_tell plan s tasks h m inm dead in
+        let tells : list_any (left_ready m.constants.number dead) tasks.rows.items ≡ not (waiting dead) = rows_tell plan s tasks h m inm dead in
         let here : list_any (left_ready m.constants.number dead) tasks.rows.items ≡ not (is_stuck m.progress.job number ending) = tells ∙ ap (λ (l : List (ℕ × Ending)). not (waiting l)) e in
         turned (is_stuck m.progress.job number ending) (list_any (left_ready job dead) tasks.rows.items) (subst (λ (n : ℕ). list_any (left_ready n dead) tasks.rows.items ≡ not (is_stuck m.progress.job number ending)) own here)
 
@@ -103,20 +101,20 @@ module _ (plan : Placement) (s : Session) (tasks : Tasks) (h : TablesHold plan s
     endings_by b is = first_endings m.progress.job number ending ∙ ap (λ (c : Bool). with_stuck c gone.endings m.progress.job.tasks) is
 
     module _ (job : ℕ) (own : m.constants.number ≡ job) {b : Bool} where
-      pub none_stuck : b ≡ true → b ≡ list_any (left_ready job dead) tasks.rows.items → (list : List EndedTask) → list ≡ dead → map pair_of list ≡ (deadlocked gone).endings
+      pub none_stuck : b ≡ true → b ≡ list_any (left_ready job dead) tasks.rows.items → (list : List (ℕ × Ending)) → list ≡ dead → list ≡ (deadlocked gone).endings
       none_stuck t tells list copy =
           let is : is_stuck m.progress.job number ending ≡ false = stuck_is job own ∙ ap not (sym tells ∙ t) in
-          ap (λ (l : List EndedTask). map pair_of l) copy ∙ e ∙ sym (endings_by false is)
+          copy ∙ e ∙ sym (endings_by false is)
 
-      pub all_stuck : b ≡ false → b ≡ list_any (left_ready job dead) tasks.rows.items → (list : List EndedTask) → list ≡ dead → (live : List ℕ) → live ≡ deepest_first m.progress.job.tasks
-          → (new : List EndedTask) → map pair_of new ≡ map pair_of list ++ all_with Deadlock (others_of dead live) → map pair_of new ≡ (deadlocked gone).endings
+      pub all_stuck : b ≡ false → b ≡ list_any (left_ready job dead) tasks.rows.items → (list : List (ℕ × Ending)) → list ≡ dead → (live : List ℕ) → live ≡ deepest_first m.progress.job.tasks
+          → (new : List (ℕ × Ending)) → new ≡ list ++ all_with Deadlock (others_of dead live) → new ≡ (deadlocked gone).endings
       all_stuck t tells list copy live lives new more =
           let is : is_stuck m.progress.job number ending ≡ true = stuck_is job own ∙ ap not (sym tells ∙ t) in
           let deep : List ℕ = deepest_first m.progress.job.tasks in
           more
-          ∙ ap (λ (l : List EndedTask). map pair_of l ++ all_with Deadlock (others_of dead live)) copy
-          ∙ ap (λ (ns : List ℕ). map pair_of dead ++ all_with Deadlock (others_of dead ns)) lives
-          ∙ ap (λ (ns : List ℕ). map pair_of dead ++ all_with Deadlock ns) (others_is dead deep)
+          ∙ ap (λ (l : List (ℕ × Ending)). l ++ all_with Deadlock (others_of dead live)) copy
+          ∙ ap (λ (ns : List ℕ). dead ++ all_with Deadlock (others_of dead ns)) lives
+          ∙ ap (λ (ns : List ℕ). dead ++ all_with Deadlock ns) (others_is dead deep)
           ∙ ap (λ (l : List (ℕ × Ending)). l ++ all_with Deadlock (others (ending_numbers l) deep)) e
           ∙ sym (endings_by true is)
 

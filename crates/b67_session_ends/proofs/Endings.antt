@@ -1,5 +1,5 @@
 -- Lines of endings that are printed one after the other.
-use Rattle.std.proofs.Common.{◌≡◌, ◌≤◌, ◌<◌, ◌+◌, ℕ, suc, List, [], ◌∷◌, ◌++◌, length, map, Option, refl, sym, ◌∙◌, ap, arith, subst, append_assoc, length-append, append-nil, get_or}
+use Rattle.std.proofs.Common.{◌≡◌, ◌≤◌, ◌<◌, ◌+◌, ℕ, suc, List, [], ◌∷◌, ◌++◌, length, Option, refl, sym, ◌∙◌, ap, arith, subst, append_assoc, length-append, append-nil, get_or}
 use Rattle.std.specs.Prelude.{codes, take, drop}
 use Rattle.std.proofs.lemmas.List.{take_all, drop_all, take_more, map-append}
 use Rattle.std.proofs.lemmas.Option.{slice_get-get_or}
@@ -10,8 +10,6 @@ use Rattle.b67_io.proofs.Joined.{Continues-none, Continues-then}
 use Rattle.b67_model.specs.Common.{all_with, task_name, ending_name}
 use Rattle.b67_session_lines.specs.Parts.{TookRest, TookMore}
 use Rattle.b67_lemmas.proofs.Places.{drop-get}
-use Rattle.b67_task_end.specs.declared.families.EndedTask.{EndedTask}
-use Rattle.b67_task_end.specs.Family.{pair_of}
 use Rattle.b67_session_ends.specs.Texts.{endings_text}
 
 -- Of a text so many first bytes were printed before, and so many are now. Lines of so many bytes are printed, and these are
@@ -64,27 +62,26 @@ rest_then taken old new text was printed start p =
 -- ---- the list
 
 -- an item of the list is the next line
-pub next_line : (job i : ℕ) (xs : List EndedTask) (d : EndedTask) (line : List ℕ) → i < length xs → line ≡ task_name job (get_or xs i d).number ++ codes " " ++ ending_name (get_or xs i d).ending
-    → endings_text job (map pair_of (drop i xs)) ≡ ended line ++ endings_text job (map pair_of (drop (i + 1) xs))
+pub next_line : (job i : ℕ) (xs : List (ℕ × Ending)) (d : ℕ × Ending) (line : List ℕ) → i < length xs → line ≡ task_name job (get_or xs i d).0 ++ codes " " ++ ending_name (get_or xs i d).1
+    → endings_text job (drop i xs) ≡ ended line ++ endings_text job (drop (i + 1) xs)
 next_line job i xs d line low is =
-    let e : EndedTask = get_or xs i d in
+    let e : ℕ × Ending = get_or xs i d in
     let next : suc i ≡ i + 1 = omega arith in
-    ap (λ (ys : List EndedTask). endings_text job (map pair_of ys)) (drop-get xs i e (slice_get-get_or xs i d low))
-    ∙ ap (λ (l : List ℕ). ended l ++ endings_text job (map pair_of (drop (suc i) xs))) (sym is)
-    ∙ ap (λ (n : ℕ). ended line ++ endings_text job (map pair_of (drop n xs))) next
+    ap (endings_text job) (drop-get xs i e (slice_get-get_or xs i d low))
+    ∙ ap (λ (l : List ℕ). ended l ++ endings_text job (drop (suc i) xs)) (sym is)
+    ∙ ap (λ (n : ℕ). ended line ++ endings_text job (drop n xs)) next
 
 -- behind the last one there is none
-pub no_line : (job i : ℕ) (xs : List EndedTask) → length xs ≤ i → endings_text job (map pair_of (drop i xs)) ≡ []
-no_line job i xs past = ap (λ (ys : List EndedTask). endings_text job (map pair_of ys)) (drop_all i xs past)
+pub no_line : (job i : ℕ) (xs : List (ℕ × Ending)) → length xs ≤ i → endings_text job (drop i xs) ≡ []
+no_line job i xs past = ap (endings_text job) (drop_all i xs past)
 
 -- ---- tasks that end in one way
 
-pub ended_more : (ending : Ending) (list : List EndedTask) (ns : List ℕ) (at d : ℕ) → at < length ns → map pair_of list ≡ all_with ending (take at ns)
-    → map pair_of (list ++ (record { number = get_or ns at d; ending = ending } ∷ [])) ≡ all_with ending (take (at + 1) ns)
+pub ended_more : (ending : Ending) (list : List (ℕ × Ending)) (ns : List ℕ) (at d : ℕ) → at < length ns → list ≡ all_with ending (take at ns)
+    → list ++ (get_or ns at d, ending) ∷ [] ≡ all_with ending (take (at + 1) ns)
 ended_more ending list ns at d low e =
-    let one : EndedTask = record { number = get_or ns at d; ending = ending } in
-    map-append pair_of list (one ∷ []) ∙ ap (λ (l : List (ℕ × Ending)). l ++ (pair_of one ∷ [])) e
+    ap (λ (l : List (ℕ × Ending)). l ++ (get_or ns at d, ending) ∷ []) e
     ∙ sym (ap (all_with ending) (take_more ns at d low) ∙ map-append (λ (n : ℕ). (n, ending)) (take at ns) (get_or ns at d ∷ []))
 
-pub ended_all : (ending : Ending) (list : List EndedTask) (ns : List ℕ) (at : ℕ) → length ns ≤ at → map pair_of list ≡ all_with ending (take at ns) → map pair_of list ≡ all_with ending ns
+pub ended_all : (ending : Ending) (list : List (ℕ × Ending)) (ns : List ℕ) (at : ℕ) → length ns ≤ at → list ≡ all_with ending (take at ns) → list ≡ all_with ending ns
 ended_all ending list ns at past e = e ∙ ap (all_with ending) (take_all at ns past)

@@ -4,6 +4,7 @@ use Rattle.std.proofs.Common.{◌≡◌, ℕ, ◌+◌, ◌<◌, List, [], length
 use Rattle.std.specs.List.{slice_get}
 use Rattle.std.proofs.lemmas.Option.{slice_get_within}
 use Rattle.b67_core.proofs.Writes.{slice_get-set_same}
+use Rattle.b67_word.specs.declared.faults.Ending.{Ending}
 use Rattle.b67_word.specs.declared.faults.Failed.{Failed}
 use Rattle.b67_lemmas.specs.Lists.{Has}
 use Rattle.b67_lemmas.proofs.Keyed.{change_same}
@@ -23,8 +24,7 @@ use Rattle.b67_task_tables.specs.declared.tables.TaskState.{TaskState}
 use Rattle.b67_task_tables.specs.declared.tables.Tasks.{Tasks}
 use Rattle.b67_task_tables.specs.declared.tables.Machine.{Machine}
 use Rattle.b67_task_tables.specs.Tables.{task_row, job_row, counts_of, MachineRepresents, TasksShow}
-use Rattle.b67_task_end.specs.declared.families.EndedTask.{EndedTask}
-use Rattle.b67_task_end.specs.Family.{TablesHold, HasSomeHead, pair_of}
+use Rattle.b67_task_end.specs.Family.{TablesHold, HasSomeHead}
 use Rattle.b67_task_switch.specs.declared.counting.Chosen.{Chosen}
 use Rattle.b67_task_switch.specs.Counted.{choice_of}
 use Rattle.b67_session_ends.specs.Closing.{HasJobOf, StandsChosen, Closes}
@@ -192,14 +192,14 @@ module _ (k : Machine) (c : Chosen) (state : TaskState) (h : HoldsSome k c state
     part = part_of s (choice_of c) m t made
 
     -- what ends by itself
-    abbrev pub Stuck : List EndedTask → Type 0
-    Stuck items = (plan : Placement) (s : Session) (m : SessionJob) → TablesHold plan s tasks → Has s.jobs m → m.constants.number ≡ c.job → map pair_of items ≡ (deadlocked (unsettled m.progress.job)).endings
+    abbrev pub Stuck : List (ℕ × Ending) → Type 0
+    Stuck items = (plan : Placement) (s : Session) (m : SessionJob) → TablesHold plan s tasks → Has s.jobs m → m.constants.number ≡ c.job → items ≡ (deadlocked (unsettled m.progress.job)).endings
 
-    text_is : (items lent : List EndedTask) → Stuck items → lent ≡ items → endings_text c.job (map pair_of lent) ≡ run_text part.lines
-    text_is items lent stuck same = ap (λ (l : List EndedTask). endings_text c.job (map pair_of l)) same ∙ ap (endings_text c.job) (stuck plan session member set_hold in_session own)
+    text_is : (items lent : List (ℕ × Ending)) → Stuck items → lent ≡ items → endings_text c.job lent ≡ run_text part.lines
+    text_is items lent stuck same = ap (endings_text c.job) (same ∙ stuck plan session member set_hold in_session own)
 
     -- once the lines are printed
-    module _ {K : Type 0} (taken : K → Option (List ℕ)) (paper paper' : K) (items lent : List EndedTask) (stuck : Stuck items) (same : lent ≡ items) (printed : ℕ) where
+    module _ {K : Type 0} (taken : K → Option (List ℕ)) (paper paper' : K) (items lent : List (ℕ × Ending)) (stuck : Stuck items) (same : lent ≡ items) (printed : ℕ) where
       abbrev now : Machine
       now = record k { tasks = record tasks { printed = printed } }
 
@@ -223,7 +223,7 @@ module _ (k : Machine) (c : Chosen) (state : TaskState) (h : HoldsSome k c state
                 (subst (LeavesInPlace x f.storage plan f.plan s) (with_job-twice s m after made.settled.job) both);
           }
 
-      pub held_closed : TookRest taken paper paper' (endings_text c.job (map pair_of lent)) tasks.printed → (last : Machine) → EndsStuck last → last.tasks ≡ record now.tasks { rows = last.tasks.rows; running = last.tasks.running }
+      pub held_closed : TookRest taken paper paper' (endings_text c.job lent) tasks.printed → (last : Machine) → EndsStuck last → last.tasks ≡ record now.tasks { rows = last.tasks.rows; running = last.tasks.running }
           → (counts : Tasks) → IsCounted c last.tasks counts → Closes taken x told plan s part (Ok tt) k (record last { tasks = counts }) paper paper'
       held_closed took last ends rest counts counted = (
         subst (TookRest taken paper paper' (run_text part.lines)) printed_set (subst (λ (l : List ℕ). TookRest taken paper paper' l tasks.printed) (text_is items lent stuck same) took),
@@ -232,7 +232,7 @@ module _ (k : Machine) (c : Chosen) (state : TaskState) (h : HoldsSome k c state
         held_stands last ends counts counted,
       )
 
-      pub held_cut : (failed : Failed) (back : Tasks) → back ≡ record k.tasks { printed = printed } → TookMore taken paper paper' (endings_text c.job (map pair_of lent)) tasks.printed printed → Closes taken x told plan s part (Err failed) k (record k { tasks = back }) paper paper'
+      pub held_cut : (failed : Failed) (back : Tasks) → back ≡ record k.tasks { printed = printed } → TookMore taken paper paper' (endings_text c.job lent) tasks.printed printed → Closes taken x told plan s part (Err failed) k (record k { tasks = back }) paper paper'
       held_cut failed back is took =
           let text : TookMore taken paper paper' (run_text part.lines) tasks.printed printed = subst (λ (l : List ℕ). TookMore taken paper paper' l tasks.printed printed) (text_is items lent stuck same) took in
           let own : TookMore taken paper paper' (run_text part.lines) k.tasks.printed printed = subst (λ (n : ℕ). TookMore taken paper paper' (run_text part.lines) n printed) printed_set text in

@@ -3,6 +3,7 @@ use Rattle.std.proofs.Common.{◌≡◌, ℕ, Bool, true, false, not, List, [], 
 use Rattle.std.specs.List.{slice_get, list_any, list_all}
 use Rattle.std.proofs.lemmas.Option.{get_or_from_slice_get}
 use Rattle.arrayvec.specs.ArrayVec.{with_items}
+use Rattle.b67_word.specs.declared.faults.Ending.{Ending}
 use Rattle.b67_word.specs.declared.faults.Ending.TheVariants.{Deadlock}
 use Rattle.b67_lemmas.specs.Lists.{Has}
 use Rattle.b67_lemmas.proofs.Places.{refill_whole}
@@ -11,8 +12,7 @@ use Rattle.b67_layout.specs.Placement.{Placement}
 use Rattle.b67_task_tables.specs.declared.tables.TaskRow.{TaskRow}
 use Rattle.b67_task_tables.specs.declared.tables.TaskState.{TaskState}
 use Rattle.b67_task_tables.specs.declared.tables.Tasks.{Tasks}
-use Rattle.b67_task_end.specs.declared.families.EndedTask.{EndedTask}
-use Rattle.b67_task_end.specs.Family.{TablesHold, pair_of}
+use Rattle.b67_task_end.specs.Family.{TablesHold}
 use Rattle.b67_session_ends.specs.Closing.{left_ready}
 use Rattle.b67_session_ends.proofs.Stuck.{rows_tell}
 use Rattle.b67_session_ends.specs.Holds.{with_state}
@@ -61,10 +61,10 @@ module _ (plan : Placement) (s : Session) (tasks : Tasks) (h : TablesHold plan s
   endings_by : (b : Bool) → all_wait ≡ b → (deadlocked (unsettled m.progress.job)).endings ≡ (ends_each_if b Deadlock (unsettled m.progress.job)).endings
   endings_by b is = ap (λ (c : Bool). (ends_each_if c Deadlock (unsettled m.progress.job)).endings) is
 
-  pub none_stuck : (b : Bool) → b ≡ true → b ≡ list_any (left_ready job []) tasks.rows.items → (list : List EndedTask) → list ≡ [] → map pair_of list ≡ (deadlocked (unsettled m.progress.job)).endings
-  none_stuck b t tells list empty = ap (λ (l : List EndedTask). map pair_of l) empty ∙ sym (endings_by false (wait_is ∙ ap not (sym tells ∙ t)))
+  pub none_stuck : (b : Bool) → b ≡ true → b ≡ list_any (left_ready job []) tasks.rows.items → (list : List (ℕ × Ending)) → list ≡ [] → list ≡ (deadlocked (unsettled m.progress.job)).endings
+  none_stuck b t tells list empty = empty ∙ sym (endings_by false (wait_is ∙ ap not (sym tells ∙ t)))
 
-  pub all_stuck : (b : Bool) → b ≡ false → b ≡ list_any (left_ready job []) tasks.rows.items → (list : List EndedTask) (live slice : List ℕ) → live ≡ deepest_first m.progress.job.tasks → slice ≡ live → map pair_of list ≡ all_with Deadlock slice
-      → map pair_of list ≡ (deadlocked (unsettled m.progress.job)).endings
+  pub all_stuck : (b : Bool) → b ≡ false → b ≡ list_any (left_ready job []) tasks.rows.items → (list : List (ℕ × Ending)) (live slice : List ℕ) → live ≡ deepest_first m.progress.job.tasks → slice ≡ live → list ≡ all_with Deadlock slice
+      → list ≡ (deadlocked (unsettled m.progress.job)).endings
   all_stuck b t tells list live slice lives lent all =
       all ∙ ap (all_with Deadlock) (lent ∙ lives) ∙ sym (endings_by true (wait_is ∙ ap not (sym tells ∙ t)))

@@ -4,6 +4,7 @@ use Rattle.std.specs.Prelude.{◌==◌, ◌&&◌, ◌||◌}
 use Rattle.std.specs.List.{list_any, list_all}
 use Rattle.std.proofs.lemmas.Bool.{cases_Bool, and_parts, eqb-true, eq-eqb}
 use Rattle.std.proofs.lemmas.Option.{same_Some}
+use Rattle.b67_word.specs.declared.faults.Ending.{Ending}
 use Rattle.b67_lemmas.specs.Lists.{Has}
 use Rattle.b67_lemmas.proofs.Members.{any_has, any_none, has_filter, has_filter_in, has_map, has_map_back}
 use Rattle.b67_model.specs.Common.{Condition, Ready, Awaits, WaitsAt, Task, SessionJob, among, released, is_ready, number_of, Session}
@@ -16,16 +17,15 @@ use Rattle.b67_task_tables.specs.declared.tables.TaskState.TheVariants as states
 use Rattle.b67_task_tables.specs.declared.tables.TaskRow.{TaskRow}
 use Rattle.b67_task_tables.specs.declared.tables.Tasks.{Tasks}
 use Rattle.b67_task_tables.specs.Tables.{state_of, task_row}
-use Rattle.b67_task_end.specs.declared.families.EndedTask.{EndedTask}
 use Rattle.b67_task_end_tables.specs.Deaths.{ending_numbers}
-use Rattle.b67_task_end.specs.Family.{TablesHold, pair_of}
+use Rattle.b67_task_end.specs.Family.{TablesHold}
 use Rattle.b67_session_ends.specs.Closing.{is_dead_of, ready_after, left_ready}
 
 -- ---- lists
 
-pub dead_is : (dead : List EndedTask) (n : ℕ) → list_any (λ (e : EndedTask). e.number == n) dead ≡ among (ending_numbers (map pair_of dead)) n
+pub dead_is : (dead : List (ℕ × Ending)) (n : ℕ) → list_any (λ (e : ℕ × Ending). e.0 == n) dead ≡ among (ending_numbers dead) n
 dead_is [] n = refl
-dead_is (e ∷ dead) n = ap (λ (b : Bool). (e.number == n) || b) (dead_is dead n)
+dead_is (e ∷ dead) n = ap (λ (b : Bool). (e.0 == n) || b) (dead_is dead n)
 
 pub none_any : {A : Type 0} (test : A → Bool) (xs : List A) → ((x : A) → Has xs x → test x ≡ false) → list_any test xs ≡ false
 none_any test [] each = refl
@@ -49,12 +49,12 @@ released_by : (numbers : List ℕ) (n : ℕ) (b : Bool) → among numbers n ≡ 
 released_by numbers n true e = rw e refl
 released_by numbers n false e = rw e refl
 
-ready_as : (plan : Placement) (m : SessionJob) (t : Task) (dead : List EndedTask) (st : TaskState) (c : Condition) → state_of st ≡ shown plan m.constants.number m.progress.job t c → ready_after dead st ≡ is_ready_in (released (ending_numbers (map pair_of dead)) c)
+ready_as : (plan : Placement) (m : SessionJob) (t : Task) (dead : List (ℕ × Ending)) (st : TaskState) (c : Condition) → state_of st ≡ shown plan m.constants.number m.progress.job t c → ready_after dead st ≡ is_ready_in (released (ending_numbers dead) c)
 ready_as plan m t dead states.Ready Ready e = refl
 ready_as plan m t dead states.Ready (Awaits n) e = absurd cc
 ready_as plan m t dead states.Ready (WaitsAt f offset) e = absurd cc
 ready_as plan m t dead (states.Awaits k) Ready e = absurd cc
-ready_as plan m t dead (states.Awaits k) (Awaits n) e = let numbers = ending_numbers (map pair_of dead) in let same : k ≡ n = cc in dead_is dead k ∙ ap (among numbers) same ∙ released_by numbers n (among numbers n) refl
+ready_as plan m t dead (states.Awaits k) (Awaits n) e = let numbers = ending_numbers dead in let same : k ≡ n = cc in dead_is dead k ∙ ap (among numbers) same ∙ released_by numbers n (among numbers n) refl
 ready_as plan m t dead (states.Awaits k) (WaitsAt f offset) e = absurd cc
 ready_as plan m t dead (states.WaitsAt mark offset) Ready e = absurd cc
 ready_as plan m t dead (states.WaitsAt mark offset) (Awaits n) e = absurd cc
@@ -62,9 +62,9 @@ ready_as plan m t dead (states.WaitsAt mark offset) (WaitsAt f k) e = refl
 
 -- ---- all rows
 
-module _ (plan : Placement) (s : Session) (tasks : Tasks) (h : TablesHold plan s tasks) (m : SessionJob) (inm : Has s.jobs m) (dead : List EndedTask) where
+module _ (plan : Placement) (s : Session) (tasks : Tasks) (h : TablesHold plan s tasks) (m : SessionJob) (inm : Has s.jobs m) (dead : List (ℕ × Ending)) where
   abbrev numbers : List ℕ
-  numbers = ending_numbers (map pair_of dead)
+  numbers = ending_numbers dead
 
   abbrev test : TaskRow → Bool
   test r = left_ready m.constants.number dead r

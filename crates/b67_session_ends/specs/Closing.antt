@@ -1,8 +1,8 @@
 -- A step in which a task ends by itself.
 use Rattle.std.specs.Prelude.{◌≡◌, ℕ, ◌+◌, ◌==◌, ◌&&◌, not, Bool, true, false, List, filter, Option, Result, Ok, Err}
+use Rattle.b67_word.specs.declared.faults.Ending.{Ending}
 use Rattle.b67_word.specs.declared.faults.Failed.{Failed}
 use Rattle.std.specs.List.{list_any}
-use Rattle.b67_task_end.specs.declared.families.EndedTask.{EndedTask}
 use Rattle.b67_model.specs.Common.{run_text, StepResult, Session, IsInOrderButPlaces, Task, SessionJob}
 use Rattle.b67_session_lines.specs.Parts.{TookRest, TookMore}
 use Rattle.b67_task_tables.specs.declared.tables.TaskState.{TaskState}
@@ -21,21 +21,21 @@ use Rattle.b67_task_switch.specs.declared.counting.Chosen.{Chosen}
 use Rattle.b67_task_switch.specs.Counted.{choice_of}
 
 -- the task of a number is among those that ended
-abbrev pub is_dead_of : List EndedTask → ℕ → Bool
-is_dead_of dead n = list_any (λ (e : EndedTask). e.number == n) dead
+abbrev pub is_dead_of : List (ℕ × Ending) → ℕ → Bool
+is_dead_of dead n = list_any (λ (e : ℕ × Ending). e.0 == n) dead
 
 -- whether a task in this state is ready once these have ended
-abbrev pub ready_after : List EndedTask → TaskState → Bool
+abbrev pub ready_after : List (ℕ × Ending) → TaskState → Bool
 ready_after dead states.Ready = true
 ready_after dead (states.Awaits n) = is_dead_of dead n
 ready_after dead (states.WaitsAt mark offset) = false
 
 -- a row of a job's task that is left and ready then
-abbrev pub left_ready : ℕ → List EndedTask → TaskRow → Bool
+abbrev pub left_ready : ℕ → List (ℕ × Ending) → TaskRow → Bool
 left_ready job dead r = (r.job == job) && (not (is_dead_of dead r.number) && ready_after dead r.state)
 
 -- numbers without some
-abbrev pub others_of : List EndedTask → List ℕ → List ℕ
+abbrev pub others_of : List (ℕ × Ending) → List ℕ → List ℕ
 others_of dead ns = filter (λ (n : ℕ). not (is_dead_of dead n)) ns
 
 -- the rest of the lines was printed, the tasks have ended, with what is left of the session held as in this storage, and the

@@ -1,6 +1,6 @@
 //! Tasks end.
 
-ghost use Rattle.std.specs.Prelude.{◌≡◌, ◌≢◌, ◌≤◌, ℕ, true, List, [], Option, Some, length, map, slice_get};
+ghost use Rattle.std.specs.Prelude.{◌≡◌, ◌≢◌, ◌≤◌, ℕ, true, List, [], Option, Some, length, slice_get};
 ghost use Rattle.b67_word.specs.declared.faults.Ending.TheVariants as variants;
 ghost use Rattle.b67_lemmas.specs.Lists.{Has};
 ghost use Rattle.b67_model.specs.Endings.{all_with, ends_each_if, unsettled};
@@ -11,26 +11,22 @@ ghost use Rattle.b67_layout.specs.Meets.{with_job};
 ghost use Rattle.b67_layout.specs.Orders.{IsInOrderButCounts};
 ghost use Rattle.b67_layout.specs.Placement.{Placement};
 ghost use Rattle.b67_task_tables.specs.Tables.{MachineRepresents};
-ghost use Rattle.b67_task_end.specs.Family.{pair_of};
 ghost use Rattle.b67_session_ends.specs.Ends.{StandsInPlace, IsFirstRow, JobLives};
 
 use arrayvec::ArrayVec;
-use b67_task_end::{EndedTask, endings};
+use b67_task_end::endings;
 use b67_task_end_tables::end_family;
 use b67_task_tables::{Machine, TaskRow};
 use b67_word::Ending;
 
 /// Tasks that end in one way.
-pub fn all_ended(numbers: &[u32], ending: Ending) -> ArrayVec<EndedTask, 15>
+pub fn all_ended(numbers: &[u32], ending: Ending) -> ArrayVec<(u32, Ending), 15>
     requires { length numbers.now ≤ 15 }
-    ensures { map pair_of result.items ≡ all_with ending numbers.now }
+    ensures { result.items ≡ all_with ending numbers.now }
 {
     let mut list = ArrayVec::new();
     for at in 0..numbers.len() as u8 {
-        list.push(EndedTask {
-            number: numbers[at as usize],
-            ending,
-        });
+        list.push((numbers[at as usize], ending));
     }
     list
 }

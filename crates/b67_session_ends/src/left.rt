@@ -1,6 +1,6 @@
 //! Who is left once tasks have ended, and whether one of them is ready then.
 
-ghost use Rattle.std.specs.Prelude.{◌≡◌, ◌≤◌, ◌<◌, ◌+◌, ℕ, [], ◌∷◌, ◌++◌, length, map};
+ghost use Rattle.std.specs.Prelude.{◌≡◌, ◌≤◌, ◌<◌, ◌+◌, ℕ, [], ◌∷◌, ◌++◌, length};
 ghost use Rattle.std.specs.List.{list_any};
 ghost use Rattle.b67_word.specs.declared.faults.Ending.TheVariants as endings;
 ghost use Rattle.b67_word.specs.declared.faults.Ending as ending_type;
@@ -10,16 +10,16 @@ ghost use Rattle.b67_model.specs.Schedule.{Session};
 ghost use Rattle.b67_model.specs.State.{SessionJob};
 ghost use Rattle.b67_layout.specs.Placement.{Placement};
 ghost use Rattle.b67_task_tables.specs.declared.tables.TheConstants.{NO_PARENT};
-ghost use Rattle.b67_task_end.specs.Family.{TablesHold, HasSomeHead, pair_of};
+ghost use Rattle.b67_task_end.specs.Family.{TablesHold, HasSomeHead};
 ghost use Rattle.b67_session_ends.specs.Closing.{left_ready, others_of};
 
 use arrayvec::ArrayVec;
-use b67_task_end::{EndedTask, is_among, live_of};
+use b67_task_end::{is_among, live_of};
 use b67_task_tables::{TaskRow, TaskState, Tasks};
 use b67_word::Ending;
 
 /// Whether a row's task is of a job, and is left and ready once these have ended.
-fn is_left_ready(row: TaskRow, job: u8, dead: &[EndedTask]) -> bool
+fn is_left_ready(row: TaskRow, job: u8, dead: &[(u32, Ending)]) -> bool
     ensures { result ≡ left_ready job dead.now row }
 {
     if row.job != job {
@@ -36,7 +36,7 @@ fn is_left_ready(row: TaskRow, job: u8, dead: &[EndedTask]) -> bool
 }
 
 /// Whether a task of a job is ready once these have ended.
-pub fn goes_on(tasks: &Tasks, job: u8, dead: &[EndedTask]) -> bool
+pub fn goes_on(tasks: &Tasks, job: u8, dead: &[(u32, Ending)]) -> bool
     ensures { result ≡ list_any (left_ready job dead.now) tasks.now.rows.items }
 {
     for at in 0..tasks.rows.len() as u8 {
@@ -48,7 +48,7 @@ pub fn goes_on(tasks: &Tasks, job: u8, dead: &[EndedTask]) -> bool
 }
 
 /// The same tasks in a longer list.
-fn copied(list: &[EndedTask]) -> ArrayVec<EndedTask, 30>
+fn copied(list: &[(u32, Ending)]) -> ArrayVec<(u32, Ending), 30>
     requires { length list.now ≤ 15 }
     ensures { result.items ≡ list.now }
 {
@@ -60,25 +60,22 @@ fn copied(list: &[EndedTask]) -> ArrayVec<EndedTask, 30>
 }
 
 /// Adds DEADLOCK for a task that isn't among those that ended.
-fn add_one(list: &mut ArrayVec<EndedTask, 30>, dead: &[EndedTask], number: u32)
+fn add_one(list: &mut ArrayVec<(u32, Ending), 30>, dead: &[(u32, Ending)], number: u32)
     requires { length list.old.items < 30 }
-    ensures all { map pair_of list.new.items ≡ map pair_of list.old.items ++ all_with endings.Deadlock (others_of dead.now (number ∷ [])) }
+    ensures all { list.new.items ≡ list.old.items ++ all_with endings.Deadlock (others_of dead.now (number ∷ [])) }
     ensures few { length list.new.items ≤ length list.old.items + 1 }
 {
     if is_among(dead, number) {
         return;
     }
-    list.push(EndedTask {
-        number,
-        ending: Ending::Deadlock,
-    });
+    list.push((number, Ending::Deadlock));
 }
 
 /// DEADLOCK of all tasks that live but those that ended.
-fn add_stuck(list: &mut ArrayVec<EndedTask, 30>, dead: &[EndedTask], live: &[u32])
+fn add_stuck(list: &mut ArrayVec<(u32, Ending), 30>, dead: &[(u32, Ending)], live: &[u32])
     requires before { length list.old.items ≤ 15 }
     requires few { length live.now ≤ 15 }
-    ensures { map pair_of list.new.items ≡ map pair_of list.old.items ++ all_with endings.Deadlock (others_of dead.now live.now) }
+    ensures { list.new.items ≡ list.old.items ++ all_with endings.Deadlock (others_of dead.now live.now) }
 {
     for at in 0..live.len() as u8 {
         add_one(list, dead, live[at as usize]);
@@ -87,11 +84,15 @@ fn add_stuck(list: &mut ArrayVec<EndedTask, 30>, dead: &[EndedTask], live: &[u32
 
 /// All that end if these end by themselves or with their parent: if no task of the job is ready then, those that are left end
 /// by DEADLOCK.
-pub(crate) fn with_stuck(tasks: &Tasks, job: u8, dead: &[EndedTask]) -> ArrayVec<EndedTask, 30>
+pub(crate) fn with_stuck(
+    tasks: &Tasks,
+    job: u8,
+    dead: &[(u32, Ending)],
+) -> ArrayVec<(u32, Ending), 30>
     requires head { HasSomeHead tasks.now job NO_PARENT }
     requires few { length dead.now ≤ 15 }
     ensures { (plan : Placement) (s : Session) (m : SessionJob) (number : ℕ) (ending : ending_type.Ending) → TablesHold plan s tasks.now → Has s.jobs m → m.constants.number ≡ job
-        → map pair_of dead.now ≡ (ends_task m.progress.job number ending).endings → map pair_of result.items ≡ (deadlocked (ends_task m.progress.job number ending)).endings }
+        → dead.now ≡ (ends_task m.progress.job number ending).endings → result.items ≡ (deadlocked (ends_task m.progress.job number ending)).endings }
 {
     let mut list = copied(dead);
     if goes_on(tasks, job, dead) {

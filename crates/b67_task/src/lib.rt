@@ -7,7 +7,7 @@
 mod deaths;
 mod marks;
 
-pub use b67_task_end::{EndedTask, endings, live_of, lives, status};
+pub use b67_task_end::{endings, live_of, lives, status};
 pub use b67_task_need::{need, sector_sum};
 pub use b67_task_release::release;
 pub use b67_task_start::start;

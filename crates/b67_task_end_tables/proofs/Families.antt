@@ -14,9 +14,8 @@ use Rattle.b67_task_tables.specs.Tables.{MachineRepresents}
 use Rattle.b67_task_switch.specs.Turns.{with_running}
 use Rattle.b67_task_switch.proofs.Replans.{objects-replan}
 use Rattle.b67_task_switch.specs.Standing.{HasRow}
-use Rattle.b67_task_end.specs.declared.families.EndedTask.{EndedTask}
 use Rattle.b67_task_tables.specs.RowOf.{IsRowOf}
-use Rattle.b67_task_end.specs.Family.{TablesHold, pair_of, endings_of}
+use Rattle.b67_task_end.specs.Family.{TablesHold, endings_of}
 use Rattle.b67_task_end.proofs.Under.{deepest}
 use Rattle.b67_task_end_tables.specs.Deaths.{ending_numbers, without_tasks, job_after_endings, StandsWith, MayEnd, EndsSome, LeavesInPlace, HasEnded}
 use Rattle.b67_task_end_tables.proofs.Family.{among_has, family, family_numbers, family_turn}
@@ -30,10 +29,10 @@ pub both_running : (old mid new : Tasks) (i k : ℕ) → mid ≡ record old { ro
 both_running old mid new i k e f = same_running mid new k f ∙ ap (λ (z : Tasks). record z { rows = new.rows; running = new.running }) e
 
 -- a list that is lent
-pub lent_list : (tasks : Tasks) (row : ℕ) (ending : Ending) (items slice : List EndedTask)
-    → ((plan : Placement) (s : Session) (m : SessionJob) (t : Task) → TablesHold plan s tasks → IsRowOf plan s tasks.rows.items row m t → map pair_of items ≡ endings_of m.progress.job t.number ending)
-    → slice ≡ items → (plan : Placement) (s : Session) (m : SessionJob) (t : Task) → TablesHold plan s tasks → IsRowOf plan s tasks.rows.items row m t → map pair_of slice ≡ endings_of m.progress.job t.number ending
-lent_list tasks row ending items slice shows lent plan s m t h at = ap (λ (l : List EndedTask). map pair_of l) lent ∙ shows plan s m t h at
+pub lent_list : (tasks : Tasks) (row : ℕ) (ending : Ending) (items slice : List (ℕ × Ending))
+    → ((plan : Placement) (s : Session) (m : SessionJob) (t : Task) → TablesHold plan s tasks → IsRowOf plan s tasks.rows.items row m t → items ≡ endings_of m.progress.job t.number ending)
+    → slice ≡ items → (plan : Placement) (s : Session) (m : SessionJob) (t : Task) → TablesHold plan s tasks → IsRowOf plan s tasks.rows.items row m t → slice ≡ endings_of m.progress.job t.number ending
+lent_list tasks row ending items slice shows lent plan s m t h at = lent ∙ shows plan s m t h at
 
 module _ (x : Storage) (told : Option (List (List ℕ))) (k : Machine) (plan : Placement) (s : Session) (m : SessionJob) (t : Task) (row job : ℕ) (ending : Ending) (endings : List (ℕ × Ending)) (f : IsFamilyOf x told k plan s m t row job ending endings) where
   pub has_row : HasRow k row

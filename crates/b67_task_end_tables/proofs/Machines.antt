@@ -4,6 +4,7 @@ use Rattle.std.proofs.Common.{◌≡◌, ◌≢◌, ℕ, ◌+◌, ◌≤◌, Lis
 use Rattle.std.specs.Prelude.{◌&&◌, if◌then◌else◌, unwrap_or, option_map}
 use Rattle.std.specs.List.{list_any}
 use Rattle.std.proofs.lemmas.Bool.{cases_Bool, eq-eqb, eqb-true}
+use Rattle.b67_word.specs.declared.faults.Ending.{Ending}
 use Rattle.b67_area.specs.declared.Areas.{Areas}
 use Rattle.b67_backing.specs.Shelf.{Table}
 use Rattle.b67_lemmas.specs.Lists.{Has}
@@ -25,19 +26,13 @@ use Rattle.b67_task_tables.specs.Tables as tables
 use Rattle.b67_task_tables.specs.Tables.{MachineRepresents, counts_of, job_row}
 use Rattle.b67_task_end_stack.specs.TakenOut.{MayTakeOut, IsBuried, GaveBack, plan_without, session_without, slots_gone}
 use Rattle.b67_task_end_stack.specs.Turns.{InTurn}
-use Rattle.b67_task_end.specs.declared.families.EndedTask.{EndedTask}
-use Rattle.b67_task_end.specs.Family.{pair_of}
-use Rattle.b67_task_end_tables.specs.Left.{ended_numbers, is_of, slot_shown, rows_left}
+use Rattle.b67_task_end_tables.specs.Left.{is_of, slot_shown, rows_left}
 use Rattle.b67_task_end_tables.specs.Marks.{ShowsMarks}
 use Rattle.b67_task_end_tables.specs.Deaths.{ending_numbers, is_gone, without_tasks, IsStopped, StandsWith, MayEnd, LeavesInPlace, HasEnded}
 use Rattle.b67_task_end_tables.proofs.Family.{among_has, has_among}
 use Rattle.b67_task_end_tables.proofs.LeftInPlace.{left_in_place}
 use Rattle.b67_task_end_tables.proofs.Remains.{member', member_of, rows_fit, tables_left}
 use Rattle.b67_task_end_tables.proofs.TopMarks.{marks_show}
-
-pub numbers_same : (list : List EndedTask) → ending_numbers (map pair_of list) ≡ ended_numbers list
-numbers_same [] = refl
-numbers_same (e ∷ list) = ap (λ (ns : List ℕ). e.number ∷ ns) (numbers_same list)
 
 -- of tasks in turn, whoever has one of them above it is one of them
 turn_closed : (live gone todo : List Task) → InTurn live gone todo → (t : Task) → Has todo t → (u : Task) → Has live u → Has u.parents t.number → Has gone u ⊎ Has todo u
@@ -108,24 +103,24 @@ module _ (plan : Placement) (s : Session) (o : IsInOrderButCounts s) (m : Sessio
           (λ (w : (q.job == m.constants.number) ≡ false). absurd (let z : ⊥ = (let at : false ≡ true = rw w at e in cc) in z))
           (cases_Bool (q.job == m.constants.number))
 
-  slots_told : (list : List EndedTask) → ((n : ℕ) → Has (ending_numbers (map pair_of list)) n → (t : Task) × Has m.progress.job.tasks t × (t.number ≡ n))
-      → map (λ (e : EndedTask). slot_shown m.constants.number e.number rs) list ≡ slots_gone plan m (ending_numbers (map pair_of list))
+  slots_told : (list : List (ℕ × Ending)) → ((n : ℕ) → Has (ending_numbers list) n → (t : Task) × Has m.progress.job.tasks t × (t.number ≡ n))
+      → map (λ (e : ℕ × Ending). slot_shown m.constants.number e.0 rs) list ≡ slots_gone plan m (ending_numbers list)
   slots_told [] live = refl
   slots_told (e ∷ list) live =
-      let (t, i, is) = live e.number (inl refl) in
-      let here : slot_shown m.constants.number e.number rs ≡ slot_of plan m.constants.number e.number =
+      let (t, i, is) = live e.0 (inl refl) in
+      let here : slot_shown m.constants.number e.0 rs ≡ slot_of plan m.constants.number e.0 =
       ap (λ (n : ℕ). slot_shown m.constants.number n rs) (sym is) ∙ slot_told t i ∙ ap (slot_of plan m.constants.number) is in
-      ap (λ (k : ℕ). k ∷ map (λ (e : EndedTask). slot_shown m.constants.number e.number rs) list) here
-      ∙ ap (λ (ks : List ℕ). slot_of plan m.constants.number e.number ∷ ks) (slots_told list (λ n i. live n (inr i)))
+      ap (λ (k : ℕ). k ∷ map (λ (e : ℕ × Ending). slot_shown m.constants.number e.0 rs) list) here
+      ∙ ap (λ (ks : List ℕ). slot_of plan m.constants.number e.0 ∷ ks) (slots_told list (λ n i. live n (inr i)))
 
 numbered_left : (n j : ℕ) (c : JobProgress) (jobs : List SessionJob) → NumberedFrom n jobs → NumberedFrom n (with_course jobs j c)
 numbered_left n j c [] g = g
 numbered_left n j c (y ∷ ys) g = elim (cases_Bool (number_of y == j)) [ inl t ↦ rw t g | inr t ↦ rw t (g.0, numbered_left (n + 1) j c ys g.1) ]
 
-module _ (k : Machine) (u : Tasks) (x : Storage) (told : Option (List (List ℕ))) (plan : Placement) (s : Session) (m : SessionJob) (list : List EndedTask)
-    (h : StandsWith k u x told plan s) (may : MayEnd plan s m (ending_numbers (map pair_of list))) where
+module _ (k : Machine) (u : Tasks) (x : Storage) (told : Option (List (List ℕ))) (plan : Placement) (s : Session) (m : SessionJob) (list : List (ℕ × Ending))
+    (h : StandsWith k u x told plan s) (may : MayEnd plan s m (ending_numbers list)) where
   abbrev numbers : List ℕ
-  numbers = ending_numbers (map pair_of list)
+  numbers = ending_numbers list
 
   pub view : MachineRepresentsView x k.cpu k.areas k.sectors told (machine_view plan s.jobs)
   view = record { stands = h.stands.session.holds.memory; low = h.stands.storage.low; shelf = h.stands.storage.shelf; device = says_of x.device told h.stands.storage.device }
@@ -146,13 +141,13 @@ module _ (k : Machine) (u : Tasks) (x : Storage) (told : Option (List (List ℕ)
   row_items = ap (λ r. r.items) h.same.rows
 
   -- the slots as code finds them
-  pub slots_are : (job : ℕ) → m.constants.number ≡ job → (lent : List TaskRow) → lent ≡ k.tasks.rows.items → (slots : List ℕ) → slots ≡ map (λ (e : EndedTask). slot_shown job e.number lent) list → slots_gone plan m numbers ≡ slots
+  pub slots_are : (job : ℕ) → m.constants.number ≡ job → (lent : List TaskRow) → lent ≡ k.tasks.rows.items → (slots : List ℕ) → slots ≡ map (λ (e : ℕ × Ending). slot_shown job e.0 lent) list → slots_gone plan m numbers ≡ slots
   slots_are job is lent same slots e =
-      let told_so : map (λ (e : EndedTask). slot_shown m.constants.number e.number u.rows.items) list ≡ slots_gone plan m numbers =
+      let told_so : map (λ (e : ℕ × Ending). slot_shown m.constants.number e.0 u.rows.items) list ≡ slots_gone plan m numbers =
       slots_told plan s h.ordered m may.member u.rows.items (map job_row u.jobs) (counts_of u) h.stands.tables list (live_task plan s m numbers may) in
       sym told_so
-      ∙ ap (λ (rs : List TaskRow). map (λ (e : EndedTask). slot_shown m.constants.number e.number rs) list) (row_items ∙ sym same)
-      ∙ ap (λ (j : ℕ). map (λ (e : EndedTask). slot_shown j e.number lent) list) is
+      ∙ ap (λ (rs : List TaskRow). map (λ (e : ℕ × Ending). slot_shown m.constants.number e.0 rs) list) (row_items ∙ sym same)
+      ∙ ap (λ (j : ℕ). map (λ (e : ℕ × Ending). slot_shown j e.0 lent) list) is
       ∙ sym e
 
   module _ (few : length k.tasks.rows.items ≤ 120) where
@@ -176,7 +171,7 @@ module _ (k : Machine) (u : Tasks) (x : Storage) (told : Option (List (List ℕ)
         (λ (old : Has s.jobs y × (y.constants.number ≢ m.constants.number)). (job_in_order s y h.ordered old.0).tasks)
         (λ (is : y ≡ member' x k.cpu.core k.cpu.regs k.cpu.critical plan s h.ordered h.stands.session.holds m may.member numbers may.stopped (closed plan s m numbers may)).
         subst (λ (z : SessionJob). TasksInOrder (IsSegment z.constants) z.constants z.progress.job) (sym is)
-        (ends_good (IsSegment m.constants) m.constants (unsettled m.progress.job) (map pair_of list) (job_in_order s m h.ordered may.member).tasks (closed plan s m numbers may)))
+        (ends_good (IsSegment m.constants) m.constants (unsettled m.progress.job) list (job_in_order s m h.ordered may.member).tasks (closed plan s m numbers may)))
         (member_of x k.cpu.core k.cpu.regs k.cpu.critical plan s h.ordered h.stands.session.holds m may.member numbers may.stopped (closed plan s m numbers may) y i)
 
     marks_then : (marks : List ℕ) → ShowsMarks marks left_rows → RepresentsCritical marks left_plan left_session.jobs
@@ -189,13 +184,12 @@ module _ (k : Machine) (u : Tasks) (x : Storage) (told : Option (List (List ℕ)
     pub has_ended : (cpu' : Cpu) (areas' : Areas) (sectors' : Table) (done : Tasks) (marks : List ℕ) (job : ℕ) (lent : List TaskRow) (y : Storage) (p : MachineView) (slots : List ℕ)
         → slots_gone plan m numbers ≡ slots → m.constants.number ≡ job → lent ≡ k.tasks.rows.items → areas' ≡ k.areas → length cpu'.core ≡ length k.cpu.core
         → MachineRepresentsView y cpu' areas' sectors' told p → IsBuried y cpu'.core cpu'.regs plan s m numbers → GaveBack x y (machine_view plan s.jobs) k.cpu.core cpu'.core slots
-        → done.rows.items ≡ rows_left job (ended_numbers list) lent → done.running ≡ 255 → ShowsMarks marks done.rows.items
-        → HasEnded u x told plan s m (map pair_of list) (record k { cpu = record cpu' { critical = marks }; areas = areas'; sectors = sectors'; tasks = done })
+        → done.rows.items ≡ rows_left job numbers lent → done.running ≡ 255 → ShowsMarks marks done.rows.items
+        → HasEnded u x told plan s m list (record k { cpu = record cpu' { critical = marks }; areas = areas'; sectors = sectors'; tasks = done })
     has_ended cpu' areas' sectors' done marks job lent y p slots emptied is same areas_are len v buried gave rows_are none tops =
         let rows_so : left_rows ≡ done.rows.items =
         ap (rows_left m.constants.number numbers) (row_items ∙ sym same)
         ∙ ap (λ (j : ℕ). rows_left j numbers lent) is
-        ∙ ap (λ (ns : List ℕ). rows_left job ns lent) (numbers_same list)
         ∙ sym rows_are in
         let critical : RepresentsCritical marks left_plan left_session.jobs = marks_then marks (subst (ShowsMarks marks) (sym rows_so) tops) in
         let fit = rows_fit x k.cpu.core k.cpu.regs k.cpu.critical plan s h.ordered h.stands.session.holds m may.member numbers may.stopped (closed plan s m numbers may) in

@@ -5,10 +5,6 @@ use Rattle.b67_model.specs.Endings.{among}
 use Rattle.b67_task_tables.specs.declared.tables.TaskState.{TaskState}
 use Rattle.b67_task_tables.specs.declared.tables.TaskState.TheVariants.{Ready, Awaits, WaitsAt}
 use Rattle.b67_task_tables.specs.declared.tables.TaskRow.{TaskRow}
-use Rattle.b67_task_end.specs.declared.families.EndedTask.{EndedTask}
-
-abbrev pub ended_numbers : List EndedTask → List ℕ
-ended_numbers list = map (λ (e : EndedTask). e.number) list
 
 -- awaits one of these no more
 abbrev pub freed_state : List ℕ → TaskState → TaskState

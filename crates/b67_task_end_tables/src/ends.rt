@@ -1,7 +1,7 @@
 //! A task ends, and its descendants with it.
 
-ghost use Rattle.std.specs.Prelude.{◌≡◌, ◌≤◌, ℕ, List, Option, length, map};
-ghost use Rattle.b67_word.specs.declared.faults.Ending.{Ending};
+ghost use Rattle.std.specs.Prelude.{◌≡◌, ◌≤◌, ℕ, List, Option, length};
+ghost use Rattle.b67_word.specs.declared.faults.Ending as ending_type;
 ghost use Rattle.b67_model.specs.State.{Task, SessionJob};
 ghost use Rattle.b67_model.specs.Endings.{ends_task};
 ghost use Rattle.b67_model.specs.Schedule.{Session};
@@ -10,25 +10,24 @@ ghost use Rattle.b67_layout.specs.Meets.{with_job};
 ghost use Rattle.b67_layout.specs.Placement.{Placement};
 ghost use Rattle.b67_task_tables.specs.declared.tables.TheConstants.{NO_ROW};
 ghost use Rattle.b67_task_tables.specs.declared.tables.Tasks.{Tasks};
-ghost use Rattle.b67_task_end.specs.Family.{pair_of};
 ghost use Rattle.b67_task_end_tables.specs.Deaths.{ending_numbers, StandsWith, MayEnd, EndsSome, HasEnded};
 ghost use Rattle.b67_task_end_tables.specs.Families.{StandsInPlace, IsFamilyOf, EndsFamily};
 
 use crate::marks::marks_of;
 use crate::rows::{leave_rows, slots_of};
-use b67_task_end::EndedTask;
 use b67_task_end_stack::take_out;
 use b67_task_switch::switch_to;
 use b67_task_tables::{Machine, NO_ROW};
+use b67_word::Ending;
 
 /// These tasks of a job end, each after those under it, as `endings` lists them. Their rows are gone, their slots are free,
 /// the areas and sectors of their arrays are given back, and all others stay where they are; who awaited one is ready. The
 /// registers of no other task may be in use, and none are then. The tables' counts needn't be those of the session.
-fn end(machine: &mut Machine, job: u8, list: &[EndedTask])
-    requires some { EndsSome machine.old job (ending_numbers (map pair_of list.now)) }
+fn end(machine: &mut Machine, job: u8, list: &[(u32, Ending)])
+    requires some { EndsSome machine.old job (ending_numbers list.now) }
     requires few { length list.now ≤ 15 }
     ensures stands { (u : Tasks) (x : Storage) (told : Option (List (List ℕ))) (plan : Placement) (s : Session) (m : SessionJob) → StandsWith machine.old u x told plan s
-        → MayEnd plan s m (ending_numbers (map pair_of list.now)) → m.constants.number ≡ job → HasEnded u x told plan s m (map pair_of list.now) machine.new }
+        → MayEnd plan s m (ending_numbers list.now) → m.constants.number ≡ job → HasEnded u x told plan s m list.now machine.new }
     ensures tasks { machine.new.tasks ≡ record machine.old.tasks { rows = machine.new.tasks.rows; running = NO_ROW } }
     ensures areas { machine.new.areas ≡ machine.old.areas }
     ensures len { length machine.new.cpu.core ≡ length machine.old.cpu.core }
@@ -48,11 +47,11 @@ fn end(machine: &mut Machine, job: u8, list: &[EndedTask])
 
 /// The task of a row ends, with those under it, in the ways that `endings` lists. Whoever's registers were in use, none are
 /// then. All arrays, segments and data rows that are left lie in the same areas and the same sectors.
-pub fn end_family(machine: &mut Machine, row: u8, job: u8, list: &[EndedTask])
-    requires some { EndsFamily machine.old row job (map pair_of list.now) }
+pub fn end_family(machine: &mut Machine, row: u8, job: u8, list: &[(u32, Ending)])
+    requires some { EndsFamily machine.old row job list.now }
     requires few { length list.now ≤ 15 }
-    ensures stands { (x : Storage) (told : Option (List (List ℕ))) (plan : Placement) (s : Session) (m : SessionJob) (t : Task) (ending : Ending)
-        → IsFamilyOf x told machine.old plan s m t row job ending (map pair_of list.now) → StandsInPlace x told machine.new plan s (with_job s m (ends_task m.progress.job t.number ending).job) }
+    ensures stands { (x : Storage) (told : Option (List (List ℕ))) (plan : Placement) (s : Session) (m : SessionJob) (t : Task) (ending : ending_type.Ending)
+        → IsFamilyOf x told machine.old plan s m t row job ending list.now → StandsInPlace x told machine.new plan s (with_job s m (ends_task m.progress.job t.number ending).job) }
     ensures tasks { machine.new.tasks ≡ record machine.old.tasks { rows = machine.new.tasks.rows; running = machine.new.tasks.running } }
     ensures len { length machine.new.cpu.core ≡ length machine.old.cpu.core }
     ensures count { length machine.new.sectors.links ≡ length machine.old.sectors.links }

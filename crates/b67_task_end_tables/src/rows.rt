@@ -1,18 +1,20 @@
 //! The rows of those who stay when tasks end, and the slots of those who go.
 
-ghost use Rattle.std.specs.Prelude.{◌≡◌, ◌≤◌, length, map, take};
-ghost use Rattle.b67_task_end.specs.declared.families.EndedTask.{EndedTask};
+ghost use Rattle.std.specs.Prelude.{◌≡◌, ◌≤◌, ℕ, length, map, take};
+ghost use Rattle.b67_word.specs.declared.faults.Ending as ending_type;
+ghost use Rattle.b67_task_end_tables.specs.Deaths.{ending_numbers};
 ghost use Rattle.b67_task_end_tables.specs.Left as left;
-ghost use Rattle.b67_task_end_tables.specs.Left.{ended_numbers, slot_shown};
+ghost use Rattle.b67_task_end_tables.specs.Left.{slot_shown};
 
 use arrayvec::ArrayVec;
 use b67_ctl::NO_SLOT;
-use b67_task_end::{EndedTask, is_among};
+use b67_task_end::is_among;
 use b67_task_tables::{TaskRow, TaskState};
+use b67_word::Ending;
 
 /// Whether a row isn't that of one of a job's tasks that ended.
-fn stays(row: TaskRow, job: u8, list: &[EndedTask]) -> bool
-    ensures { result ≡ left.row_is_kept job (ended_numbers list.now) row }
+fn stays(row: TaskRow, job: u8, list: &[(u32, Ending)]) -> bool
+    ensures { result ≡ left.row_is_kept job (ending_numbers list.now) row }
 {
     if row.job == job {
         return !is_among(list, row.number);
@@ -21,8 +23,8 @@ fn stays(row: TaskRow, job: u8, list: &[EndedTask]) -> bool
 }
 
 /// The row once these tasks of a job have ended: who awaited one of them is ready.
-fn freed(row: TaskRow, job: u8, list: &[EndedTask]) -> TaskRow
-    ensures { result ≡ left.freed job (ended_numbers list.now) row }
+fn freed(row: TaskRow, job: u8, list: &[(u32, Ending)]) -> TaskRow
+    ensures { result ≡ left.freed job (ending_numbers list.now) row }
 {
     if row.job != job {
         return row;
@@ -42,8 +44,8 @@ fn freed(row: TaskRow, job: u8, list: &[EndedTask]) -> TaskRow
 }
 
 /// The rows that stay once these tasks of a job have ended come to lie at the front, each as it is then, and are counted.
-fn move_up(rows: &mut [TaskRow], job: u8, list: &[EndedTask]) -> usize
-    ensures { take result rows.new ≡ left.rows_left job (ended_numbers list.now) rows.old }
+fn move_up(rows: &mut [TaskRow], job: u8, list: &[(u32, Ending)]) -> usize
+    ensures { take result rows.new ≡ left.rows_left job (ending_numbers list.now) rows.old }
 {
     let mut kept = 0usize;
     for at in 0..rows.len() {
@@ -58,8 +60,8 @@ fn move_up(rows: &mut [TaskRow], job: u8, list: &[EndedTask]) -> usize
 }
 
 /// Leaves the rows that stay once these tasks of a job have ended, each as it is then.
-pub fn leave_rows(rows: &mut ArrayVec<TaskRow, 120>, job: u8, list: &[EndedTask])
-    ensures { rows.new.items ≡ left.rows_left job (ended_numbers list.now) rows.old.items }
+pub fn leave_rows(rows: &mut ArrayVec<TaskRow, 120>, job: u8, list: &[(u32, Ending)])
+    ensures { rows.new.items ≡ left.rows_left job (ending_numbers list.now) rows.old.items }
 {
     let kept = move_up(rows.as_mut_slice(), job, list);
     rows.truncate(kept);
@@ -86,14 +88,14 @@ fn slot_in(rows: &[TaskRow], job: u8, number: u32) -> u8
 }
 
 /// The slots of these tasks of a job, in their order.
-pub fn slots_of(rows: &[TaskRow], job: u8, list: &[EndedTask]) -> ArrayVec<u8, 15>
+pub fn slots_of(rows: &[TaskRow], job: u8, list: &[(u32, Ending)]) -> ArrayVec<u8, 15>
     requires rows { length rows.now ≤ 255 }
     requires list { length list.now ≤ 15 }
-    ensures { result.items ≡ map (λ (e : EndedTask). slot_shown job e.number rows.now) list.now }
+    ensures { result.items ≡ map (λ (e : ℕ × ending_type.Ending). slot_shown job e.0 rows.now) list.now }
 {
     let mut slots = ArrayVec::new();
     for at in 0..list.len() as u8 {
-        slots.push(slot_in(rows, job, list[at as usize].number));
+        slots.push(slot_in(rows, job, list[at as usize].0));
     }
     slots
 }

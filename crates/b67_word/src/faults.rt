@@ -30,6 +30,12 @@ pub enum Ending {
     Faulted(Fault),
 }
 
+impl Default for Ending {
+    fn default() -> Ending {
+        Ending::Ended
+    }
+}
+
 /// A device did not do what it was asked for.
 #[derive(Clone, Copy, Debug, PartialEq, Eq)]
 pub struct Failed;

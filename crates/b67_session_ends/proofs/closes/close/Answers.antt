@@ -1,6 +1,5 @@
-use Rattle.std.proofs.Common.{◌+◌, List, ℕ, map, refl, ap, ◌∙◌, subst}
+use Rattle.std.proofs.Common.{◌+◌, List, ℕ, refl, ap, ◌∙◌, subst}
 use Rattle.std.proofs.lemmas.Result.{err_from_is_err_and}
-use Rattle.b67_task_end.specs.Family.{pair_of}
 use Rattle.b67_task_tables.specs.declared.tables.Tasks.{Tasks}
 use Rattle.b67_session_lines.specs.Parts.{TookRest, TookMore}
 use Rattle.b67_task_end_tables.proofs.Families.{lent_list}
@@ -16,7 +15,7 @@ with_stuck-all-requires-clause-head g c = let r = c.requires.row in has_head r.s
 pub end_family-requires-clause-some : goal.end_family-requires-clause-some
 end_family-requires-clause-some g c =
     let r = c.requires.row in
-    ends_family r.storage r.told c.args.machine.now r.plan r.session r.member r.task c.args.chosen r.stands c.put_endings.new.printed c.args.ending (map pair_of c.as_slice-3.result.now)
+    ends_family r.storage r.told c.args.machine.now r.plan r.session r.member r.task c.args.chosen r.stands c.put_endings.new.printed c.args.ending c.as_slice-3.result.now
     (lent_list c.args.machine.now.tasks c.args.chosen.row c.args.ending c.endings-dead.result.items c.as_slice-3.result.now c.endings-dead.ensures c.as_slice-3.ensures.value r.plan r.session r.member r.task
     (holds r.storage r.told c.args.machine.now r.plan r.session r.member r.task c.args.chosen r.stands) r.stands.row)
 
@@ -24,7 +23,7 @@ pub end_stuck-requires : goal.end_stuck-requires
 end_stuck-requires g c =
     let r = c.requires.row in
     let k = c.args.machine.now in
-    let list = map pair_of c.as_slice-3.result.now in
+    let list = c.as_slice-3.result.now in
     let listed = lent_list k.tasks c.args.chosen.row c.args.ending c.endings-dead.result.items c.as_slice-3.result.now c.endings-dead.ensures c.as_slice-3.ensures.value r.plan r.session r.member r.task
     (holds r.storage r.told k r.plan r.session r.member r.task c.args.chosen r.stands) r.stands.row in
     has_job r.storage r.told k r.plan r.session r.member r.task c.args.chosen r.stands c.put_endings.new.printed c.args.ending c.end_family.new.machine
@@ -39,7 +38,7 @@ pub returns-clause-closes : goal.returns-clause-closes
 returns-clause-closes g c = λ x told plan s m t w.
     (let k = c.args.machine.now in
     let listed = lent_list k.tasks c.args.chosen.row c.args.ending c.endings-dead.result.items c.as_slice-3.result.now c.endings-dead.ensures c.as_slice-3.ensures.value plan s m t (holds x told k plan s m t c.args.chosen w) w.row in
-    let e = c.end_family.ensures.stands x told plan s m t c.args.ending (is_family x told k plan s m t c.args.chosen w c.put_endings.new.printed c.args.ending (map pair_of c.as_slice-3.result.now) listed) in
+    let e = c.end_family.ensures.stands x told plan s m t c.args.ending (is_family x told k plan s m t c.args.chosen w c.put_endings.new.printed c.args.ending c.as_slice-3.result.now listed) in
     let same = same_tasks k.tasks c.end_family.new.machine.tasks c.end_stuck.new.machine.tasks c.put_endings.new.printed c.end_stuck.ensures.tasks c.end_family.ensures.tasks in (
       subst (λ (l : List ℕ). TookRest g.K.Sink.taken c.args.paper.now c.put_endings.new.paper l k.tasks.printed)
           (all_text x told k plan s m t c.args.chosen w c.args.ending c.endings-dead.result.items c.as_slice.result.now c.with_stuck-all.result.items c.as_slice-2.result.now

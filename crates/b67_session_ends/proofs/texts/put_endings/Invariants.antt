@@ -1,5 +1,4 @@
-use Rattle.std.proofs.Common.{◌≤◌, ◌*◌, map, drop}
-use Rattle.b67_task_end.specs.Family.{pair_of}
+use Rattle.std.proofs.Common.{◌≤◌, ◌*◌, drop}
 use Rattle.b67_session_ends.specs.Texts.{endings_text}
 use Rattle.b67_session_ends.proofs.Endings.{IsPrinting}
 use Rattle.b67_session_ends.proofs.texts.put_endings.Given as goal
@@ -8,5 +7,5 @@ abbrev pub invariant-loop-one : goal.invariant-loop-one
 invariant-loop-one g l = record {
   start : l.start ≤ 193 * l.one-index;
   later : g.K.Sink.faults l.fn.paper ≤ g.K.Sink.faults l.paper;
-  printing : IsPrinting g.K.Sink.taken l.fn.paper l.paper (endings_text l.job (map pair_of l.ended)) l.fn.printed l.printed l.start (endings_text l.job (map pair_of (drop l.one-index l.ended)));
+  printing : IsPrinting g.K.Sink.taken l.fn.paper l.paper (endings_text l.job l.ended) l.fn.printed l.printed l.start (endings_text l.job (drop l.one-index l.ended));
 }

@@ -1,5 +1,3 @@
-use Rattle.std.proofs.Common.{map}
-use Rattle.b67_task_end.specs.Family.{pair_of}
 use Rattle.b67_task_end.proofs.Context.{within_lent}
 use Rattle.b67_task_end_tables.proofs.Families.{lent_list}
 use Rattle.b67_task.proofs.Family.{holds, job_read, is_family, ends_family, owner, has_some_row}
@@ -20,7 +18,7 @@ end_family-requires-clause-some c =
     let k = c.args.machine.now in
     let w = owner k c.args.row r in
     let shown = lent_list k.tasks c.args.row c.args.ending c.endings-list.result.items c.as_slice.result.now c.endings-list.ensures c.as_slice.ensures.value in
-    ends_family r.storage r.told k r.plan r.session r.ordered r.stands w.member w.task c.args.row w.row _ c.args.ending (map pair_of c.as_slice.result.now)
+    ends_family r.storage r.told k r.plan r.session r.ordered r.stands w.member w.task c.args.row w.row _ c.args.ending c.as_slice.result.now
     (job_read k.tasks.rows.items c.deref.result.now c.args.row _ w.row.row c.deref.ensures.0 w.row.there)
     (shown r.plan r.session w.member w.task (holds r.storage r.told k r.plan r.session r.ordered r.stands) w.row)
 
@@ -32,6 +30,6 @@ returns-clause-stands c = λ x told plan s m t o h at.
     (let k = c.args.machine.now in
     let shown = lent_list k.tasks c.args.row c.args.ending c.endings-list.result.items c.as_slice.result.now c.endings-list.ensures c.as_slice.ensures.value in
     c.end_family.ensures.stands x told plan s m t c.args.ending
-    (is_family x told k plan s o h m t c.args.row at _ c.args.ending (map pair_of c.as_slice.result.now)
+    (is_family x told k plan s o h m t c.args.row at _ c.args.ending c.as_slice.result.now
     (job_read k.tasks.rows.items c.deref.result.now c.args.row _ at.row c.deref.ensures.0 at.there)
     (shown plan s m t (holds x told k plan s o h) at)))

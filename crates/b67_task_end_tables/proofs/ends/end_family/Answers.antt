@@ -1,26 +1,25 @@
-use Rattle.std.proofs.Common.{sym, ap, ◌∙◌, length, map}
+use Rattle.std.proofs.Common.{sym, ap, ◌∙◌, length}
 use Rattle.b67_area.specs.declared.Areas.{Areas}
 use Rattle.b67_backing.specs.Shelf.{Table}
-use Rattle.b67_task_end.specs.Family.{pair_of}
 use Rattle.b67_task_end_tables.proofs.Families.{has_row, with_tables, may, ends_some, ended_stands, both_running}
 use Rattle.b67_task_end_tables.proofs.ends.end_family.Goals as goal
 
 pub switch_to-requires : goal.switch_to-requires
 switch_to-requires c =
     let r = c.requires.some in
-    has_row r.storage r.told c.args.machine.now r.plan r.session r.member r.task c.args.row c.args.job r.ending (map pair_of c.args.list.now) r.family
+    has_row r.storage r.told c.args.machine.now r.plan r.session r.member r.task c.args.row c.args.job r.ending c.args.list.now r.family
 
 pub end-requires-clause-some : goal.end-requires-clause-some
 end-requires-clause-some c =
     let r = c.requires.some in
     let f = r.family in
-    ends_some r.storage r.told c.args.machine.now r.plan r.session r.member r.task c.args.row c.args.job r.ending (map pair_of c.args.list.now) f c.switch_to.new.machine
+    ends_some r.storage r.told c.args.machine.now r.plan r.session r.member r.task c.args.row c.args.job r.ending c.args.list.now f c.switch_to.new.machine
     (c.switch_to.ensures.stands r.storage r.told r.plan r.session f.at.row f.ordered f.stands f.at.there)
 
 pub returns-clause-stands : goal.returns-clause-stands
 returns-clause-stands c = λ x told plan s m t ending f.
     (let mid = c.switch_to.new.machine in
-    let list = map pair_of c.args.list.now in
+    let list = c.args.list.now in
     let h = c.switch_to.ensures.stands x told plan s f.at.row f.ordered f.stands f.at.there in
     ended_stands x told c.args.machine.now plan s m t c.args.row c.args.job ending list f mid h c.end.new.machine
     (c.end.ensures.stands mid.tasks x told _ s m (with_tables x told c.args.machine.now plan s m t c.args.row c.args.job ending list f mid h)
