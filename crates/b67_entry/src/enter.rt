@@ -17,16 +17,14 @@ ghost use Rattle.b67_layout.specs.Meets.{RunsSome, ForEach, Meets, here};
 ghost use Rattle.b67_exec_cells.specs.Tops.{StaysInSegment};
 ghost use Rattle.b67_refer.specs.RunningContext.{RunningContext, IsShown};
 ghost use Rattle.b67_refer.specs.Displays.{HoldsEnvironment, EntersOver};
-ghost use Rattle.b67_refer.specs.Own.{LeadsTo};
-ghost use Rattle.b67_refer.specs.declared.ends.End.TheVariants as end;
 ghost use Rattle.b67_entry.specs.Procedures.{ReachesProc, CanEnter, EntersOrFaults, HoldsUnder, CallsWith, CallsOrMeets};
 ghost use Rattle.b67_model.specs.Words as Words;
 
 use b67_core::Core;
-use b67_ctl::{IntrinsicPcw, Mscw, Pcw, Rcw, Regs};
-use b67_refer::{Activation, End, chase, enclosure_of, near_place, rebuild_entered};
+use b67_ctl::{Mscw, Pcw, Rcw, Regs};
+use b67_refer::{Activation, End, Look, chase, enclosure_of, near_end, rebuild_entered};
 use b67_stack::{Cpu, Step};
-use b67_word::{Fault, Place, Word};
+use b67_word::{Fault, Place};
 
 /// MKST: puts a mark on the stack, or faults if the stack is as high as its slot. The task goes on at `next`.
 #[inline]
@@ -118,28 +116,6 @@ fn enter(cpu: &mut Cpu, cell: u32, next: Place) -> Step
     Step::Done
 }
 
-/// The core address of the procedure's cell to which a word leads, if the word is that of a couple that names this cell, and the
-/// cell lies near. Else 0: the word may lead anywhere.
-#[inline(always)]
-fn near_procedure(cpu: &Cpu, w: Word) -> u32
-    requires { (a : RunningContext cpu.now.core cpu.now.regs) × IsShown a cpu.now.display }
-    ensures leads { result ≢ 0 → LeadsTo cpu.now.core cpu.now.regs cpu.now.display w (end.Proc result) }
-    ensures couple { result ≢ 0 → w.tag ≡ 1 }
-{
-    let at = near_place(&cpu.core, &cpu.regs, &cpu.display, w);
-    if at == 0 {
-        return 0;
-    }
-    let word = cpu.core.get(at);
-    if word.tag() != 7 {
-        return 0;
-    }
-    match IntrinsicPcw::from_word(word) {
-        Some(_) => 0,
-        None => at,
-    }
-}
-
 /// ENTR, as `entr` makes it, where the reference is a couple that names the cell of a procedure near by. None, with nothing
 /// changed, if it may lead elsewhere.
 #[inline(always)]
@@ -156,12 +132,17 @@ pub fn entr_near(cpu: &mut Cpu, next: Place) -> Option<Step>
         return None;
     }
     let first = cpu.core.get(cpu.regs.f + 1);
-    let cell = near_procedure(cpu, first);
-    if cell == 0 {
-        return None;
+    let end = match near_end(&cpu.core, &cpu.regs, &cpu.display, first, Look::Near) {
+        Some(end) => end,
+        None => return None,
+    };
+    match end {
+        End::Proc(cell) => {
+            let step = enter(cpu, cell, next);
+            Some(step)
+        }
+        _ => None,
     }
-    let step = enter(cpu, cell, next);
-    Some(step)
 }
 
 /// ENTR: enters the procedure that the first cell of the marked activation record on top refers to. Its caller goes on

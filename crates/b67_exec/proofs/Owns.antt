@@ -1,7 +1,8 @@
 -- Stores and loads through references that need no search, as the rows of their operators.
-use Rattle.std.proofs.Common.{◌≡◌, ℕ, Bool, true, false, List, [], ◌∷◌, ◌++◌, length, Ok, refl, sym, subst}
+use Rattle.std.proofs.Common.{◌≡◌, ℕ, Bool, true, false, List, [], ◌∷◌, ◌++◌, length, Ok, refl, sym, subst, ◌⊎◌, ⊎_elim}
 use Rattle.b67_word.specs.Tagged.{Tagged}
 use Rattle.b67_word.specs.declared.couples.Place.{Place}
+use Rattle.b67_model.specs.declared.operators.Code.{Code}
 use Rattle.b67_model.specs.declared.operators.Code.TheVariants as codes
 use Rattle.b67_model.specs.declared.operators.Op.TheVariants.{Plain}
 use Rattle.b67_model.specs.Chase as Chase
@@ -25,13 +26,24 @@ module _ (next : Place) (old new : Cpu) where
   abbrev Stored : Bool → Type 0
   Stored keeps = ForEach old (λ x plan s m t. IsMade x plan s m old new (rows.store keeps (here m t next) (cells_of (here m t next))))
 
-  pub stod_made : (made : Bool) → (made ≡ true → Stored false) → (made ≡ true → StaysInSegment old new next) → (made ≡ false → new ≡ old) → OnShortly (Plain codes.Stod) next old made new
+  stod_made : (made : Bool) → (made ≡ true → Stored false) → (made ≡ true → StaysInSegment old new next) → (made ≡ false → new ≡ old) → OnShortly (Plain codes.Stod) next old made new
   stod_made true each stays rest = (each refl, stays refl)
   stod_made false each stays rest = rest refl
 
-  pub ston_made : (made : Bool) → (made ≡ true → Stored true) → (made ≡ true → StaysInSegment old new next) → (made ≡ false → new ≡ old) → OnShortly (Plain codes.Ston) next old made new
+  ston_made : (made : Bool) → (made ≡ true → Stored true) → (made ≡ true → StaysInSegment old new next) → (made ≡ false → new ≡ old) → OnShortly (Plain codes.Ston) next old made new
   ston_made true each stays rest = (each refl, stays refl)
   ston_made false each stays rest = rest refl
+
+  -- either of the two
+  pub store_made : (code : Code) (keeps made : Bool) → ((code ≡ codes.Stod) × (keeps ≡ false)) ⊎ ((code ≡ codes.Ston) × (keeps ≡ true)) → (made ≡ true → Stored keeps) → (made ≡ true → StaysInSegment old new next) → (made ≡ false → new ≡ old)
+      → OnShortly (Plain code) next old made new
+  store_made code keeps made which each stays rest =
+      let P : Code → Type 0 = λ k. OnShortly (Plain k) next old made new in
+      let Q : Bool → Type 0 = λ b. made ≡ true → Stored b in
+      ⊎_elim
+      (λ z. subst P (sym z.0) (stod_made made (subst Q z.1 each) stays rest))
+      (λ z. subst P (sym z.0) (ston_made made (subst Q z.1 each) stays rest))
+      which
 
 -- LOAD where the top cell leads to an operand's cell
 module _ (old : Cpu) (next : Place) (w : Tagged) (at : ℕ) (leads : LeadsTo old.core old.regs old.display w (end.Cell at)) where

@@ -19,7 +19,7 @@ use b67_entry::{accident, entr, entr_near, exit, retn};
 use b67_exec_cells::top_cell;
 use b67_fetch::{Stored, indx, nxlv, stff, stff_named, store, value};
 use b67_model::Code;
-use b67_refer::{End, chase, chase_from, near_place};
+use b67_refer::{End, Look, chase, chase_from, near_place};
 use b67_stack::{Cpu, Step};
 use b67_word::Place;
 
@@ -181,7 +181,7 @@ pub(crate) fn makes_stff(cpu: &mut Cpu, next: Place) -> bool
         Ok(word) => word,
         Err(_) => return false,
     };
-    if near_place(&cpu.core, &cpu.regs, &cpu.display, w) == 0 {
+    if near_place(&cpu.core, &cpu.regs, &cpu.display, w, Look::Near) == 0 {
         return false;
     }
     let step = stff_named(cpu, w, next);
@@ -214,7 +214,13 @@ pub(crate) fn makes_valc(cpu: &mut Cpu, couple: u16, next: Place) -> Went
     requires next { IsPlace next }
     ensures { WentShortly (Valc couple) next cpu.old result cpu.new }
 {
-    let at = near_place(&cpu.core, &cpu.regs, &cpu.display, Irw { couple }.word());
+    let at = near_place(
+        &cpu.core,
+        &cpu.regs,
+        &cpu.display,
+        Irw { couple }.word(),
+        Look::Near,
+    );
     if at == 0 {
         return Went::Not;
     }

@@ -13,7 +13,7 @@ use b67_ctl::Irw;
 use b67_exec_cells::top_cell;
 use b67_fetch::{indx_at, nxlv_at, own_item, store_own, value};
 use b67_model::Code;
-use b67_refer::{End, own_operand, own_place};
+use b67_refer::{End, Look, near_end, near_place};
 use b67_stack::Cpu;
 use b67_word::Place;
 
@@ -25,7 +25,13 @@ pub(crate) fn evaluates_own(cpu: &mut Cpu, couple: u16, next: Place) -> Went
     requires next { IsPlace next }
     ensures { WentShortly (Valc couple) next cpu.old result cpu.new }
 {
-    let at = own_place(&cpu.core, &cpu.regs, &cpu.display, Irw { couple }.word());
+    let at = near_place(
+        &cpu.core,
+        &cpu.regs,
+        &cpu.display,
+        Irw { couple }.word(),
+        Look::Top,
+    );
     if at == 0 {
         return makes_valc(cpu, couple, next);
     }
@@ -45,11 +51,14 @@ fn loads_own(cpu: &mut Cpu, next: Place) -> bool
         Ok(word) => word,
         Err(_) => return false,
     };
-    let at = own_operand(&cpu.core, &cpu.regs, &cpu.display, w);
-    if at == 0 {
-        return false;
+    let end = match near_end(&cpu.core, &cpu.regs, &cpu.display, w, Look::Top) {
+        Some(end) => end,
+        None => return false,
+    };
+    match end {
+        End::Cell(at) => is_made(value(cpu, 1, End::Cell(at), next)),
+        _ => false,
     }
-    is_made(value(cpu, 1, End::Cell(at), next))
 }
 
 /// LOAD, or STOD or STON of an operand, through such a reference, and whether it was made.
@@ -59,12 +68,13 @@ pub(crate) fn stores_own(cpu: &mut Cpu, code: Code, next: Place) -> bool
     requires enters { may_enter code ≡ true }
     ensures { OnShortly (Plain code) next cpu.old result cpu.new }
 {
-    match code {
-        Code::Load => loads_own(cpu, next),
-        Code::Stod => store_own(cpu, false, next),
-        Code::Ston => store_own(cpu, true, next),
+    let keeps = match code {
+        Code::Load => return loads_own(cpu, next),
+        Code::Stod => false,
+        Code::Ston => true,
         _ => unreachable!(),
-    }
+    };
+    store_own(cpu, keeps, next)
 }
 
 /// INDX of an element of an array whose original is in the top activation record, and whether it was made.

@@ -1,5 +1,5 @@
 -- STOD and STON where the top cell is followed without a search, and arrays found so.
-use Rattle.std.proofs.Common.{◌≡◌, ℕ, ◌+◌, ◌<◌, ◌≤◌, ◌∷◌, List, Bool, true, false, Ok, Err, refl, sym, arith, inr, length, subst}
+use Rattle.std.proofs.Common.{◌≡◌, ℕ, ◌+◌, ◌<◌, ◌≤◌, ◌∷◌, List, Bool, true, false, Ok, Err, refl, sym, ap, arith, inr, length, subst}
 use Rattle.b67_word.specs.Tagged.{Tagged, word}
 use Rattle.b67_word.specs.declared.couples.Place.{Place}
 use Rattle.b67_word.specs.declared.faults.Fault.{Fault}
@@ -21,7 +21,7 @@ use Rattle.b67_refer.specs.RunningContext.{RunningContext, live_of}
 use Rattle.b67_refer.proofs.Follows.{follows_none}
 use Rattle.b67_exec_cells.specs.Tops.{GivesTwo}
 use Rattle.b67_fetch.specs.Fetches.{EntersOrMeets, IsFollowed, enters_at}
-use Rattle.b67_fetch.specs.Indexes.{FindsArray}
+use Rattle.b67_fetch.specs.Indexes.{FindsArray, array_in}
 use Rattle.b67_fetch.proofs.Found.{found_end}
 use Rattle.b67_fetch.proofs.Values.{here_scene, here_shown, followed_stands, finds_end}
 use Rattle.b67_fetch.specs.Stores.{stored, StoresTo, StoresThrough}
@@ -95,6 +95,13 @@ module _ (x : Storage) (old : Cpu) (plan : Placement) (s : Session) (m : Session
         by (end.Intrinsic n) there leads = absurd there
 
 -- a couple of an original leads to its array
+pub at_array : (e : End) (original : ℕ) → array_in e ≡ Ok original → e ≡ end.Array original
+at_array (end.Array n) original is = let z : n ≡ original = cc in ap end.Array z
+at_array (end.Cell n) original is = absurd (let z : ⊥ = cc in z)
+at_array (end.Element n i) original is = absurd (let z : ⊥ = cc in z)
+at_array (end.Proc n) original is = absurd (let z : ⊥ = cc in z)
+at_array (end.Intrinsic n) original is = absurd (let z : ⊥ = cc in z)
+
 pub own_finds_array : (x : Storage) (cpu : Cpu) (plan : Placement) (s : Session) (m : SessionJob) (t : Task) (o : IsInOrderButCounts s) (h : RepresentsSession x cpu plan s) (runs : IsRunning plan s.jobs m t) (q : Place) (w : Tagged) (original : ℕ)
     → LeadsTo cpu.core cpu.regs cpu.display w (end.Array original) → w.tag ≡ 1 → (v : Word) → IsFollowed x plan m t w v → FindsArray plan m (Ok original) (array_of (here m t q) v)
 own_finds_array x cpu plan s m t o h runs q w original leads one v i =

@@ -18,7 +18,7 @@ ghost use Rattle.b67_fetch.specs.Indexes.{array_in, FindsArray, index_in, FindsI
 
 use b67_ctl::DataDesc;
 use b67_exec_cells::{array_descriptor, element, put_over, two_cells};
-use b67_refer::{End, chase, own_array, owner};
+use b67_refer::{End, Look, chase, near_end, owner};
 use b67_stack::{Cpu, Step, What};
 use b67_word::{Fault, Place, Word};
 
@@ -124,10 +124,14 @@ fn own_item_at(cpu: &Cpu, reference: Word, index: Word) -> Option<(u32, u32)>
     if !index.is_natural() {
         return None;
     }
-    let original = own_array(&cpu.core, &cpu.regs, &cpu.display, reference);
-    if original == 0 {
-        return None;
-    }
+    let end = match near_end(&cpu.core, &cpu.regs, &cpu.display, reference, Look::Near) {
+        Some(end) => end,
+        None => return None,
+    };
+    let original = match array_in(end) {
+        Ok(original) => original,
+        Err(_) => return None,
+    };
     let length = array_descriptor(cpu, original).length;
     let at = index.bits();
     if at >= u64::from(length) {

@@ -1,16 +1,17 @@
 //! Stores whose reference needs no search: a couple of the running stack's top activation record, or an element copy.
 
-ghost use Rattle.std.specs.Prelude.{◌≡◌, ◌≢◌, true, false};
+ghost use Rattle.std.specs.Prelude.{◌≡◌, ◌≢◌, true, false, Some};
 ghost use Rattle.b67_model.specs.Steps.{cells_of};
 ghost use Rattle.b67_model.specs.Rows as rows;
 ghost use Rattle.b67_layout.specs.Meets.{here, IsMade, RunsSome, ForEach};
 ghost use Rattle.b67_exec_cells.specs.Tops.{StaysInSegment};
+ghost use Rattle.b67_refer.specs.declared.ends.End.TheVariants as ends;
 ghost use Rattle.b67_fetch.specs.Fetches.{MayFollow};
 ghost use Rattle.b67_fetch.specs.Stores.{StoresThrough};
 
 use crate::storing::{element_address, put};
 use b67_exec_cells::two_cells;
-use b67_refer::{End, copied_element, own_operand, stuffed_operand};
+use b67_refer::{End, Look, element_of, near_end, stuffed_operand};
 use b67_stack::Cpu;
 use b67_word::{Place, Word};
 
@@ -21,15 +22,30 @@ fn own_element(cpu: &Cpu, reference: Word) -> u32
     requires { MayFollow cpu.now reference }
     ensures { result ≢ 0 → StoresThrough cpu.now reference result }
 {
-    let end = match copied_element(&cpu.core, &cpu.regs, reference) {
-        Some(end) => end,
-        None => return 0,
+    let end = match element_of(&cpu.core, &cpu.regs, reference) {
+        Ok(end) => end,
+        Err(_) => return 0,
     };
     match end {
         End::Element { original, index } => match element_address(cpu, original, index) {
             Ok(at) => at,
             Err(_) => 0,
         },
+        _ => 0,
+    }
+}
+
+/// The core address of an operand's cell, if a word was found to lead to one. Else 0.
+#[inline(always)]
+fn operand_in(found: Option<End>) -> u32
+    ensures { result ≢ 0 → found ≡ Some (ends.Cell result) }
+{
+    let end = match found {
+        Some(end) => end,
+        None => return 0,
+    };
+    match end {
+        End::Cell(at) => at,
         _ => 0,
     }
 }
@@ -51,7 +67,8 @@ pub fn store_own(cpu: &mut Cpu, keeps: bool, next: Place) -> bool
     if lower.tag() != 0 {
         return false;
     }
-    let cell = own_operand(&cpu.core, &cpu.regs, &cpu.display, upper);
+    let end = near_end(&cpu.core, &cpu.regs, &cpu.display, upper, Look::Top);
+    let cell = operand_in(end);
     if cell != 0 {
         put(cpu, cell, lower, keeps, next);
         return true;

@@ -16,7 +16,7 @@ ghost use Rattle.b67_mcp_process.specs.Asked.{HasCells, admits, AdmitMeets, AskM
 use b67_ctl::DataDesc;
 use b67_entry::is_critical;
 use b67_exec_cells::count_cells;
-use b67_refer::{End, activation_of, chase};
+use b67_refer::{End, chase, enclosure_of};
 use b67_stack::Cpu;
 use b67_task_start::procedure_at;
 use b67_word::{Fault, Word};
@@ -69,7 +69,7 @@ fn admit(cpu: &Cpu, cell: u32, count: u32) -> Result<Asked, Fault>
     ensures row { (a : RunningContext cpu.now.core cpu.now.regs) (q : Place) (f segment level : ℕ) (place : Place) → ReachesProc cpu.now a q cell f segment level place
         → AdmitMeets cell count (admits (here a.member a.task q) f level count) result }
 {
-    let env = activation_of(&cpu.core, &cpu.regs, cell);
+    let env = enclosure_of(&cpu.core, &cpu.regs, cell).record;
     let procedure = procedure_at(&cpu.core, cell);
     if env.level + 1 != procedure.level {
         return Err(Fault::InvalidOperand);

@@ -1,21 +1,20 @@
 -- What the search for a cell finds, by the address of the frame's mark.
-use Rattle.std.proofs.Common.{◌≡◌, ℕ, ◌+◌, ◌<◌, ◌≤◌, ◌^◌, List, ◌∷◌, Bool, true, false, Some, Ok, Err, refl, sym, ◌∙◌, ap, arith, ◌⊎◌, ⊎_elim, inl, inr, subst, length}
+use Rattle.std.proofs.Common.{◌≡◌, ℕ, ◌+◌, ◌-◌, ◌<◌, ◌≤◌, ◌^◌, List, Bool, true, false, Some, Ok, Err, refl, sym, ◌∙◌, ap, arith, ◌⊎◌, ⊎_elim, inl, inr, subst, length}
 use Rattle.std.specs.List.{slice_get}
+use Rattle.std.proofs.lemmas.Bool.{cases_eq, cases_lt}
 use Rattle.b67_word.specs.Tagged.{Tagged}
 use Rattle.b67_word.specs.declared.couples.Place.{Place}
 use Rattle.b67_word.specs.declared.faults.Fault.TheVariants.{InvalidAddress}
 use Rattle.b67_ctl.specs.declared.registers.Regs.{Regs}
 use Rattle.b67_model.specs.Common.{Answer, Word, cell, reach_of, NamesEntered}
-use Rattle.b67_layout.specs.Common.{frame_address, here, spot_in}
+use Rattle.b67_layout.specs.Common.{frame_address, here}
 use Rattle.b67_refer.specs.RunningContext.{LiveContext}
 use Rattle.b67_refer.specs.LiveCells.{CellMeets, IsUnder, IsPlain, cell_or_none}
 use Rattle.b67_refer.proofs.Bases.{slot_inside, dictionary_is, dictionary_low, slot_zero}
 use Rattle.b67_refer.proofs.Seats.{seat}
-use Rattle.b67_refer.proofs.Rule.{misses, marks, lands, lands_last, seat_address}
-use Rattle.b67_refer.proofs.Slots.{base, acts}
-use Rattle.b67_stack.specs.Stacks.{stack_words}
-use Rattle.b67_layout.proofs.Frames.{height-is}
-use Rattle.b67_refer.proofs.Unders.{under, is_mcp, is_dictionary, entries_is, high_address, last_slot, one_word}
+use Rattle.b67_refer.proofs.Rule.{misses, marks, lands}
+use Rattle.b67_refer.proofs.Slots.{has_slot}
+use Rattle.b67_refer.proofs.Unders.{under, is_mcp, is_dictionary, is_base, entries_is, high_address, top_running}
 use Rattle.b67_refer.proofs.Fixed.{mcp_misses, mcp_lands, dictionary_misses, dictionary_lands}
 
 module _ (core : List Tagged) (r : Regs) (a : LiveContext core r) (q : Place) (f from offset : ℕ) (n : NamesEntered (reach_of a.member.progress.job a.task) f) (e : from ≡ frame_address a.plan a.member a.task f) where
@@ -46,18 +45,11 @@ module _ (core : List Tagged) (r : Regs) (a : LiveContext core r) (q : Place) (f
     task_plain low up true plain = task_lands low up (λ k w d u there tag. plain k w d (omega (arith, u)) there tag)
     task_plain low up false found = let (k, w, d, u, there, tag) = found in task_marks k w d u there tag
 
-    -- in the running stack's last frame
-    pub task_tops : from ≡ r.f → 2 ≤ offset → from + offset ≤ top → CellMeets a q f offset (Ok (from + offset)) (cell (here a.member a.task q) f offset)
-    task_tops last low up =
-        let b = seat core r a f n.standing n.among own in
-        let h = height-is a.plan a.member.constants.number a.member.progress.job b.slot b.outer b.below in
-        let at = seat_address core r a q f n.standing b n.entered own in
-        let w = one_word (spot_in b.slot b.outer b.below) b.frame.standing in
-        let full : base core r a b.slot + stack_words (acts core r a b.slot b.outer (b.frame ∷ b.below)) ≡ b.top =
-        ⊎_elim (λ z. z.0) (λ z. absurd (omega (arith, z, h, at, w, last, e))) (b.part.last (last_slot core r a f n own (sym e ∙ last))) in
-        let l = lands_last core r a q f n.standing b n.entered own offset low (omega (arith, up, e)) full in
-        let F : ℕ → Type 0 = λ x. CellMeets a q f offset (Ok (x + offset)) (cell (here a.member a.task q) f offset) in
-        subst F (sym e) l
+    -- the running stack's top
+    pub top_runs : r.bosr ≤ from → from ≤ r.losr → r.s ≡ top
+    top_runs low high =
+        let s = has_slot core r a in
+        (top_running core r a from top r.slot (from - r.bosr) under_top (omega (arith, s.first, low)) (omega (arith, s.last, low, high)) refl).0
 
     -- the stack lies inside core
     pub top_inside : (top < length core) × (length core < 2 ^ 20)
@@ -95,3 +87,13 @@ module _ (core : List Tagged) (r : Regs) (a : LiveContext core r) (q : Place) (f
 module _ (core : List Tagged) (r : Regs) (a : LiveContext core r) where
   pub dictionary_small : r.dict < 2 ^ 20
   dictionary_small = let d = dictionary_is core r a in let l = dictionary_low core r a in let z = slot_zero core r a in omega (arith, d, l, z.0, z.1)
+
+  -- each frame's mark lies in core
+  pub mark_small : (f from : ℕ) (n : NamesEntered (reach_of a.member.progress.job a.task) f) → from ≡ frame_address a.plan a.member a.task f → from < 2 ^ 20
+  mark_small f from n e = ⊎_elim
+      (λ (own : 1 < f). address_small core r a a.task.place f from 0 n e own)
+      (λ (low : f ≤ 1). ⊎_elim
+      (λ (zero : from ≡ 0). omega (arith, zero))
+      (λ (some : from ≡ 0 → ⊥). (let is = is_base core r a f from n e low some in let s = dictionary_small in omega (arith, is, s)))
+      (cases_eq from 0))
+      (cases_lt 1 f)

@@ -68,6 +68,10 @@ module _ (core : List Tagged) (r : Regs) (a : LiveContext core r) where
   irw_is at owner w (Intrinsic n) i s ref fits e = absurd ref
   irw_is at owner w (Words.Segment n) i s ref fits e = absurd ref
 
+  -- and each IRW stands for its couple
+  pub couple_stands : (w : Tagged) (i : Irw) → IsIrw i → w ≡ irw_word i → StandsFor a 0 0 w (Name i.couple)
+  couple_stands w i fits e = ((e, λ five. omega (arith, five)), fits.couple)
+
   -- a stuffed reference of a frame
   pub record Stuffed (w : Tagged) (v : Word) : Type 0 where
     pub frame : ℕ

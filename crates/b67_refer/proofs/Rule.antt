@@ -248,11 +248,6 @@ module _ (core : List Tagged) (r : Regs) (a : LiveContext core r) where
         let F : Answer Word → Type 0 = λ y. CellMeets a q f offset (Ok (frame_address a.plan a.member a.task f + offset)) y in
         subst F (sym found) is
 
-    -- in a stack's last frame all words up to the top are cells
-    pub lands_last : (offset : ℕ) → 2 ≤ offset → frame_address a.plan a.member a.task f + offset ≤ b.top → base core r a b.slot + stack_words (acts core r a b.slot b.outer (b.frame ∷ b.below)) ≡ b.top
-        → CellMeets a q f offset (Ok (frame_address a.plan a.member a.task f + offset)) (cell (here a.member a.task q) f offset)
-    lands_last offset low up full = lands_inside offset low (let y = cells_end in omega (arith, full, y, up))
-
     pub lands : (offset : ℕ) → 2 ≤ offset → frame_address a.plan a.member a.task f + offset ≤ b.top
         → ((k : ℕ) (w : Tagged) → frame_address a.plan a.member a.task f + 2 ≤ k → k ≤ frame_address a.plan a.member a.task f + offset → slice_get core k ≡ Some w → w.tag ≡ 3 → ⊥)
         → CellMeets a q f offset (Ok (frame_address a.plan a.member a.task f + offset)) (cell (here a.member a.task q) f offset)

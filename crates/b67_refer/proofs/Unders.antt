@@ -14,10 +14,9 @@ use Rattle.b67_ctl.specs.Layout.{toscw_word, IsToscw}
 use Rattle.b67_word.specs.declared.faults.Fault.TheVariants.{InvalidAddress}
 use Rattle.b67_model.specs.State as State
 use Rattle.b67_model.specs.Common.{Frame, Standing, height, reach_of, NamesEntered, frame_at, named}
-use Rattle.b67_stack.specs.Stacks.{StackPlace, head_size, stack_words, mark_place}
-use Rattle.b67_layout.specs.Common.{slot_of, spot_in, head, stack_of_task, frame_address, here}
-use Rattle.b67_stack.proofs.Tops.{mark_high}
-use Rattle.b67_refer.proofs.Slots.{registers, whole}
+use Rattle.b67_stack.specs.Stacks.{StackPlace, head_size, stack_words}
+use Rattle.b67_layout.specs.Common.{spot_in, head, frame_address, here}
+use Rattle.b67_refer.proofs.Slots.{has_slot}
 use Rattle.b67_layout.proofs.Frames.{height-is}
 use Rattle.b67_refer.specs.RunningContext.{RunningContext, LiveContext, IsShown}
 use Rattle.b67_refer.specs.LiveCells.{IsTop, IsUnder}
@@ -106,20 +105,6 @@ module _ (core : List Tagged) (r : Regs) (a : LiveContext core r) where
       sym (slot_found from top r.stack_size u refl) ∙ ap (λ x. (x - r.stacks) / r.stack_size) (sym e)
       ∙ slot_found (frame_address a.plan a.member a.task f) (seat core r a f n.standing n.among own).top r.stack_size (under f n own) refl
 
-  -- where the frame's mark is the last one of the running stack, it lies in that stack
-  pub last_slot : (f : ℕ) (n : NamesEntered (reach_of a.member.progress.job a.task) f) (own : 1 < f) → frame_address a.plan a.member a.task f ≡ r.f → r.slot ≡ (seat core r a f n.standing n.among own).slot
-  unfolding under
-  last_slot f n own e =
-      let g = registers core r a in
-      let k = slot_of a.plan a.member.constants.number a.runner.number in
-      let stack = stack_of_task a.plan a.member.constants.number a.member.progress.job k a.runner in
-      let w = whole core r a a.runner a.running.task in
-      let h = mark_high stack in
-      let u : IsUnder a r.f w.top = record { slot = k; disp = mark_place stack; low = omega (arith, h, w.part.low, w.part.room); at = g.mark; is = w.top_is } in
-      let mine : (r.f - r.stacks) / r.stack_size ≡ k = slot_found r.f w.top r.stack_size u refl in
-      let its = slot_found (frame_address a.plan a.member a.task f) (seat core r a f n.standing n.among own).top r.stack_size (under f n own) refl in
-      g.slot ∙ sym mine ∙ ap (λ x. (x - r.stacks) / r.stack_size) (sym e) ∙ its
-
   pub seat_low : (f : ℕ) (n : NamesEntered (reach_of a.member.progress.job a.task) f) (own : 1 < f) → height (seat core r a f n.standing n.among own).below < a.plan.size
   seat_low f n own =
       let b = seat core r a f n.standing n.among own in
@@ -162,6 +147,17 @@ module _ (core : List Tagged) (r : Regs) (a : LiveContext core r) where
       (λ (one : 1 ≤ f). absurd (let is : f ≡ 1 = omega (arith, low, one) in other (e ∙ ap (frame_address a.plan a.member a.task) is ∙ dictionary_home core r a ∙ sym (dictionary_is core r a))))
       (cases_lt f 1))
       (cases_lt 1 f)
+
+  -- a frame whose mark doesn't lie below the slots is a task's
+  pub is_slot : (f from : ℕ) → NamesEntered (reach_of a.member.progress.job a.task) f → from ≡ frame_address a.plan a.member a.task f → r.stacks ≤ from → 1 < f
+  is_slot f from n e high =
+      let d = dictionary_low core r a in
+      let k = dictionary_is core r a in
+      let z = stacks_is core r a in
+      is_task f from n e (λ i. omega (arith, i, high, z, d)) (λ i. omega (arith, i, high, z, d, k))
+
+  pub is_running : (f from : ℕ) → NamesEntered (reach_of a.member.progress.job a.task) f → from ≡ frame_address a.plan a.member a.task f → r.bosr ≤ from → 1 < f
+  is_running f from n e high = is_slot f from n e (let s = (has_slot core r a).first in omega (arith, s, high))
 
   pub is_base : (f from : ℕ) → NamesEntered (reach_of a.member.progress.job a.task) f → from ≡ frame_address a.plan a.member a.task f → f ≤ 1 → (from ≡ 0 → ⊥) → from ≡ r.dict
   is_base f from n e low some = ⊎_elim (λ z. z) (λ other. absurd (let own = is_task f from n e some other in omega (arith, own, low))) (cases_eq from r.dict)

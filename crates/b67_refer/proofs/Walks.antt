@@ -24,7 +24,7 @@ use Rattle.b67_refer.specs.RunningContext.{LiveContext}
 use Rattle.b67_refer.specs.LiveCells.{CellMeets, IsUnder, cell_or_none}
 use Rattle.b67_refer.proofs.Slots.{Part, whole, drop, base, acts, mark_in, part_mark, registers}
 use Rattle.b67_refer.proofs.Seats.{seat, order_of}
-use Rattle.b67_refer.proofs.Bases.{slot_inside}
+use Rattle.b67_refer.proofs.Bases.{slot_inside, stacks_is}
 use Rattle.b67_refer.proofs.Rule.{end_some, end_lies, get_reverse, word_tag, seat_address}
 use Rattle.b67_refer.proofs.Turns.{back_of}
 use Rattle.b67_refer.proofs.Unders.{one_word, same_slot, same_ends}
@@ -144,6 +144,10 @@ module _ (core : List Tagged) (r : Regs) (a : LiveContext core r) where
 
     pub ends_inside : past ≤ (whole core r a x.holder x.live).top + 1
     ends_inside = let n = all_words in let e = x.past_is in let low = x.part.low in omega (arith, n, e, low)
+
+    -- it lies in a slot
+    pub mark_high : r.stacks ≤ mark
+    mark_high = let z = stacks_is core r a in let m = x.mark_is in omega (arith, z, m)
 
     -- no word behind its head has tag 3
     pub plain : (k : ℕ) (w : Tagged) → mark + 2 ≤ k → k < past → slice_get core k ≡ Some w → w.tag ≡ 3 → ⊥

@@ -1,4 +1,4 @@
--- References to cells of the running stack's top activation record.
+-- What a reference's word names, and where a word leads.
 use Rattle.std.specs.Prelude.{ℕ, List, Result, Ok}
 use Rattle.b67_word.specs.Tagged.{Tagged}
 use Rattle.b67_word.specs.declared.couples.Place.{Place}

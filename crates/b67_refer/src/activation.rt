@@ -1,22 +1,52 @@
-//! The activation record in which a procedure lies.
+//! The activation record of an address: a stack's last one, and the one in which a procedure lies.
 
 ghost use Rattle.std.specs.Prelude.{◌≡◌, ℕ, ◌+◌, ◌*◌, List};
 ghost use Rattle.b67_word.specs.declared.couples.Place.{Place};
 ghost use Rattle.b67_model.specs.Environment.{level_of_frame};
 ghost use Rattle.b67_model.specs.State.{frame};
 ghost use Rattle.b67_layout.specs.Meets.{here};
-ghost use Rattle.b67_refer.specs.RunningContext.{RunningContext};
+ghost use Rattle.b67_refer.specs.RunningContext.{RunningContext, LiveContext};
+ghost use Rattle.b67_refer.specs.LiveCells as live;
 ghost use Rattle.b67_refer.specs.Cells.{view, frame_at_core};
 ghost use Rattle.b67_refer.specs.Ends.{IsProcAt};
 
-use crate::cells::last_record;
 use crate::environment::mark_at;
 use crate::spots::{is_elsewhere, spot_of};
 use b67_core::Core;
-use b67_ctl::Regs;
+use b67_ctl::{Regs, Toscw};
 
-/// How many of the running stack's activation records, from the last one down, are looked at by their marks alone.
-const NEAR_RECORDS: u32 = 2;
+/// How many of the running stack's marks, from the last one down, are looked at before words are.
+const LAST_MARKS: u32 = 2;
+
+/// The last activation record of a stack: where its mark stands, and the address behind its last word.
+#[derive(Clone, Copy, Debug, PartialEq, Eq)]
+pub(crate) struct LastRecord {
+    pub mark: u32,
+    pub past: u32,
+}
+
+/// The last activation record of the stack in which an address of a slot is. Of the running stack registers tell it, of any
+/// other its base word.
+#[inline(always)]
+pub(crate) fn last_record(core: &Core, regs: &Regs, at: u32) -> LastRecord
+    requires { (a : LiveContext core.now regs.now) × (top : ℕ) × live.IsUnder a at top }
+    ensures mark { (a : LiveContext core.now regs.now) (top : ℕ) → (under : live.IsUnder a at top) → result.mark ≡ under.is.mark }
+    ensures past { (a : LiveContext core.now regs.now) (top : ℕ) → live.IsUnder a at top → result.past ≡ top + 1 }
+{
+    let slot = spot_of(regs, at).slot;
+    if slot == u32::from(regs.slot) {
+        return LastRecord {
+            mark: regs.f,
+            past: regs.s + 1,
+        };
+    }
+    let first = regs.stacks + slot * u32::from(regs.stack_size);
+    let top = Toscw::read(core.get(first));
+    LastRecord {
+        mark: first + u32::from(top.f),
+        past: first + u32::from(top.s) + 1,
+    }
+}
 
 /// An activation record in a slot: the slot's number, the displacement of its mark, and its level.
 #[derive(Clone, Copy, Debug, PartialEq, Eq)]
@@ -37,7 +67,7 @@ fn mark_under(core: &Core, regs: &Regs, cell: u32) -> u32
 {
     let mut last = regs.f;
     let mut end = regs.s + 1;
-    for _turn in 0..NEAR_RECORDS {
+    for _turn in 0..LAST_MARKS {
         if last < cell && cell < end && core.get(last + 1).tag() == 3 {
             return last;
         }
@@ -90,14 +120,4 @@ pub fn enclosure_of(core: &Core, regs: &Regs, cell: u32) -> Enclosure
         },
         mark,
     }
-}
-
-/// The activation record in which the cell of a procedure lies: the environment of the procedure's activations.
-#[inline(always)]
-pub fn activation_of(core: &Core, regs: &Regs, cell: u32) -> Activation
-    requires { (a : RunningContext core.now regs.now) × (q : Place) × (f : ℕ) × (segment : ℕ) × (level : ℕ) × (place : Place) × IsProcAt a q cell f segment level place }
-    ensures { (a : RunningContext core.now regs.now) (q : Place) (f segment level : ℕ) (place : Place) → IsProcAt a q cell f segment level place
-        → result ≡ record { stack = (view a f).stack; disp = (view a f).disp; level = level_of_frame (frame (here a.member a.task q) f) } }
-{
-    enclosure_of(core, regs, cell).record
 }

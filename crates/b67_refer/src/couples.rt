@@ -1,9 +1,20 @@
-//! Couples, as the running level splits them.
+//! The cell that a couple names, which the running level splits.
 
-ghost use Rattle.std.specs.Prelude.{◌≡◌, ◌≤◌, ◌<◌, ◌^◌};
+ghost use Rattle.std.specs.Prelude.{◌≡◌, ◌≢◌, ◌≤◌, ◌<◌, ◌^◌, length};
 ghost use Rattle.b67_word.specs.Couples.{couple};
+ghost use Rattle.b67_word.specs.declared.couples.Place.{Place};
+ghost use Rattle.b67_ctl.specs.declared.references.Irw.{Irw};
+ghost use Rattle.b67_ctl.specs.Layout.{irw_word, IsIrw};
+ghost use Rattle.b67_model.specs.Cells.{named};
+ghost use Rattle.b67_layout.specs.Meets.{here};
+ghost use Rattle.b67_refer.specs.RunningContext.{RunningContext, IsShown};
+ghost use Rattle.b67_refer.specs.Cells.{FindsCell};
+ghost use Rattle.b67_refer.specs.Own.{NamesCell};
 
-use b67_word::Couple;
+use crate::cells::{Look, base_cell, near_cell, slot_cell};
+use b67_core::Core;
+use b67_ctl::{Irw, Regs};
+use b67_word::{Couple, Fault, Word};
 
 /// The five bits of a number, the lowest first.
 const REVERSED: [u8; 32] = [
@@ -34,4 +45,54 @@ pub fn couple_at(bits: u16, level: u8) -> Couple
         level: REVERSED[(bits >> 9) as usize] & LEVELS[level as usize],
         disp: bits & DISPS[level as usize],
     }
+}
+
+/// The level below which no couple's cell is looked for: those of the dictionary and the MCP aren't near. The top record's mark is
+/// never theirs, so there no test is needed.
+#[inline(always)]
+fn lowest(look: Look) -> u8 {
+    match look {
+        Look::Top => 0,
+        Look::Near => 2,
+    }
+}
+
+/// The core address of the cell that a couple's word names, if it is near, or, as `look` asks, one of the top activation record.
+/// Else 0: the word may name another cell, or none. Nothing is called.
+#[inline(always)]
+pub fn near_place(core: &Core, regs: &Regs, display: &[u32; 32], w: Word, look: Look) -> u32
+    requires { (a : RunningContext core.now regs.now) × IsShown a display.now }
+    ensures names { result ≢ 0 → NamesCell core.now regs.now display.now w result }
+    ensures inside { result ≢ 0 → result < length core.now }
+    ensures couple { result ≢ 0 → w.tag ≡ 1 }
+    ensures word { result ≢ 0 → (name : Irw) × IsIrw name × (w ≡ irw_word name) }
+{
+    let name = match Irw::from_word(w) {
+        Some(name) => name,
+        None => return 0,
+    };
+    let c = couple_at(name.couple, regs.level);
+    if c.level > regs.level || c.disp < 2 || c.level < lowest(look) {
+        return 0;
+    }
+    near_cell(core, regs, display[c.level as usize], c.disp, look)
+}
+
+/// The core address of the cell that a couple names in the running environment. INVALID ADDRESS exactly if the level
+/// is above the running one, or the activation record at that level has no such cell: displacements 2 and up, and 8 to
+/// 18 of the MCP.
+#[inline(always)]
+pub fn cell_of(core: &Core, regs: &Regs, display: &[u32; 32], c: Couple) -> Result<u32, Fault>
+    requires { (a : RunningContext core.now regs.now) × IsShown a display.now }
+    ensures { (a : RunningContext core.now regs.now) (q : Place) → IsShown a display.now
+        → FindsCell a q result (named (here a.member a.task q) c) }
+{
+    if c.level > regs.level {
+        return Err(Fault::InvalidAddress);
+    }
+    let base = display[c.level as usize];
+    if c.level > 1 {
+        return slot_cell(core, regs, base, c.disp);
+    }
+    base_cell(core, regs, base, c.disp)
 }

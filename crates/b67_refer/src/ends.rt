@@ -1,6 +1,6 @@
-//! Where references end.
+//! The end of a chain of references.
 
-ghost use Rattle.std.specs.Prelude.{◌≡◌, ℕ, List, Result, Option, Some, Ok, slice_get};
+ghost use Rattle.std.specs.Prelude.{◌≡◌, ◌≢◌, ℕ, Result, Option, Some, Ok, slice_get};
 ghost use Rattle.b67_word.specs.Tagged.{Tagged};
 ghost use Rattle.b67_word.specs.declared.couples.Place.{Place};
 ghost use Rattle.b67_model.specs.Words as Words;
@@ -12,10 +12,11 @@ ghost use Rattle.b67_refer.specs.RunningContext.{RunningContext, LiveContext, Is
 ghost use Rattle.b67_refer.specs.LiveCells.{reach, StandsFor, IsCellAt, FindsCell};
 ghost use Rattle.b67_refer.specs.LiveEnds.{IsReference, EndMeets, LinkMeets};
 ghost use Rattle.b67_refer.specs.Ends.{IsCopyOf, HasTagAt};
-ghost use Rattle.b67_refer.specs.Own.{NamesCell, FollowsTo};
+ghost use Rattle.b67_refer.specs.Own.{NamesCell, FollowsTo, LeadsTo};
 
-use crate::cells::{cell_of, stuffed_cell};
-use crate::couples::couple_at;
+use crate::cells::Look;
+use crate::couples::{cell_of, couple_at, near_place};
+use crate::stuffed::cell_at;
 use b67_core::Core;
 use b67_ctl::{AreaHead, DataDesc, IntrinsicPcw, Irw, Regs, Sirw};
 use b67_model::MOST_LINKS;
@@ -59,6 +60,25 @@ pub(crate) fn element_at(core: &Core, regs: &Regs, original: u32, index: u32) ->
         return Err(Fault::InvalidIndex);
     }
     Ok(End::Element { original, index })
+}
+
+/// The element to which an element copy leads. INVALID INDEX if the array, as it is now, is no longer than the index, INVALID
+/// OPERAND if the word is neither an element copy nor a reference.
+#[inline(always)]
+pub fn element_of(core: &Core, regs: &Regs, w: Word) -> Result<End, Fault>
+    requires { (a : LiveContext core.now regs.now) × (at : ℕ) × (owner : ℕ) × (v : Words.Word) × StandsFor a at owner w v }
+    ensures leads { (a : LiveContext core.now regs.now) (q : Place) (at owner : ℕ) (v : Words.Word) → StandsFor a at owner w v → w.tag ≢ 1 → EndMeets a q result (follow (here a.member a.runner q) v) }
+    ensures copy { (end : End) → result ≡ Ok end → w.tag ≡ 5 }
+{
+    if w.tag() != 5 {
+        return Err(Fault::InvalidOperand);
+    }
+    let copy = DataDesc::read(w);
+    if !copy.indexed {
+        return Err(Fault::InvalidOperand);
+    }
+    let original = owner(core, copy);
+    element_at(core, regs, original, copy.length)
 }
 
 /// The end at an array's descriptor in a cell.
@@ -112,22 +132,16 @@ fn end_at(core: &Core, regs: &Regs, at: u32) -> Result<Option<End>, Fault>
     }
 }
 
-/// The cell that a reference word names. Few cells deep in the running stack may be looked at without a call.
+/// The cell that a reference's word names.
 #[inline(always)]
-fn named_cell(
-    core: &Core,
-    regs: &Regs,
-    display: &[u32; 32],
-    w: Word,
-    few: bool,
-) -> Result<u32, Fault>
+fn named_cell(core: &Core, regs: &Regs, display: &[u32; 32], w: Word) -> Result<u32, Fault>
     requires { (a : LiveContext core.now regs.now) × IsShown (running_of a) display.now × (at : ℕ) × (owner : ℕ) × (v : Words.Word) × StandsFor a at owner w v × IsReference v }
     ensures { (a : LiveContext core.now regs.now) (q : Place) → IsShown (running_of a) display.now → (at owner : ℕ) (v : Words.Word) → StandsFor a at owner w v
         → IsReference v → FromEither (λ (b : LiveContext core.now regs.now). FindsCell b q result (place_of (here a.member a.runner q) v)) a }
 {
     match Irw::from_word(w) {
         Some(r) => cell_of(core, regs, display, couple_at(r.couple, regs.level)),
-        None => stuffed_cell(core, regs, Sirw::read(w), few),
+        None => cell_at(core, regs, Sirw::read(w)),
     }
 }
 
@@ -139,7 +153,6 @@ fn chase_reference(
     display: &[u32; 32],
     w: Word,
     links: u32,
-    few: bool,
 ) -> Result<End, Fault>
     requires { (a : LiveContext core.now regs.now) × IsShown (running_of a) display.now × (at : ℕ) × (owner : ℕ) × (v : Words.Word) × StandsFor a at owner w v × IsReference v }
     ensures { (a : LiveContext core.now regs.now) (q : Place) → IsShown (running_of a) display.now → (at owner : ℕ) (v : Words.Word) → StandsFor a at owner w v
@@ -147,7 +160,7 @@ fn chase_reference(
 {
     let mut w = w;
     for _i in 0..links {
-        let at = match named_cell(core, regs, display, w, few) {
+        let at = match named_cell(core, regs, display, w) {
             Ok(at) => at,
             Err(fault) => return Err(fault),
         };
@@ -160,6 +173,24 @@ fn chase_reference(
     Err(Fault::Loop)
 }
 
+/// Where a couple's word leads, if the cell that it names is near, or, as `look` asks, one of the top activation record, and holds
+/// no reference. Else None: the word may lead anywhere.
+#[inline(always)]
+pub fn near_end(core: &Core, regs: &Regs, display: &[u32; 32], w: Word, look: Look) -> Option<End>
+    requires { (a : RunningContext core.now regs.now) × IsShown a display.now }
+    ensures leads { (end : End) → result ≡ Some end → LeadsTo core.now regs.now display.now w end }
+    ensures couple { (end : End) → result ≡ Some end → w.tag ≡ 1 }
+{
+    let at = near_place(core, regs, display, w, look);
+    if at == 0 {
+        return None;
+    }
+    match end_at(core, regs, at) {
+        Ok(end) => end,
+        Err(_) => None,
+    }
+}
+
 /// Where a reference of the running task leads that names the cell at an address.
 #[inline(always)]
 pub fn chase_from(core: &Core, regs: &Regs, display: &[u32; 32], at: u32) -> Result<End, Fault>
@@ -169,7 +200,7 @@ pub fn chase_from(core: &Core, regs: &Regs, display: &[u32; 32], at: u32) -> Res
 {
     match end_at(core, regs, at) {
         Ok(Some(end)) => Ok(end),
-        Ok(None) => chase_reference(core, regs, display, core.get(at), MORE_LINKS, true),
+        Ok(None) => chase_reference(core, regs, display, core.get(at), MORE_LINKS),
         Err(fault) => Err(fault),
     }
 }
@@ -187,15 +218,7 @@ pub fn chase(core: &Core, regs: &Regs, display: &[u32; 32], w: Word) -> Result<E
         → FromEither (λ (b : LiveContext core.now regs.now). EndMeets b q result (follow (here a.member a.runner q) v)) a }
 {
     if w.tag() == 1 {
-        return chase_reference(core, regs, display, w, MOST_LINKS, false);
+        return chase_reference(core, regs, display, w, MOST_LINKS);
     }
-    if w.tag() != 5 {
-        return Err(Fault::InvalidOperand);
-    }
-    let d = DataDesc::read(w);
-    if !d.indexed {
-        return Err(Fault::InvalidOperand);
-    }
-    let original = owner(core, d);
-    element_at(core, regs, original, d.length)
+    element_of(core, regs, w)
 }

@@ -18,7 +18,7 @@ ghost use Rattle.b67_task_start.specs.Starts.{StartsSome, MayStart, IsStarted, c
 use crate::opening::open_slot;
 use b67_core::Core;
 use b67_ctl::Pcw;
-use b67_refer::activation_of;
+use b67_refer::enclosure_of;
 use b67_task_start_stack::{build_child, mark_disp};
 use b67_task_tables::{JobRow, Machine, TaskRow, TaskState, Tasks};
 
@@ -76,7 +76,7 @@ pub fn start(machine: &mut Machine, cell: u32, args: u32) -> u32
     let number = machine.tasks.next_number(parent.job);
     let slot = open_slot(&mut machine.cpu, &mut machine.areas);
     let procedure = procedure_at(&machine.cpu.core, cell);
-    let env = activation_of(&machine.cpu.core, &machine.cpu.regs, cell);
+    let env = enclosure_of(&machine.cpu.core, &machine.cpu.regs, cell).record;
     let row = TaskRow {
         job: parent.job,
         number,

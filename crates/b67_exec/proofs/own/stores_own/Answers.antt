@@ -1,21 +1,18 @@
-use Rattle.std.proofs.Common.{sym, subst}
+use Rattle.std.proofs.Common.{sym, subst, inl, inr}
 use Rattle.b67_model.specs.declared.operators.Op.TheVariants.{Plain}
 use Rattle.b67_model.specs.declared.operators.Code.{Code}
 use Rattle.b67_exec.specs.Far.{OnShortly}
-use Rattle.b67_exec.proofs.Owns.{stod_made, ston_made}
+use Rattle.b67_exec.proofs.Owns.{store_made}
 use Rattle.b67_exec.proofs.own.stores_own.Goals as goal
+use Rattle.b67_exec.proofs.own.stores_own.Goals.{in-Stod, in-Ston}
 
 pub returns-in-Load : goal.returns-in-Load
 returns-in-Load c = let P : Code → Type 0 = λ k. OnShortly (Plain k) c.args.next c.args.cpu.now c.loads_own.result c.loads_own.new.cpu in subst P (sym c.in-Load.is) c.loads_own.ensures
 
-pub returns-in-Stod : goal.returns-in-Stod
-returns-in-Stod c =
-    let P : Code → Type 0 = λ k. OnShortly (Plain k) c.args.next c.args.cpu.now c.store_own.result c.store_own.new.cpu in
+pub returns : goal.returns
+returns c =
     let e = c.store_own.ensures in
-    subst P (sym c.in-Stod.is) (stod_made c.args.next c.args.cpu.now c.store_own.new.cpu c.store_own.result e.row e.stays e.rest)
-
-pub returns-in-Ston : goal.returns-in-Ston
-returns-in-Ston c =
-    let P : Code → Type 0 = λ k. OnShortly (Plain k) c.args.next c.args.cpu.now c.store_own-in-Ston.result c.store_own-in-Ston.new.cpu in
-    let e = c.store_own-in-Ston.ensures in
-    subst P (sym c.in-Ston.is) (ston_made c.args.next c.args.cpu.now c.store_own-in-Ston.new.cpu c.store_own-in-Ston.result e.row e.stays e.rest)
+    store_made c.args.next c.args.cpu.now c.store_own.new.cpu c.args.code c.match-code.keeps c.store_own.result (elim c.match-code.branch [
+      | in-Stod w ↦ inl (w.in-Stod.is, w.keeps-is)
+      | in-Ston w ↦ inr (w.in-Ston.is, w.keeps-is)
+    ]) e.row e.stays e.rest

@@ -11,8 +11,8 @@ use Rattle.b67_mcp_process.proofs.Rows.{not_level, no_room, is_depended_on, all_
 use Rattle.b67_mcp_process.proofs.Cells.{sizes}
 use Rattle.b67_mcp_process.proofs.asking.admit.Goals as goal
 
-pub activation_of-env-requires : goal.activation_of-env-requires
-activation_of-env-requires c =
+pub enclosure_of-requires : goal.enclosure_of-requires
+enclosure_of-requires c =
     let (a, q, f, segment, level, place, e) = c.requires.procedure in
     (a, q, f, segment, level, place, e.procedure)
 
@@ -25,8 +25,8 @@ procedure_at-procedure-requires c =
 pub overflow_add-env : goal.overflow_add-env
 overflow_add-env c =
     let (a, q, f, segment, level, place, e) = c.requires.procedure in
-    let env = c.activation_of-env.ensures a q f segment level place e.procedure in
-    let is : c.activation_of-env.result.level ≡ level_of_frame (frame (here a.member a.task q) f) = ap (λ (z : Activation). z.level) env in
+    let env = c.enclosure_of.ensures.home a q f segment level place e.procedure in
+    let is : c.enclosure_of.result.record.level ≡ level_of_frame (frame (here a.member a.task q) f) = ap (λ (z : Activation). z.level) env in
     omega (arith, is, level_small c.args.cpu.now c.args.cpu.now.regs a q c.args.cell f segment level place e.procedure)
 
 pub is_critical-requires : goal.is_critical-requires
@@ -38,9 +38,9 @@ pub returns-then-env-procedure : goal.returns-then-env-procedure
 returns-then-env-procedure c = record {
   row = λ a q f segment level place e.
       let now = c.args.cpu.now in
-      let env = c.activation_of-env.ensures a q f segment level place e.procedure in
+      let env = c.enclosure_of.ensures.home a q f segment level place e.procedure in
       let pcw = c.procedure_at-procedure.ensures (Unasked.pcw now now.regs a q c.args.cell f segment level place e.procedure) (pcw_fits now now.regs a q c.args.cell f segment level place e.procedure) (pcw_there now now.regs a q c.args.cell f segment level place e.procedure) in
-      let one : c.activation_of-env.result.level ≡ level_of_frame (frame (here a.member a.task q) f) = ap (λ (z : Activation). z.level) env in
+      let one : c.enclosure_of.result.record.level ≡ level_of_frame (frame (here a.member a.task q) f) = ap (λ (z : Activation). z.level) env in
       let two : c.procedure_at-procedure.result.level ≡ level = ap (λ (z : Pcw). z.level) pcw in
       not_level (here a.member a.task q) f level c.args.count (λ z. c.if-env-procedure.true (omega (arith, one, two, z)));
 }
@@ -49,9 +49,9 @@ pub returns-then-count-from : goal.returns-then-count-from
 returns-then-count-from c = record {
   row = λ a q f segment level place e.
       let now = c.args.cpu.now in
-      let env = c.activation_of-env.ensures a q f segment level place e.procedure in
+      let env = c.enclosure_of.ensures.home a q f segment level place e.procedure in
       let pcw = c.procedure_at-procedure.ensures (Unasked.pcw now now.regs a q c.args.cell f segment level place e.procedure) (pcw_fits now now.regs a q c.args.cell f segment level place e.procedure) (pcw_there now now.regs a q c.args.cell f segment level place e.procedure) in
-      let one : c.activation_of-env.result.level ≡ level_of_frame (frame (here a.member a.task q) f) = ap (λ (z : Activation). z.level) env in
+      let one : c.enclosure_of.result.record.level ≡ level_of_frame (frame (here a.member a.task q) f) = ap (λ (z : Activation). z.level) env in
       let two : c.procedure_at-procedure.result.level ≡ level = ap (λ (z : Pcw). z.level) pcw in
       let test : level_of_frame (frame (here a.member a.task q) f) + 1 ≡ level = omega (arith, one, two, c.if-env-procedure.false) in
       let size = sizes now a q c.args.cell f segment level place e in
@@ -62,9 +62,9 @@ pub returns-then-is_critical : goal.returns-then-is_critical
 returns-then-is_critical c = record {
   row = λ a q f segment level place e.
       let now = c.args.cpu.now in
-      let env = c.activation_of-env.ensures a q f segment level place e.procedure in
+      let env = c.enclosure_of.ensures.home a q f segment level place e.procedure in
       let pcw = c.procedure_at-procedure.ensures (Unasked.pcw now now.regs a q c.args.cell f segment level place e.procedure) (pcw_fits now now.regs a q c.args.cell f segment level place e.procedure) (pcw_there now now.regs a q c.args.cell f segment level place e.procedure) in
-      let one : c.activation_of-env.result.level ≡ level_of_frame (frame (here a.member a.task q) f) = ap (λ (z : Activation). z.level) env in
+      let one : c.enclosure_of.result.record.level ≡ level_of_frame (frame (here a.member a.task q) f) = ap (λ (z : Activation). z.level) env in
       let two : c.procedure_at-procedure.result.level ≡ level = ap (λ (z : Pcw). z.level) pcw in
       let test : level_of_frame (frame (here a.member a.task q) f) + 1 ≡ level = omega (arith, one, two, c.if-env-procedure.false) in
       let size = sizes now a q c.args.cell f segment level place e in
@@ -75,9 +75,9 @@ pub returns : goal.returns
 returns c = record {
   row = λ a q f segment level place e.
       let now = c.args.cpu.now in
-      let env = c.activation_of-env.ensures a q f segment level place e.procedure in
+      let env = c.enclosure_of.ensures.home a q f segment level place e.procedure in
       let pcw = c.procedure_at-procedure.ensures (Unasked.pcw now now.regs a q c.args.cell f segment level place e.procedure) (pcw_fits now now.regs a q c.args.cell f segment level place e.procedure) (pcw_there now now.regs a q c.args.cell f segment level place e.procedure) in
-      let one : c.activation_of-env.result.level ≡ level_of_frame (frame (here a.member a.task q) f) = ap (λ (z : Activation). z.level) env in
+      let one : c.enclosure_of.result.record.level ≡ level_of_frame (frame (here a.member a.task q) f) = ap (λ (z : Activation). z.level) env in
       let two : c.procedure_at-procedure.result.level ≡ level = ap (λ (z : Pcw). z.level) pcw in
       let test : level_of_frame (frame (here a.member a.task q) f) + 1 ≡ level = omega (arith, one, two, c.if-env-procedure.false) in
       let size = sizes now a q c.args.cell f segment level place e in

@@ -13,8 +13,8 @@ use Rattle.b67_refer.proofs.ends.named_cell.Goals as goal
 pub couple_at-requires-clause-level : goal.couple_at-requires-clause-level
 couple_at-requires-clause-level c = let a = running_of c.requires.0 in omega (arith, level_is c.args.core.now c.args.regs.now a, level_small c.args.core.now c.args.regs.now a)
 
-pub stuffed_cell-requires : goal.stuffed_cell-requires
-stuffed_cell-requires c =
+pub cell_at-requires : goal.cell_at-requires
+cell_at-requires c =
     let (a, shown, at, owner, v, stands, ref) = c.requires in
     let s = stuffed c.args.core.now c.args.regs.now a at owner c.args.w v stands ref (λ i fits e. none-some i (sym c.in-None.is ∙ c.from_word.ensures.known i fits e)) in
     let k : Sirw = record { stack = (view a s.frame).stack; disp = (view a s.frame).disp; offset = s.offset } in
@@ -34,6 +34,6 @@ returns-in-None c = λ a q shown at owner v stands ref.
     let s = stuffed c.args.core.now c.args.regs.now a at owner c.args.w v stands ref (λ i fits e. none-some i (sym c.in-None.is ∙ c.from_word.ensures.known i fits e)) in
     let k : Sirw = record { stack = (view a s.frame).stack; disp = (view a s.frame).disp; offset = s.offset } in
     let same : k ≡ c.read.result = sym (c.read.ensures k s.fits s.is) in
-    let found = c.stuffed_cell.ensures a q s.frame s.names (ap (λ (x : Sirw). let z : StackPlace = record { stack = x.stack; disp = x.disp } in z) same) in
-    let moved = subst (λ (n : ℕ). CellMeets a q s.frame n c.stuffed_cell.result (cell (here a.member a.runner q) s.frame n)) (sym (ap (λ (x : Sirw). x.offset) same)) found in
-    inl (finds_ref c.args.core.now c.args.regs.now a q v s.frame s.offset c.stuffed_cell.result s.word moved)
+    let found = c.cell_at.ensures a q s.frame s.names (ap (λ (x : Sirw). let z : StackPlace = record { stack = x.stack; disp = x.disp } in z) same) in
+    let moved = subst (λ (n : ℕ). CellMeets a q s.frame n c.cell_at.result (cell (here a.member a.runner q) s.frame n)) (sym (ap (λ (x : Sirw). x.offset) same)) found in
+    inl (finds_ref c.args.core.now c.args.regs.now a q v s.frame s.offset c.cell_at.result s.word moved)

@@ -22,8 +22,8 @@ procedure_at-procedure-requires c =
     let p = program c.args.machine.now c.args.cell c.args.args q c.open_slot-slot.new.cpu c.open_slot-slot.new.areas op in
     (record { place = q.place; level = q.level; segment = q.segment + 1 }, p.0, p.1)
 
-pub activation_of-env-requires : goal.activation_of-env-requires
-activation_of-env-requires c =
+pub enclosure_of-requires : goal.enclosure_of-requires
+enclosure_of-requires c =
     let q = c.requires in
     let op = c.open_slot-slot.ensures.stands q.storage q.plan q.session q.slot q.ordered q.stands.session q.stands.storage.low (has c.args.machine.now c.args.cell c.args.args q) in (
       context c.args.machine.now c.args.cell c.args.args q c.open_slot-slot.new.cpu c.open_slot-slot.new.areas op,
@@ -55,12 +55,12 @@ build_child-requires c =
     let now = c.open_slot-slot.new.cpu in
     let areas = c.open_slot-slot.new.areas in
     let p = program c.args.machine.now c.args.cell c.args.args q now areas op in
-    let env = c.activation_of-env.ensures (context c.args.machine.now c.args.cell c.args.args q now areas op) q.task.place q.f q.segment q.level q.place (procedure c.args.machine.now c.args.cell c.args.args q now areas op) in
+    let env = c.enclosure_of.ensures.home (context c.args.machine.now c.args.cell c.args.args q now areas op) q.task.place q.f q.segment q.level q.place (procedure c.args.machine.now c.args.cell c.args.args q now areas op) in
     builds c.args.machine.now c.args.cell c.args.args q now areas op
     c.running_row-parent.result (c.running_row-parent.ensures q.storage q.told q.plan q.session q.member q.task q.ordered q.stands q.running)
     c.open_slot-slot.result (c.open_slot-slot.ensures.slot q.storage q.plan q.session q.slot q.stands.session q.may.lowest)
     c.procedure_at-procedure.result (c.procedure_at-procedure.ensures (record { place = q.place; level = q.level; segment = q.segment + 1 }) p.0 p.1)
-    c.activation_of-env.result.stack c.activation_of-env.result.disp (ap (λ (a : Activation). a.stack) env) (ap (λ (a : Activation). a.disp) env)
+    c.enclosure_of.result.record.stack c.enclosure_of.result.record.disp (ap (λ (a : Activation). a.stack) env) (ap (λ (a : Activation). a.disp) env)
 
 pub add_row-requires : goal.add_row-requires
 add_row-requires c =
@@ -78,14 +78,14 @@ returns-clause-stands c = λ x told plan s m t f segment level place slot o h ru
     let now = c.open_slot-slot.new.cpu in
     let areas = c.open_slot-slot.new.areas in
     let p = program c.args.machine.now c.args.cell c.args.args q now areas op in
-    let env = c.activation_of-env.ensures (context c.args.machine.now c.args.cell c.args.args q now areas op) q.task.place q.f q.segment q.level q.place (procedure c.args.machine.now c.args.cell c.args.args q now areas op) in
+    let env = c.enclosure_of.ensures.home (context c.args.machine.now c.args.cell c.args.args q now areas op) q.task.place q.f q.segment q.level q.place (procedure c.args.machine.now c.args.cell c.args.args q now areas op) in
     let u = marked c.args.machine.now c.args.cell c.args.args q now areas op in
     let mine = c.running_row-parent.ensures x told plan s m t o h runs in
     is_started c.args.machine.now c.args.cell c.args.args q now areas op
     c.running_row-parent.result mine
     c.open_slot-slot.result (c.open_slot-slot.ensures.slot x plan s slot h.session may.lowest)
     c.procedure_at-procedure.result (c.procedure_at-procedure.ensures (record { place = place; level = level; segment = segment + 1 }) p.0 p.1)
-    c.activation_of-env.result.stack c.activation_of-env.result.disp (ap (λ (a : Activation). a.stack) env) (ap (λ (a : Activation). a.disp) env)
+    c.enclosure_of.result.record.stack c.enclosure_of.result.record.disp (ap (λ (a : Activation). a.stack) env) (ap (λ (a : Activation). a.disp) env)
     c.build_child.new.cpu c.add_row.new.tasks c.next_number-number.result c.mark_disp.result _
     c.build_child.ensures.stands
     c.open_slot-slot.ensures.areas c.open_slot-slot.ensures.len c.build_child.ensures.len

@@ -5,7 +5,7 @@ use Rattle.b67_ctl.specs.declared.marks.Toscw.{Toscw}
 use Rattle.b67_refer.proofs.Slots.{has_slot}
 use Rattle.b67_refer.proofs.Unders.{top_running, top_waiting, slots_under}
 use Rattle.b67_refer.proofs.Walks.{top_small}
-use Rattle.b67_refer.proofs.cells.last_record.Goals as goal
+use Rattle.b67_refer.proofs.activation.last_record.Goals as goal
 
 pub overflow_add-result : goal.overflow_add-result
 overflow_add-result c = omega (arith, top_small c.args.core.now c.args.regs.now c.requires.0)

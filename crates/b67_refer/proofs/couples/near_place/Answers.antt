@@ -8,9 +8,9 @@ use Rattle.b67_refer.specs.Cells.{FindsCell}
 use Rattle.b67_refer.proofs.Chains.{level_is, level_small}
 use Rattle.b67_refer.proofs.Follows.{is_reference}
 use Rattle.b67_refer.proofs.Names.{irw_is, finds_name}
-use Rattle.b67_refer.proofs.Unders.{named_at, names_level, names_own, display_at}
+use Rattle.b67_refer.proofs.Unders.{named_at, names_level, display_at}
 use Rattle.b67_refer.proofs.Owns.{cell_inside}
-use Rattle.b67_refer.proofs.own.near_place.Goals as goal
+use Rattle.b67_refer.proofs.couples.near_place.Goals as goal
 
 pub returns-in-None-clause-names : goal.returns-in-None-clause-names
 returns-in-None-clause-names c = λ some. absurd (some refl)
@@ -20,6 +20,9 @@ returns-in-None-clause-inside c = λ some. absurd (some refl)
 
 pub returns-in-None-clause-couple : goal.returns-in-None-clause-couple
 returns-in-None-clause-couple c = λ some. absurd (some refl)
+
+pub returns-in-None-clause-word : goal.returns-in-None-clause-word
+returns-in-None-clause-word c = λ some. absurd (some refl)
 
 pub couple_at-c-requires-clause-bits : goal.couple_at-c-requires-clause-bits
 couple_at-c-requires-clause-bits c = c.in-Some.ensures.some.0.couple
@@ -36,6 +39,9 @@ returns-then-c-regs-clause-inside c = λ some. absurd (some refl)
 pub returns-then-c-regs-clause-couple : goal.returns-then-c-regs-clause-couple
 returns-then-c-regs-clause-couple c = λ some. absurd (some refl)
 
+pub returns-then-c-regs-clause-word : goal.returns-then-c-regs-clause-word
+returns-then-c-regs-clause-word c = λ some. absurd (some refl)
+
 pub bounds-display-c : goal.bounds-display-c
 bounds-display-c c = let a = c.requires.0 in omega (arith, c.if-c-regs.false, level_is c.args.core.now c.args.regs.now a, level_small c.args.core.now c.args.regs.now a)
 
@@ -47,18 +53,16 @@ near_cell-requires c =
       live_of a,
       (frame_at (here a.member a.task q) c.couple_at-c.result.level).identity,
       names_level c.args.core.now c.args.regs.now a q c.args.display.now shown c.couple_at-c.result low,
-      names_own c.args.core.now c.args.regs.now a q c.args.display.now shown c.couple_at-c.result (omega (arith, c.if-c-lt2.false)) low,
       display_at c.args.core.now c.args.regs.now a q c.args.display.now shown c.couple_at-c.result low,
-      omega (arith, c.if-c-lt2-2.false),
+      omega (arith, c.if-c-lt2.false),
     )
 
 pub returns-clause-names : goal.returns-clause-names
 returns-clause-names c = λ some a q shown at owner v stands.
     let low : c.couple_at-c.result.level ≤ c.args.regs.now.level = omega (arith, c.if-c-regs.false) in
-    let own = names_own c.args.core.now c.args.regs.now a q c.args.display.now shown c.couple_at-c.result (omega (arith, c.if-c-lt2.false)) low in
     let f = (frame_at (here a.member a.task q) c.couple_at-c.result.level).identity in
     let is = named_at c.args.core.now c.args.regs.now a q c.args.display.now shown c.couple_at-c.result low in
-    let found = c.near_cell.ensures some (live_of a) q f (names_level c.args.core.now c.args.regs.now a q c.args.display.now shown c.couple_at-c.result low) own (display_at c.args.core.now c.args.regs.now a q c.args.display.now shown c.couple_at-c.result low) (omega (arith, c.if-c-lt2-2.false)) in
+    let found = c.near_cell.ensures some (live_of a) q f (names_level c.args.core.now c.args.regs.now a q c.args.display.now shown c.couple_at-c.result low) (display_at c.args.core.now c.args.regs.now a q c.args.display.now shown c.couple_at-c.result low) (omega (arith, c.if-c-lt2.false)) in
     let i = c.in-Some.ensures.some in
     let ref = is_reference c.args.core.now c.args.regs.now (live_of a) at owner c.args.w v stands (ap (λ (x : Tagged). x.tag) i.1) in
     let e = irw_is c.args.core.now c.args.regs.now (live_of a) at owner c.args.w v c.in-Some.name stands ref i.0 i.1 in (
@@ -72,10 +76,12 @@ returns-clause-inside c = λ some.
     let (a, shown) = c.requires in
     let q = a.task.place in
     let low : c.couple_at-c.result.level ≤ c.args.regs.now.level = omega (arith, c.if-c-regs.false) in
-    let own = names_own c.args.core.now c.args.regs.now a q c.args.display.now shown c.couple_at-c.result (omega (arith, c.if-c-lt2.false)) low in
     let f = (frame_at (here a.member a.task q) c.couple_at-c.result.level).identity in
     cell_inside c.args.core.now c.args.regs.now a q f c.couple_at-c.result.disp c.near_cell.result
-    (c.near_cell.ensures some (live_of a) q f (names_level c.args.core.now c.args.regs.now a q c.args.display.now shown c.couple_at-c.result low) own (display_at c.args.core.now c.args.regs.now a q c.args.display.now shown c.couple_at-c.result low) (omega (arith, c.if-c-lt2-2.false)))
+    (c.near_cell.ensures some (live_of a) q f (names_level c.args.core.now c.args.regs.now a q c.args.display.now shown c.couple_at-c.result low) (display_at c.args.core.now c.args.regs.now a q c.args.display.now shown c.couple_at-c.result low) (omega (arith, c.if-c-lt2.false)))
 
 pub returns-clause-couple : goal.returns-clause-couple
 returns-clause-couple c = λ some. ap (λ (x : Tagged). x.tag) c.in-Some.ensures.some.1
+
+pub returns-clause-word : goal.returns-clause-word
+returns-clause-word c = λ some. (c.in-Some.name, c.in-Some.ensures.some.0, c.in-Some.ensures.some.1)
