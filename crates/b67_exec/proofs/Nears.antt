@@ -6,6 +6,8 @@ use Rattle.std.proofs.lemmas.List.{length-map}
 use Rattle.std.proofs.lemmas.Option.{same_Some}
 use Rattle.b67_word.specs.Tagged.{Tagged, word, contents}
 use Rattle.b67_word.specs.declared.couples.Place.{Place}
+use Rattle.b67_word.specs.declared.faults.Fault.{Fault}
+use Rattle.b67_word.specs.declared.faults.Fault.TheVariants.{InvalidOperator}
 use Rattle.b67_area.specs.declared.Kind.TheVariants as kind
 use Rattle.b67_ctl.specs.Layout.{flag_bit}
 use Rattle.b67_ctl.specs.declared.descriptors.SegDesc.{SegDesc}
@@ -16,10 +18,10 @@ use Rattle.b67_lemmas.proofs.Members.{change_found, has_append_right, keyed_has}
 use Rattle.b67_lemmas.proofs.Places.{get_within}
 use Rattle.b67_lemmas.specs.Keyed.{keyed}
 use Rattle.b67_model.specs.declared.operators.Op.{Op}
-use Rattle.b67_model.specs.declared.operators.Op.TheVariants.{Namc, Lt8, Lt16, Plain}
+use Rattle.b67_model.specs.declared.operators.Op.TheVariants.{Namc, Lt8, Lt16, Lt48, Mpcw, Plain}
 use Rattle.b67_model.specs.declared.operators.Code.{Code}
 use Rattle.b67_model.specs.declared.operators.Code.TheVariants as codes
-use Rattle.b67_model.specs.Common.{Answer, ◌>>=◌, Word, Done, Goes, Line, Task, Job, SessionJob, Session, Segment, with_task, with_top_cells, height, leaves_cells, OperatorContext, row, called, code_of, number_of}
+use Rattle.b67_model.specs.Common.{Answer, ◌>>=◌, ◌>>◌, needs, is_proc, proc_of, cells_of, Word, Done, Goes, Line, Task, Job, SessionJob, Session, Segment, with_task, with_top_cells, height, leaves_cells, OperatorContext, row, called, code_of, number_of}
 use Rattle.b67_stack.specs.declared.Cpu.{Cpu}
 use Rattle.b67_stack.specs.declared.Step.{Step}
 use Rattle.b67_stack.specs.declared.Step.TheVariants as answers
@@ -94,11 +96,17 @@ module _ (m : SessionJob) (t : Task) (job : Job) (printed : List Line) (touched 
   by_code q goes codes.Dupl near e = by_cells q goes _ e
   by_code q goes _ near e = absurd (let z : ⊥ = cc in z)
 
+  by_needs : (q : Place) → Goes_to q → (fits : Bool) (fault : Fault) (cs : List Word) → (needs fits fault >> leaves_cells (here m t q) cs None) ≡ Ok (Goes job printed touched) → LeavesCells
+  by_needs q goes false fault cs e = absurd (let z : ⊥ = cc in z)
+  by_needs q goes true fault cs e = leaves q goes cs e
+
   -- an operator that goes on behind it
   pub straight_leaves : (q : Place) → Goes_to q → (op : Op) → is_straight op ≡ true → row op (here m t q) ≡ Ok (Goes job printed touched) → LeavesCells
   straight_leaves q goes (Namc couple) near e = leaves q goes _ e
   straight_leaves q goes (Lt8 n) near e = leaves q goes _ e
   straight_leaves q goes (Lt16 n) near e = leaves q goes _ e
+  straight_leaves q goes (Lt48 n) near e = leaves q goes _ e
+  straight_leaves q goes (Mpcw n) near e = by_needs q goes (is_proc (here m t q) n) InvalidOperator (proc_of n ∷ cells_of (here m t q)) e
   straight_leaves q goes (Plain code) near e = by_code q goes code near e
   straight_leaves q goes _ near e = absurd (let z : ⊥ = cc in z)
 

@@ -93,14 +93,25 @@ crossed r code k a last inside bits is small more more_is = record {
   ends = λ out. absurd (omega (arith, out, inside));
 }
 
--- the end of the code
-pub ended : (r : Reader) (code : List ℕ) (k : ℕ) → ReaderAt r code k → r.word < length code → 5 ≤ r.syllable → length code ≤ r.word + 1 → (bits more : ℕ) → more ≡ k + 1 → form_of (bits / 2 ^ 56) ≡ None
-    → ReaderAt (record { code = r.code; word = r.word + 1; syllable = 0; bits = bits }) code more
-ended r code k a inside last out bits more more_is none = record {
+-- the first one of a word
+pub opened : (desc : SegDesc) (code : List ℕ) (word bits : ℕ) → word < length code → bits ≡ slice_index code word * 2 ^ 16 → bits < 2 ^ 64
+    → ReaderAt (record { code = desc; word = word; syllable = 0; bits = bits }) code (6 * word)
+opened desc code word bits inside is small = record {
   in_word = omega arith;
-  at = omega (arith, a.at, a.in_word, last, more_is);
-  within = omega (arith, a.at, a.in_word, last, more_is, inside);
-  bits = λ there. absurd (omega (arith, there, out));
+  at = omega arith;
+  within = omega (arith, inside);
+  bits = λ there. omega (arith, is, small);
+  ends = λ out. absurd (omega (arith, out, inside));
+}
+
+-- the end of the code
+pub ended : (desc : SegDesc) (code : List ℕ) (word bits : ℕ) → word ≡ length code → form_of (bits / 2 ^ 56) ≡ None
+    → ReaderAt (record { code = desc; word = word; syllable = 0; bits = bits }) code (6 * word)
+ended desc code word bits end none = record {
+  in_word = omega arith;
+  at = omega arith;
+  within = omega (arith, end);
+  bits = λ there. absurd (omega (arith, there, end));
   ends = λ past. none;
 }
 

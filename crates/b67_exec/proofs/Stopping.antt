@@ -9,12 +9,11 @@ use Rattle.b67_model.specs.declared.operators.Undecodable.TheVariants.{BadPlace}
 use Rattle.b67_model.specs.Common.{operator_at, code_of}
 use Rattle.b67_stack.specs.declared.Cpu.{Cpu}
 use Rattle.b67_stack.specs.declared.What.TheVariants.{Code}
-use Rattle.b67_stack.specs.declared.Step.{Step}
 use Rattle.b67_stack.specs.declared.Step.TheVariants as answers
 use Rattle.b67_layout.specs.Common.{RunsSome, ForEach}
 use Rattle.b67_exec_cells.specs.Running.{GivesSegment}
 use Rattle.b67_exec.specs.Near.{HoldsCode, IsOutside, Stops}
-use Rattle.b67_exec.specs.Operators.{OperatorAt, OperatorMeets}
+use Rattle.b67_exec.specs.Operators.{OperatorAt}
 use Rattle.b67_exec.proofs.Readers.{words-are}
 use Rattle.b67_exec.proofs.Through.{unread_stops}
 

@@ -7,15 +7,16 @@ use Rattle.std.proofs.lemmas.Bool.Decides.{nat_tests}
 use Rattle.b67_word.specs.declared.couples.Place.{Place}
 use Rattle.b67_word.specs.declared.faults.Fault.TheVariants.{InvalidOperator}
 use Rattle.b67_ctl.specs.declared.descriptors.SegDesc.{SegDesc}
-use Rattle.b67_arith.specs.declared.numerics.Numeric.{Numeric}
-use Rattle.b67_arith.specs.declared.numerics.Numeric.TheVariants as numeric
-use Rattle.b67_arith.specs.Numerics.{of_numbers}
 use Rattle.b67_model.specs.declared.operators.Op.{Op}
 use Rattle.b67_model.specs.declared.operators.Op.TheVariants.{Plain}
 use Rattle.b67_model.specs.declared.operators.Code.{Code}
+use Rattle.b67_model.specs.declared.operators.Code.TheVariants as codes
+use Rattle.b67_arith.specs.declared.numerics.Numeric.{Numeric}
+use Rattle.b67_arith.specs.declared.numerics.Numeric.TheVariants as numeric
+use Rattle.b67_arith.specs.Numerics.{of_numbers}
 use Rattle.b67_model.specs.declared.operators.Undecodable.{Undecodable}
 use Rattle.b67_model.specs.declared.operators.Undecodable.TheVariants.{PastEnd}
-use Rattle.b67_model.specs.Common.{Answer, Done, Form, Alone, OneMore, TwoMore, Task, SessionJob, Session, Reading, form_of, syllable, count_at, place_at, ends_at, reads, operator_at, reading_of, code_of, row, called, OperatorContext, Word, operand, on_cells, on_two, branch_if, leaves_cells, cells_of}
+use Rattle.b67_model.specs.Common.{Answer, Done, Form, Alone, OneMore, TwoMore, Literal, Task, SessionJob, Session, Reading, form_of, syllable, count_at, place_at, ends_at, reads, operator_at, reading_of, code_of, row, called, OperatorContext, Word, operand, on_cells, on_two, branch_if, leaves_cells, cells_of}
 use Rattle.b67_stack.specs.declared.Cpu.{Cpu}
 use Rattle.b67_stack.specs.declared.Step.{Step}
 use Rattle.b67_stack.specs.declared.Step.TheVariants as answers
@@ -28,10 +29,10 @@ use Rattle.b67_exec_cells.proofs.Codes.{present}
 use Rattle.b67_exec_cells.specs.Tops.{StaysInSegment}
 use Rattle.b67_entry.specs.Procedures.{CallsOrMeets}
 use Rattle.b67_layout_step.specs.Keeping.{is_leaving}
-use Rattle.b67_exec.specs.Operators.{OperatorMeets, leaves_record}
+use Rattle.b67_exec.specs.Operators.{moves_cells, OperatorMeets, leaves_record}
 use Rattle.b67_exec.specs.declared.reader.Reader.{Reader}
 use Rattle.b67_exec.specs.Far.{Refused}
-use Rattle.b67_exec.specs.Near.{HoldsCode, ReaderAt, ReaderBehind, ReaderInside, EndsBehind, Stops, reader_place, is_straight, WentOn, NearMade, MadeNear, FarMade, code_of_numbers, resting_code, branch_op}
+use Rattle.b67_exec.specs.Near.{HoldsCode, ReaderAt, ReaderBehind, ReaderInside, EndsBehind, Stops, reader_place, is_straight, WentOn, NearMade, MadeNear, FarMade, code_of_numbers, word_op, branch_op}
 use Rattle.b67_exec.specs.declared.firsts.Near.{Near}
 use Rattle.b67_exec.specs.Firsts.{near_form}
 use Rattle.b67_exec.proofs.Nears.{unmet, made_near, LeavesCells, leaves, straight_leaves, straight_stays, straight_calls, branch_stays, branch_calls, holds_on, code_on, place_on, dict_on, segment_on}
@@ -110,6 +111,12 @@ module _ (code : List ℕ) (at : Place) (r : Reader) (in_word : at.syllable < 6)
       begins (TwoMore op) is ∙ ap (λ (z : ℕ). ends_at code (count_at at + 3) (op z (syllable code (count_at at + 2)))) (sym (syllable_at second code (count_at at + 1) b two))
       ∙ ap (λ (z : ℕ). ends_at code (count_at at + 3) (op (second.bits / 2 ^ 56) z)) (sym (syllable_at third code (count_at at + 2) c three)) ∙ ends_before next code (count_at at + 3) (op (second.bits / 2 ^ 56) (third.bits / 2 ^ 56)) d
 
+  literal : (op : ℕ → Op) (next : Reader) → form_of (r.bits / 2 ^ 56) ≡ Some (Literal op) → ReaderAt next code (6 * (r.word + 2)) → operator_at code at ≡ Ok (op (slice_index code (r.word + 1)), reader_place next)
+  literal op next is b =
+      let word : count_at at / 6 ≡ r.word = omega (arith, a.at, a.in_word) in
+      let P : ℕ → Type 0 = λ z. ends_at code (6 * (z + 2)) (op (slice_index code (z + 1))) ≡ Ok (op (slice_index code (r.word + 1)), reader_place next) in
+      begins (Literal op) is ∙ subst P (sym word) (ends_before next code (6 * (r.word + 2)) (op (slice_index code (r.word + 1))) b)
+
   lone_behind : (op : Code) → form_of (r.bits / 2 ^ 56) ≡ Some (Alone op) → operator_at code at ≡ Ok (Plain op, place_at (count_at at + 0 + 1))
   lone_behind op is =
       let more : count_at at + 1 ≡ count_at at + 0 + 1 = omega arith in
@@ -128,6 +135,11 @@ module _ (code : List ℕ) (at : Place) (r : Reader) (in_word : at.syllable < 6)
 
   triple_past : (op : ℕ → ℕ → Op) (n : ℕ) → form_of (r.bits / 2 ^ 56) ≡ Some (TwoMore op) → n ≤ 2 → count_at at + n ≡ 6 * length code → operator_at code at ≡ Err PastEnd
   triple_past op n is few end = begins (TwoMore op) is ∙ past_end code (count_at at + 3) (op (syllable code (count_at at + 1)) (syllable code (count_at at + 2))) (omega (arith, end, few))
+
+  literal_past : (op : ℕ → Op) → form_of (r.bits / 2 ^ 56) ≡ Some (Literal op) → length code ≤ r.word + 1 → operator_at code at ≡ Err PastEnd
+  literal_past op is end =
+      let word : count_at at / 6 ≡ r.word = omega (arith, a.at, a.in_word) in
+      begins (Literal op) is ∙ past_end code (6 * (count_at at / 6 + 2)) (op (slice_index code (count_at at / 6 + 1))) (omega (arith, word, end))
 
 -- the operator at the running place was read, and a reader stands behind it
 pub record ReadsThrough (cpu : Cpu) (op : Op) (next : Reader) : Type 0 where
@@ -215,7 +227,30 @@ module _ (cpu : Cpu) (r : Reader) (b : ReaderBehind cpu r 0) where
       let P : Place → Type 0 = λ p. ◌≡◌ {A = Reading} (Ok (made, place_at (count_at p + 2 + 1))) (reading_of m.constants t) in
       subst P (sym (h.holds.running m t runs).place) read
 
+  -- one with the next word
+  pub literal_through : (op : ℕ → Op) (next : Reader) (bits : ℕ) → form_of (r.bits / 2 ^ 56) ≡ Some (Literal op) → HoldsCode cpu next.code → ForEach cpu (λ x plan s m t. bits ≡ slice_index (code_of m.constants t.segment) (r.word + 1))
+      → ForEach cpu (λ x plan s m t. ReaderAt next (code_of m.constants t.segment) (6 * (r.word + 2))) → ReadsThrough cpu (op bits) next
+  literal_through op next bits is code word at = record {
+    reads = λ x plan s m t ordered h runs.
+        let R : ℕ → Type 0 = λ n. ◌≡◌ {A = Reading} (Ok (op n, reader_place next)) (reading_of m.constants t) in
+        subst R (sym (word x plan s m t ordered h runs)) (sym (literal (code_of m.constants t.segment) t.place r (in_its_word x plan s m t h runs) (b.at x plan s m t ordered h runs) op next is (at x plan s m t ordered h runs)));
+    length = 12 - r.syllable;
+    stands = record {
+      code = code;
+      in_word = b.in_word;
+      at = λ x plan s m t ordered h runs.
+          let a = b.at x plan s m t ordered h runs in
+          let there : 6 * (r.word + 2) ≡ count_at t.place + (12 - r.syllable) = omega (arith, a.at, a.in_word) in
+          subst (λ (n : ℕ). ReaderAt next (code_of m.constants t.segment) n) there (at x plan s m t ordered h runs);
+    };
+  }
+
   -- none: the code ends too early
+  pub literal_ends : (op : ℕ → Op) → form_of (r.bits / 2 ^ 56) ≡ Some (Literal op) → r.code.words ≤ r.word + 1 → ReadsNone cpu
+  literal_ends op is end = λ x plan s m t ordered h runs.
+      let same = words-are x cpu plan s m t ordered h runs r.code (b.code x plan s m t ordered h runs) in
+      (PastEnd, sym (literal_past (code_of m.constants t.segment) t.place r (in_its_word x plan s m t h runs) (b.at x plan s m t ordered h runs) op is (omega (arith, same, end))))
+
   pub pair_ends : (op : ℕ → Op) → form_of (r.bits / 2 ^ 56) ≡ Some (OneMore op) → EndsBehind cpu (0 + 1) → ReadsNone cpu
   pair_ends op is end = λ x plan s m t ordered h runs.
       (PastEnd, sym (pair_past (code_of m.constants t.segment) t.place r (in_its_word x plan s m t h runs) (b.at x plan s m t ordered h runs) op is (end x plan s m t ordered h runs)))
@@ -376,6 +411,20 @@ form_is said n first top f known top_is is says = ap form_of (sym top_is) ∙ kn
 pub form_at : (said n : Near) (first top : ℕ) (F : ℕ → Form) → ((g : Form) → near_form said first ≡ Some g → form_of first ≡ Some g) → first ≡ top → said ≡ n → near_form n first ≡ Some (F first) → form_of top ≡ Some (F top)
 form_at said n first top F known top_is is says = let P : ℕ → Type 0 = λ z. form_of z ≡ Some (F z) in subst P top_is (known (F first) (ap (λ (k : Near). near_form k first) is ∙ says))
 
+pub word_straight : (procedure : Bool) (bits : ℕ) → is_straight (word_op procedure bits) ≡ true
+word_straight true bits = refl
+word_straight false bits = refl
+
+pub moves_straight : (code : Code) → moves_cells code ≡ true → is_straight (Plain code) ≡ true
+moves_straight codes.Zero is = refl
+moves_straight codes.One is = refl
+moves_straight codes.Push is = refl
+moves_straight codes.Noop is = refl
+moves_straight codes.Dlet is = refl
+moves_straight codes.Exch is = refl
+moves_straight codes.Dupl is = refl
+moves_straight _ is = absurd (let z : ⊥ = cc in z)
+
 pub numbers_straight : (op : Numeric) → is_straight (Plain (code_of_numbers op)) ≡ true
 numbers_straight numeric.Add = refl
 numbers_straight _ = refl
@@ -383,14 +432,6 @@ numbers_straight _ = refl
 pub numbers_row : (op : Numeric) (h : OperatorContext) → on_cells (on_two (of_numbers op)) h ≡ row (Plain (code_of_numbers op)) h
 numbers_row numeric.Add h = refl
 numbers_row _ h = refl
-
-pub resting_straight : (pushed : Bool) → is_straight (Plain (resting_code pushed)) ≡ true
-resting_straight true = refl
-resting_straight false = refl
-
-pub resting_row : (pushed : Bool) (h : OperatorContext) → leaves_cells h (cells_of h) None ≡ row (Plain (resting_code pushed)) h
-resting_row true h = refl
-resting_row false h = refl
 
 pub branch_row : (wanted : Bool) (target : Place) (h : OperatorContext) → branch_if wanted h (cells_of h) target ≡ row (branch_op false wanted target) h
 branch_row true target h = refl

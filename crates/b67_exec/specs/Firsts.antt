@@ -1,8 +1,8 @@
 -- What a first syllable begins.
 use Rattle.std.specs.Prelude.{ℕ, ◌+◌, ◌*◌, ◌%◌, Option, Some, None}
-use Rattle.b67_model.specs.declared.operators.Op.TheVariants.{Valc, Namc, Lt8, Lt16, Brun, Brtr, Brfl}
+use Rattle.b67_model.specs.declared.operators.Op.TheVariants.{Valc, Namc, Lt8, Lt16, Lt48, Mpcw, Brun, Brtr, Brfl}
 use Rattle.b67_model.specs.declared.operators.Code.TheVariants as codes
-use Rattle.b67_model.specs.Operators.{Form, Alone, OneMore, TwoMore, branch}
+use Rattle.b67_model.specs.Operators.{Form, Alone, OneMore, TwoMore, Literal, branch}
 use Rattle.b67_exec.specs.declared.firsts.Near.{Near}
 use Rattle.b67_exec.specs.declared.firsts.Near.TheVariants as near
 
@@ -13,6 +13,8 @@ near_form near.Valc first = Some (OneMore (λ low. Valc (first % 64 * 256 + low)
 near_form near.Namc first = Some (OneMore (λ low. Namc (first % 64 * 256 + low)))
 near_form near.Lt8 first = Some (OneMore Lt8)
 near_form near.Lt16 first = Some (TwoMore (λ high low. Lt16 (high * 256 + low)))
+near_form near.Lt48 first = Some (Literal Lt48)
+near_form near.Mpcw first = Some (Literal Mpcw)
 near_form near.Zero first = Some (Alone codes.Zero)
 near_form near.One first = Some (Alone codes.One)
 near_form near.Add first = Some (Alone codes.Add)

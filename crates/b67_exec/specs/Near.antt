@@ -3,7 +3,7 @@ use Rattle.std.specs.Prelude.{◌≡◌, ◌≢◌, ℕ, Bool, true, false, ◌+
 use Rattle.b67_ctl.specs.declared.descriptors.SegDesc.{SegDesc}
 use Rattle.b67_word.specs.declared.couples.Place.{Place}
 use Rattle.b67_model.specs.declared.operators.Op.{Op}
-use Rattle.b67_model.specs.declared.operators.Op.TheVariants.{Namc, Lt8, Lt16, Plain, Brun, Brtr, Brfl}
+use Rattle.b67_model.specs.declared.operators.Op.TheVariants.{Namc, Lt8, Lt16, Lt48, Mpcw, Plain, Brun, Brtr, Brfl}
 use Rattle.b67_model.specs.declared.operators.Code.{Code}
 use Rattle.b67_model.specs.declared.operators.Code.TheVariants as codes
 use Rattle.b67_arith.specs.declared.numerics.Numeric.{Numeric}
@@ -62,6 +62,8 @@ is_straight (Plain code) = is_quick code
 is_straight (Namc couple) = true
 is_straight (Lt8 n) = true
 is_straight (Lt16 n) = true
+is_straight (Lt48 bits) = true
+is_straight (Mpcw bits) = true
 is_straight _ = false
 
 -- the operator at the running place isn't made, and this is why
@@ -85,7 +87,7 @@ abbrev pub MadeNear : Cpu → Reader → Bool → Cpu → Reader → Step → Ty
 MadeNear old before true new after why = NearMade old new after
 MadeNear old before false new after why = (new ≡ old) × (after ≡ before) × Stops old why
 
--- the operators on two numbers, those that push nothing, and branches
+-- the operators on two numbers, MPCW or LT48, and branches
 abbrev pub code_of_numbers : Numeric → Code
 code_of_numbers numeric.Add = codes.Add
 code_of_numbers numeric.Subt = codes.Subt
@@ -96,9 +98,9 @@ code_of_numbers numeric.Lseq = codes.Lseq
 code_of_numbers numeric.Equl = codes.Equl
 code_of_numbers numeric.Neql = codes.Neql
 
-abbrev pub resting_code : Bool → Code
-resting_code true = codes.Push
-resting_code false = codes.Noop
+abbrev pub word_op : Bool → ℕ → Op
+word_op true = Mpcw
+word_op false = Lt48
 
 abbrev pub branch_op : Bool → Bool → Place → Op
 branch_op true wanted = Brun

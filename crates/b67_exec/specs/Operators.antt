@@ -1,7 +1,7 @@
 -- What making the operator at the running place answers and leaves.
 use Rattle.std.specs.Prelude.{◌≡◌, ℕ, ◌+◌, ◌^◌, ◌<◌, ◌≤◌, Bool, true, false, Option, Some, None, Ok, Err, slice_get}
 use Rattle.b67_model.specs.declared.operators.Op.{Op}
-use Rattle.b67_model.specs.declared.operators.Op.TheVariants.{Valc, Namc, Lt48, Mpcw, Brun, Brtr, Brfl, Bset, Brst, Isol, Insr}
+use Rattle.b67_model.specs.declared.operators.Op.TheVariants.{Valc, Namc, Lt48, Brun, Brtr, Brfl, Bset, Brst, Isol, Insr}
 use Rattle.b67_model.specs.declared.operators.Code.{Code}
 use Rattle.b67_model.specs.declared.operators.Code.TheVariants as codes
 use Rattle.b67_model.specs.Operators.{Form, Alone, OneMore, TwoMore, Literal}
@@ -44,6 +44,17 @@ is_quick codes.Exch = true
 is_quick codes.Dupl = true
 is_quick _ = false
 
+-- those of them that push, move or take off cells, or do nothing
+abbrev pub moves_cells : Code → Bool
+moves_cells codes.Zero = true
+moves_cells codes.One = true
+moves_cells codes.Push = true
+moves_cells codes.Noop = true
+moves_cells codes.Dlet = true
+moves_cells codes.Exch = true
+moves_cells codes.Dupl = true
+moves_cells _ = false
+
 -- those behind a call that are on the top cells alone, or no operator
 abbrev pub is_on_top : Code → Bool
 is_on_top codes.Mult = true
@@ -75,8 +86,6 @@ may_enter _ = false
 
 -- those that are read whole, not syllable after syllable, as branches are to a place outside the segment
 abbrev pub is_whole : Op → Bool
-is_whole (Lt48 bits) = true
-is_whole (Mpcw bits) = true
 is_whole (Bset n) = true
 is_whole (Brst n) = true
 is_whole (Isol high width) = true

@@ -4,13 +4,14 @@ ghost use Rattle.std.specs.Prelude.{◌≡◌, ◌/◌, ◌^◌, ◌*◌, ◌+�
 ghost use Rattle.b67_ctl.specs.Layout.{IsPlace};
 ghost use Rattle.b67_model.specs.declared.operators.Op.TheVariants as ops;
 ghost use Rattle.b67_model.specs.declared.operators.Code.TheVariants as codes;
-ghost use Rattle.b67_model.specs.Operators.{form_of, Alone, OneMore, TwoMore, branch};
+ghost use Rattle.b67_model.specs.Operators.{form_of, Alone, OneMore, TwoMore, Literal, branch};
+ghost use Rattle.b67_model.specs.Rows.{row, plain as plain_row};
 ghost use Rattle.b67_stack.specs.declared.Step.TheVariants as answers;
 ghost use Rattle.b67_word.specs.declared.faults.Fault.TheVariants.{InvalidOperator};
-ghost use Rattle.b67_layout.specs.Meets.{RunsSome};
+ghost use Rattle.b67_layout.specs.Meets.{here, Meets, RunsSome, ForEach};
 ghost use Rattle.b67_layout_step.specs.Keeping.{is_leaving};
-ghost use Rattle.b67_exec.specs.Operators.{is_on_top, goes_behind, may_enter, IsWhole};
-ghost use Rattle.b67_exec.specs.Near.{ReaderBehind, WentOn, MadeNear, Makes, outcome_of, code_of_numbers, resting_code, branch_op};
+ghost use Rattle.b67_exec.specs.Operators.{moves_cells, is_on_top, goes_behind, may_enter, IsWhole};
+ghost use Rattle.b67_exec.specs.Near.{ReaderBehind, WentOn, MadeNear, Makes, outcome_of, code_of_numbers, word_op, branch_op};
 ghost use Rattle.b67_exec.specs.Far.{MadeOn, MadeAway, MadeWent, MadeLeaving, LeavesBy, LeadsTo};
 
 use crate::far::{
@@ -21,11 +22,11 @@ use crate::far::{
 use crate::firsts::{Near, near_of};
 use crate::operators::makes_whole;
 use crate::own::{evaluates_own, stores_own};
-use crate::reader::{Reader, after, behind, first, place, reader_to};
+use crate::reader::{Reader, after, at_word, behind, first, next_word, place, reader_to};
 use b67_arith::Numeric;
 use b67_entry::mkst;
 use b67_exec_cells::{
-    branch_to, dlet, drop_cells, dupl, exch, literal, namc, on_numbers, top_cell,
+    branch_to, dlet, drop_cells, dupl, exch, literal, mpcw, namc, on_numbers, top_cell,
 };
 use b67_model::Code;
 use b67_stack::{Cpu, Step};
@@ -68,6 +69,8 @@ fn unread(why: &mut Step) -> bool
     false
 }
 
+// An arm reads its syllables before it makes the next reader: so the syllables that are left keep their register.
+
 /// A couple whose highest six bits are in an operator's first syllable.
 #[inline(always)]
 fn couple(high: u8, low: u8) -> u16
@@ -100,81 +103,36 @@ fn numbers(cpu: &mut Cpu, reader: &mut Reader, op: Numeric, why: &mut Step) -> b
     went_on(step, reader, next, why)
 }
 
-/// ZERO.
+/// ZERO, ONE, PUSH, NOOP, DLET, EXCH or DUPL, after which the task goes on at `next`.
 #[inline(always)]
-fn pushes_zero(cpu: &mut Cpu, reader: &mut Reader, why: &mut Step) -> bool
+fn moves(cpu: &mut Cpu, code: Code, next: Place) -> Step
     requires runs { RunsSome cpu.old }
-    requires stands { ReaderBehind cpu.old reader.old 0 }
-    requires begins { form_of (reader.old.bits / 2 ^ 56) ≡ Some (Alone codes.Zero) }
-    ensures { MadeNear cpu.old reader.old result cpu.new reader.new why.new }
+    requires moves { moves_cells code ≡ true }
+    ensures { ForEach cpu.old (λ x plan s m t. Meets x plan s m result cpu.old cpu.new (plain_row code (here m t next))) }
 {
-    let next = after(cpu, *reader);
-    let step = literal(cpu, 0, place(next));
-    went_on(step, reader, next, why)
+    match code {
+        Code::Zero => literal(cpu, 0, next),
+        Code::One => literal(cpu, 1, next),
+        Code::Push => branch_to(cpu, next),
+        Code::Noop => branch_to(cpu, next),
+        Code::Dlet => dlet(cpu, next),
+        Code::Exch => exch(cpu, next),
+        Code::Dupl => dupl(cpu, next),
+        _ => unreachable!(),
+    }
 }
 
-/// ONE.
+/// The same, at the reader.
 #[inline(always)]
-fn pushes_one(cpu: &mut Cpu, reader: &mut Reader, why: &mut Step) -> bool
+fn alone(cpu: &mut Cpu, reader: &mut Reader, code: Code, why: &mut Step) -> bool
     requires runs { RunsSome cpu.old }
     requires stands { ReaderBehind cpu.old reader.old 0 }
-    requires begins { form_of (reader.old.bits / 2 ^ 56) ≡ Some (Alone codes.One) }
+    requires begins { form_of (reader.old.bits / 2 ^ 56) ≡ Some (Alone code) }
+    requires moves { moves_cells code ≡ true }
     ensures { MadeNear cpu.old reader.old result cpu.new reader.new why.new }
 {
     let next = after(cpu, *reader);
-    let step = literal(cpu, 1, place(next));
-    went_on(step, reader, next, why)
-}
-
-/// PUSH or NOOP.
-#[inline(always)]
-fn rests(cpu: &mut Cpu, reader: &mut Reader, pushes: bool, why: &mut Step) -> bool
-    requires runs { RunsSome cpu.old }
-    requires stands { ReaderBehind cpu.old reader.old 0 }
-    requires begins { form_of (reader.old.bits / 2 ^ 56) ≡ Some (Alone (resting_code pushes)) }
-    ensures { MadeNear cpu.old reader.old result cpu.new reader.new why.new }
-{
-    let next = after(cpu, *reader);
-    let step = branch_to(cpu, place(next));
-    went_on(step, reader, next, why)
-}
-
-/// DLET.
-#[inline(always)]
-fn deletes(cpu: &mut Cpu, reader: &mut Reader, why: &mut Step) -> bool
-    requires runs { RunsSome cpu.old }
-    requires stands { ReaderBehind cpu.old reader.old 0 }
-    requires begins { form_of (reader.old.bits / 2 ^ 56) ≡ Some (Alone codes.Dlet) }
-    ensures { MadeNear cpu.old reader.old result cpu.new reader.new why.new }
-{
-    let next = after(cpu, *reader);
-    let step = dlet(cpu, place(next));
-    went_on(step, reader, next, why)
-}
-
-/// EXCH.
-#[inline(always)]
-fn exchanges(cpu: &mut Cpu, reader: &mut Reader, why: &mut Step) -> bool
-    requires runs { RunsSome cpu.old }
-    requires stands { ReaderBehind cpu.old reader.old 0 }
-    requires begins { form_of (reader.old.bits / 2 ^ 56) ≡ Some (Alone codes.Exch) }
-    ensures { MadeNear cpu.old reader.old result cpu.new reader.new why.new }
-{
-    let next = after(cpu, *reader);
-    let step = exch(cpu, place(next));
-    went_on(step, reader, next, why)
-}
-
-/// DUPL.
-#[inline(always)]
-fn doubles(cpu: &mut Cpu, reader: &mut Reader, why: &mut Step) -> bool
-    requires runs { RunsSome cpu.old }
-    requires stands { ReaderBehind cpu.old reader.old 0 }
-    requires begins { form_of (reader.old.bits / 2 ^ 56) ≡ Some (Alone codes.Dupl) }
-    ensures { MadeNear cpu.old reader.old result cpu.new reader.new why.new }
-{
-    let next = after(cpu, *reader);
-    let step = dupl(cpu, place(next));
+    let step = moves(cpu, code, place(next));
     went_on(step, reader, next, why)
 }
 
@@ -190,8 +148,9 @@ fn names(cpu: &mut Cpu, reader: &mut Reader, why: &mut Step) -> bool
         Some(second) => second,
         None => return unread(why),
     };
+    let named = couple(first(*reader), first(second));
     let next = after(cpu, second);
-    let step = namc(cpu, couple(first(*reader), first(second)), place(next));
+    let step = namc(cpu, named, place(next));
     went_on(step, reader, next, why)
 }
 
@@ -207,8 +166,9 @@ fn literal_8(cpu: &mut Cpu, reader: &mut Reader, why: &mut Step) -> bool
         Some(second) => second,
         None => return unread(why),
     };
+    let bits = u64::from(first(second));
     let next = after(cpu, second);
-    let step = literal(cpu, u64::from(first(second)), place(next));
+    let step = literal(cpu, bits, place(next));
     went_on(step, reader, next, why)
 }
 
@@ -228,9 +188,40 @@ fn literal_16(cpu: &mut Cpu, reader: &mut Reader, why: &mut Step) -> bool
         Some(third) => third,
         None => return unread(why),
     };
-    let next = after(cpu, third);
     let bits = u64::from(first(second)) * 256 + u64::from(first(third));
+    let next = after(cpu, third);
     let step = literal(cpu, bits, place(next));
+    went_on(step, reader, next, why)
+}
+
+/// Pushes a literal, or the word of a procedure, after which the task goes on at `next`.
+#[inline(always)]
+fn pushes_word(cpu: &mut Cpu, bits: u64, procedure: bool, next: Place) -> Step
+    requires runs { RunsSome cpu.old }
+    requires bits { bits < 2 ^ 48 }
+    ensures { ForEach cpu.old (λ x plan s m t. Meets x plan s m result cpu.old cpu.new (row (word_op procedure bits) (here m t next))) }
+{
+    if procedure {
+        mpcw(cpu, bits, next)
+    } else {
+        literal(cpu, bits, next)
+    }
+}
+
+/// LT48 or MPCW: the next word of the code is a literal, or the word of a procedure.
+#[inline(always)]
+fn literal_word(cpu: &mut Cpu, reader: &mut Reader, procedure: bool, why: &mut Step) -> bool
+    requires runs { RunsSome cpu.old }
+    requires stands { ReaderBehind cpu.old reader.old 0 }
+    requires begins { form_of (reader.old.bits / 2 ^ 56) ≡ Some (Literal (word_op procedure)) }
+    ensures { MadeNear cpu.old reader.old result cpu.new reader.new why.new }
+{
+    let bits = match next_word(cpu, *reader) {
+        Some(bits) => bits,
+        None => return unread(why),
+    };
+    let next = at_word(cpu, reader.code, reader.word + 2);
+    let step = pushes_word(cpu, bits, procedure, place(next));
     went_on(step, reader, next, why)
 }
 
@@ -417,8 +408,8 @@ fn evaluates(cpu: &mut Cpu, reader: &mut Reader, why: &mut Step) -> Made
         Some(second) => second,
         None => return on(unread(why)),
     };
-    let next = after(cpu, second);
     let named = couple(first(*reader), first(second));
+    let next = after(cpu, second);
     let went = makes_any_valc(cpu, named, place(next), why);
     goes(went, reader, next)
 }
@@ -561,8 +552,10 @@ pub fn operate(cpu: &mut Cpu, reader: &mut Reader, why: &mut Step) -> Made
         Near::Namc => on(names(cpu, reader, why)),
         Near::Lt8 => on(literal_8(cpu, reader, why)),
         Near::Lt16 => on(literal_16(cpu, reader, why)),
-        Near::Zero => on(pushes_zero(cpu, reader, why)),
-        Near::One => on(pushes_one(cpu, reader, why)),
+        Near::Lt48 => on(literal_word(cpu, reader, false, why)),
+        Near::Mpcw => on(literal_word(cpu, reader, true, why)),
+        Near::Zero => on(alone(cpu, reader, Code::Zero, why)),
+        Near::One => on(alone(cpu, reader, Code::One, why)),
         Near::Add => on(numbers(cpu, reader, Numeric::Add, why)),
         Near::Subt => on(numbers(cpu, reader, Numeric::Subt, why)),
         Near::Less => on(numbers(cpu, reader, Numeric::Less, why)),
@@ -571,11 +564,11 @@ pub fn operate(cpu: &mut Cpu, reader: &mut Reader, why: &mut Step) -> Made
         Near::Lseq => on(numbers(cpu, reader, Numeric::Lseq, why)),
         Near::Equl => on(numbers(cpu, reader, Numeric::Equl, why)),
         Near::Neql => on(numbers(cpu, reader, Numeric::Neql, why)),
-        Near::Push => on(rests(cpu, reader, true, why)),
-        Near::Noop => on(rests(cpu, reader, false, why)),
-        Near::Dlet => on(deletes(cpu, reader, why)),
-        Near::Exch => on(exchanges(cpu, reader, why)),
-        Near::Dupl => on(doubles(cpu, reader, why)),
+        Near::Push => on(alone(cpu, reader, Code::Push, why)),
+        Near::Noop => on(alone(cpu, reader, Code::Noop, why)),
+        Near::Dlet => on(alone(cpu, reader, Code::Dlet, why)),
+        Near::Exch => on(alone(cpu, reader, Code::Exch, why)),
+        Near::Dupl => on(alone(cpu, reader, Code::Dupl, why)),
         Near::Brfl => branches(cpu, reader, false, why),
         Near::Brtr => branches(cpu, reader, true, why),
         Near::Brun => jumps(cpu, reader, why),

@@ -15,7 +15,7 @@ use crate::far::is_done;
 use crate::near::{Made, operate};
 use crate::reader::reader_here;
 use b67_exec_cells::{
-    Binary, Unary, branch_if, branch_to, literal, mpcw, on_one, on_two, present_segment, read_in,
+    Binary, Unary, branch_if, branch_to, on_one, on_two, present_segment, read_in,
 };
 use b67_model::{Code, Op};
 use b67_stack::{Cpu, Step, What};
@@ -53,8 +53,6 @@ fn whole(cpu: &mut Cpu, op: Op, next: Place) -> Step
     ensures row { ForEach cpu.old (λ x plan s m t. CallsOrMeets x plan s m result cpu.old cpu.new (called op (here m t next)) (row op (here m t next))) }
 {
     match op {
-        Op::Lt48(bits) => literal(cpu, bits, next),
-        Op::Mpcw(bits) => mpcw(cpu, bits, next),
         Op::Brun(target) => branch_to(cpu, target),
         Op::Brtr(target) => branch_if(cpu, true, target, next),
         Op::Brfl(target) => branch_if(cpu, false, target, next),
@@ -66,7 +64,7 @@ fn whole(cpu: &mut Cpu, op: Op, next: Place) -> Step
     }
 }
 
-/// LT48, MPCW, BSET, BRST, ISOL, INSR or a branch at the running place, and whether it was made. If not, also if none is read
+/// BSET, BRST, ISOL, INSR or a branch at the running place, and whether it was made. If not, also if none is read
 /// there, `why` is the reason.
 #[inline(never)]
 pub(crate) fn makes_whole(cpu: &mut Cpu, why: &mut Step) -> bool

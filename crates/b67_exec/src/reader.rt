@@ -86,6 +86,31 @@ pub fn behind(cpu: &Cpu, r: Reader) -> Option<Reader>
 /// What stands behind a segment's code for a reader: no operator begins so.
 const END: u64 = 0xFD00_0000_0000_0000;
 
+/// The first syllable of a word of the code, or the end of the code.
+#[inline(always)]
+pub fn at_word(cpu: &Cpu, code: SegDesc, word: u16) -> Reader
+    requires runs { RunsSome cpu.now }
+    requires code { HoldsCode cpu.now code }
+    requires within { word ≤ code.words }
+    ensures code { result.code ≡ code }
+    ensures at { ForEach cpu.now (λ x plan s m t. ReaderAt result (code_of m.constants t.segment) (6 * word)) }
+{
+    if u32::from(word) >= code.words {
+        return Reader {
+            code,
+            word,
+            syllable: 0,
+            bits: END,
+        };
+    }
+    Reader {
+        code,
+        word,
+        syllable: 0,
+        bits: loaded(cpu, code, word),
+    }
+}
+
 /// The next syllable, or the end of the code.
 #[inline(always)]
 pub fn after(cpu: &Cpu, r: Reader) -> Reader
@@ -101,21 +126,24 @@ pub fn after(cpu: &Cpu, r: Reader) -> Reader
             bits: r.bits << 8,
         };
     }
+    at_word(cpu, r.code, r.word + 1)
+}
+
+/// The word of the code behind that of the syllable. None at the end of the code.
+#[inline(always)]
+pub fn next_word(cpu: &Cpu, r: Reader) -> Option<u64>
+    requires runs { RunsSome cpu.now }
+    requires stands { ReaderInside cpu.now r 0 }
+    ensures word { IfSome result (λ bits. ForEach cpu.now (λ x plan s m t. bits ≡ slice_index (code_of m.constants t.segment) (r.word + 1))) }
+    ensures small { IfSome result (λ bits. bits < 2 ^ 48) }
+    ensures inside { IfSome result (λ bits. r.word + 1 < r.code.words) }
+    ensures end { result ≡ None → r.code.words ≤ r.word + 1 }
+{
     let word = r.word + 1;
     if u32::from(word) >= r.code.words {
-        return Reader {
-            code: r.code,
-            word,
-            syllable: 0,
-            bits: END,
-        };
+        return None;
     }
-    Reader {
-        code: r.code,
-        word,
-        syllable: 0,
-        bits: loaded(cpu, r.code, word),
-    }
+    Some(loaded(cpu, r.code, word) >> 16)
 }
 
 /// A reader at a place inside the running segment.

@@ -31,7 +31,7 @@ returns c =
     let i = inside_of old before 0 (OneMore Lt8) c.requires.runs b c.requires.begins in
     let d = c.in-Some.ensures.next 0 i in
     let e = c.after-next.ensures (0 + 1) d in
-    let made = Lt8 c.from.result in
+    let made = Lt8 c.from-bits.result in
     straight_made old new before next c.went_on.new.reader made c.literal-step.result c.went_on.result c.went_on.new.why c.requires.runs b refl
-    (pair_through old before b Lt8 second next c.from.result made c.requires.begins d e (c.from.ensures ∙ c.first.ensures) refl)
-    (each_as old new c.literal-step.result made c.place.result (reader_place next) (λ h. pushes h (Operand c.from.result) None) c.place.ensures (λ h. refl) c.literal-step.ensures.row) c.went_on.ensures
+    (pair_through old before b Lt8 second next c.from-bits.result made c.requires.begins d e (c.from-bits.ensures ∙ c.first.ensures) refl)
+    (each_as old new c.literal-step.result made c.place.result (reader_place next) (λ h. pushes h (Operand c.from-bits.result) None) c.place.ensures (λ h. refl) c.literal-step.ensures.row) c.went_on.ensures

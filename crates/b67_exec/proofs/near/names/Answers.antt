@@ -23,7 +23,7 @@ returns-in-None c =
     (pair_ends old before b op c.requires.begins (c.behind.ensures.end 0 (inside_of old before 0 (OneMore (λ low. Namc (c.args.reader.now.bits / 2 ^ 56 % 64 * 256 + low))) c.requires.runs b c.requires.begins) c.in-None.is))
 
 pub namc-step-requires-clause-couple : goal.namc-step-requires-clause-couple
-namc-step-requires-clause-couple c = omega (arith, c.couple.ensures, c.first-2.type_inv)
+namc-step-requires-clause-couple c = omega (arith, c.couple-named.ensures, c.first-2.type_inv)
 
 pub returns : goal.returns
 returns c =
@@ -37,8 +37,8 @@ returns c =
     let d = c.in-Some.ensures.next 0 i in
     let e = c.after-next.ensures (0 + 1) d in
     let op : ℕ → Op = λ low. Namc (before.bits / 2 ^ 56 % 64 * 256 + low) in
-    let made : Op = Namc c.couple.result in
-    let is : made ≡ op c.first-2.result = ap Namc (c.couple.ensures ∙ ap (λ (z : ℕ). z % 64 * 256 + c.first-2.result) c.first.ensures) in
+    let made : Op = Namc c.couple-named.result in
+    let is : made ≡ op c.first-2.result = ap Namc (c.couple-named.ensures ∙ ap (λ (z : ℕ). z % 64 * 256 + c.first-2.result) c.first.ensures) in
     straight_made old new before next c.went_on.new.reader made c.namc-step.result c.went_on.result c.went_on.new.why c.requires.runs b refl
     (pair_through old before b op second next c.first-2.result made c.requires.begins d e c.first-2.ensures is)
-    (each_as old new c.namc-step.result made c.place.result (reader_place next) (λ h. pushes h (Name c.couple.result) None) c.place.ensures (λ h. refl) c.namc-step.ensures.row) c.went_on.ensures
+    (each_as old new c.namc-step.result made c.place.result (reader_place next) (λ h. pushes h (Name c.couple-named.result) None) c.place.ensures (λ h. refl) c.namc-step.ensures.row) c.went_on.ensures

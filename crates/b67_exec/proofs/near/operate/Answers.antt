@@ -1,7 +1,7 @@
 use Rattle.std.proofs.Common.{ℕ, ◌+◌, ◌*◌, ◌/◌, ◌^◌, ◌%◌, refl, subst}
-use Rattle.b67_model.specs.declared.operators.Op.TheVariants.{Valc, Namc, Lt8, Lt16, Brun, Brtr, Brfl}
+use Rattle.b67_model.specs.declared.operators.Op.TheVariants.{Valc, Namc, Lt8, Lt16, Lt48, Mpcw, Brun, Brtr, Brfl}
 use Rattle.b67_model.specs.declared.operators.Code.TheVariants as codes
-use Rattle.b67_model.specs.Operators.{Alone, OneMore, TwoMore, branch, form_of}
+use Rattle.b67_model.specs.Operators.{Alone, OneMore, TwoMore, Literal, branch, form_of}
 use Rattle.b67_exec.specs.Operators.{IsWhole}
 use Rattle.b67_exec.specs.declared.firsts.Near.TheVariants as nears
 use Rattle.b67_exec.proofs.Through.{form_is, form_at}
@@ -17,11 +17,17 @@ literal_8-requires-clause-begins c = form_is c.near_of.result nears.Lt8 c.first.
 pub literal_16-requires-clause-begins : goal.literal_16-requires-clause-begins
 literal_16-requires-clause-begins c = form_is c.near_of.result nears.Lt16 c.first.result (c.args.reader.now.bits / 2 ^ 56) (TwoMore (λ high low. Lt16 (high * 256 + low))) c.near_of.ensures.form c.first.ensures c.in-Lt16.is refl
 
-pub pushes_zero-requires-clause-begins : goal.pushes_zero-requires-clause-begins
-pushes_zero-requires-clause-begins c = form_is c.near_of.result nears.Zero c.first.result (c.args.reader.now.bits / 2 ^ 56) (Alone codes.Zero) c.near_of.ensures.form c.first.ensures c.in-Zero.is refl
+pub literal_word-requires-clause-begins : goal.literal_word-requires-clause-begins
+literal_word-requires-clause-begins c = form_is c.near_of.result nears.Lt48 c.first.result (c.args.reader.now.bits / 2 ^ 56) (Literal Lt48) c.near_of.ensures.form c.first.ensures c.in-Lt48.is refl
 
-pub pushes_one-requires-clause-begins : goal.pushes_one-requires-clause-begins
-pushes_one-requires-clause-begins c = form_is c.near_of.result nears.One c.first.result (c.args.reader.now.bits / 2 ^ 56) (Alone codes.One) c.near_of.ensures.form c.first.ensures c.in-One.is refl
+pub literal_word-requires-in-Mpcw-clause-begins : goal.literal_word-requires-in-Mpcw-clause-begins
+literal_word-requires-in-Mpcw-clause-begins c = form_is c.near_of.result nears.Mpcw c.first.result (c.args.reader.now.bits / 2 ^ 56) (Literal Mpcw) c.near_of.ensures.form c.first.ensures c.in-Mpcw.is refl
+
+pub alone-requires-clause-begins : goal.alone-requires-clause-begins
+alone-requires-clause-begins c = form_is c.near_of.result nears.Zero c.first.result (c.args.reader.now.bits / 2 ^ 56) (Alone codes.Zero) c.near_of.ensures.form c.first.ensures c.in-Zero.is refl
+
+pub alone-requires-in-One-clause-begins : goal.alone-requires-in-One-clause-begins
+alone-requires-in-One-clause-begins c = form_is c.near_of.result nears.One c.first.result (c.args.reader.now.bits / 2 ^ 56) (Alone codes.One) c.near_of.ensures.form c.first.ensures c.in-One.is refl
 
 pub numbers-requires-clause-begins : goal.numbers-requires-clause-begins
 numbers-requires-clause-begins c = form_is c.near_of.result nears.Add c.first.result (c.args.reader.now.bits / 2 ^ 56) (Alone codes.Add) c.near_of.ensures.form c.first.ensures c.in-Add.is refl
@@ -47,20 +53,20 @@ numbers-requires-in-Equl-clause-begins c = form_is c.near_of.result nears.Equl c
 pub numbers-requires-in-Neql-clause-begins : goal.numbers-requires-in-Neql-clause-begins
 numbers-requires-in-Neql-clause-begins c = form_is c.near_of.result nears.Neql c.first.result (c.args.reader.now.bits / 2 ^ 56) (Alone codes.Neql) c.near_of.ensures.form c.first.ensures c.in-Neql.is refl
 
-pub rests-requires-clause-begins : goal.rests-requires-clause-begins
-rests-requires-clause-begins c = form_is c.near_of.result nears.Push c.first.result (c.args.reader.now.bits / 2 ^ 56) (Alone codes.Push) c.near_of.ensures.form c.first.ensures c.in-Push.is refl
+pub alone-requires-in-Push-clause-begins : goal.alone-requires-in-Push-clause-begins
+alone-requires-in-Push-clause-begins c = form_is c.near_of.result nears.Push c.first.result (c.args.reader.now.bits / 2 ^ 56) (Alone codes.Push) c.near_of.ensures.form c.first.ensures c.in-Push.is refl
 
-pub rests-requires-in-Noop-clause-begins : goal.rests-requires-in-Noop-clause-begins
-rests-requires-in-Noop-clause-begins c = form_is c.near_of.result nears.Noop c.first.result (c.args.reader.now.bits / 2 ^ 56) (Alone codes.Noop) c.near_of.ensures.form c.first.ensures c.in-Noop.is refl
+pub alone-requires-in-Noop-clause-begins : goal.alone-requires-in-Noop-clause-begins
+alone-requires-in-Noop-clause-begins c = form_is c.near_of.result nears.Noop c.first.result (c.args.reader.now.bits / 2 ^ 56) (Alone codes.Noop) c.near_of.ensures.form c.first.ensures c.in-Noop.is refl
 
-pub deletes-requires-clause-begins : goal.deletes-requires-clause-begins
-deletes-requires-clause-begins c = form_is c.near_of.result nears.Dlet c.first.result (c.args.reader.now.bits / 2 ^ 56) (Alone codes.Dlet) c.near_of.ensures.form c.first.ensures c.in-Dlet.is refl
+pub alone-requires-in-Dlet-clause-begins : goal.alone-requires-in-Dlet-clause-begins
+alone-requires-in-Dlet-clause-begins c = form_is c.near_of.result nears.Dlet c.first.result (c.args.reader.now.bits / 2 ^ 56) (Alone codes.Dlet) c.near_of.ensures.form c.first.ensures c.in-Dlet.is refl
 
-pub exchanges-requires-clause-begins : goal.exchanges-requires-clause-begins
-exchanges-requires-clause-begins c = form_is c.near_of.result nears.Exch c.first.result (c.args.reader.now.bits / 2 ^ 56) (Alone codes.Exch) c.near_of.ensures.form c.first.ensures c.in-Exch.is refl
+pub alone-requires-in-Exch-clause-begins : goal.alone-requires-in-Exch-clause-begins
+alone-requires-in-Exch-clause-begins c = form_is c.near_of.result nears.Exch c.first.result (c.args.reader.now.bits / 2 ^ 56) (Alone codes.Exch) c.near_of.ensures.form c.first.ensures c.in-Exch.is refl
 
-pub doubles-requires-clause-begins : goal.doubles-requires-clause-begins
-doubles-requires-clause-begins c = form_is c.near_of.result nears.Dupl c.first.result (c.args.reader.now.bits / 2 ^ 56) (Alone codes.Dupl) c.near_of.ensures.form c.first.ensures c.in-Dupl.is refl
+pub alone-requires-in-Dupl-clause-begins : goal.alone-requires-in-Dupl-clause-begins
+alone-requires-in-Dupl-clause-begins c = form_is c.near_of.result nears.Dupl c.first.result (c.args.reader.now.bits / 2 ^ 56) (Alone codes.Dupl) c.near_of.ensures.form c.first.ensures c.in-Dupl.is refl
 
 pub branches-requires-clause-begins : goal.branches-requires-clause-begins
 branches-requires-clause-begins c = form_is c.near_of.result nears.Brfl c.first.result (c.args.reader.now.bits / 2 ^ 56) (branch Brfl) c.near_of.ensures.form c.first.ensures c.in-Brfl.is refl
@@ -118,11 +124,17 @@ returns-in-Lt8 c = near_outcome c.args.cpu.now c.literal_8.new.cpu c.args.reader
 pub returns-in-Lt16 : goal.returns-in-Lt16
 returns-in-Lt16 c = near_outcome c.args.cpu.now c.literal_16.new.cpu c.args.reader.now c.literal_16.new.reader c.literal_16.result c.on-in-Lt16.result c.literal_16.new.why c.on-in-Lt16.ensures c.literal_16.ensures
 
+pub returns-in-Lt48 : goal.returns-in-Lt48
+returns-in-Lt48 c = near_outcome c.args.cpu.now c.literal_word.new.cpu c.args.reader.now c.literal_word.new.reader c.literal_word.result c.on-in-Lt48.result c.literal_word.new.why c.on-in-Lt48.ensures c.literal_word.ensures
+
+pub returns-in-Mpcw : goal.returns-in-Mpcw
+returns-in-Mpcw c = near_outcome c.args.cpu.now c.literal_word-in-Mpcw.new.cpu c.args.reader.now c.literal_word-in-Mpcw.new.reader c.literal_word-in-Mpcw.result c.on-in-Mpcw.result c.literal_word-in-Mpcw.new.why c.on-in-Mpcw.ensures c.literal_word-in-Mpcw.ensures
+
 pub returns-in-Zero : goal.returns-in-Zero
-returns-in-Zero c = near_outcome c.args.cpu.now c.pushes_zero.new.cpu c.args.reader.now c.pushes_zero.new.reader c.pushes_zero.result c.on-in-Zero.result c.pushes_zero.new.why c.on-in-Zero.ensures c.pushes_zero.ensures
+returns-in-Zero c = near_outcome c.args.cpu.now c.alone.new.cpu c.args.reader.now c.alone.new.reader c.alone.result c.on-in-Zero.result c.alone.new.why c.on-in-Zero.ensures c.alone.ensures
 
 pub returns-in-One : goal.returns-in-One
-returns-in-One c = near_outcome c.args.cpu.now c.pushes_one.new.cpu c.args.reader.now c.pushes_one.new.reader c.pushes_one.result c.on-in-One.result c.pushes_one.new.why c.on-in-One.ensures c.pushes_one.ensures
+returns-in-One c = near_outcome c.args.cpu.now c.alone-in-One.new.cpu c.args.reader.now c.alone-in-One.new.reader c.alone-in-One.result c.on-in-One.result c.alone-in-One.new.why c.on-in-One.ensures c.alone-in-One.ensures
 
 pub returns-in-Add : goal.returns-in-Add
 returns-in-Add c = near_outcome c.args.cpu.now c.numbers.new.cpu c.args.reader.now c.numbers.new.reader c.numbers.result c.on-in-Add.result c.numbers.new.why c.on-in-Add.ensures c.numbers.ensures
@@ -149,19 +161,19 @@ pub returns-in-Neql : goal.returns-in-Neql
 returns-in-Neql c = near_outcome c.args.cpu.now c.numbers-in-Neql.new.cpu c.args.reader.now c.numbers-in-Neql.new.reader c.numbers-in-Neql.result c.on-in-Neql.result c.numbers-in-Neql.new.why c.on-in-Neql.ensures c.numbers-in-Neql.ensures
 
 pub returns-in-Push : goal.returns-in-Push
-returns-in-Push c = near_outcome c.args.cpu.now c.rests.new.cpu c.args.reader.now c.rests.new.reader c.rests.result c.on-in-Push.result c.rests.new.why c.on-in-Push.ensures c.rests.ensures
+returns-in-Push c = near_outcome c.args.cpu.now c.alone-in-Push.new.cpu c.args.reader.now c.alone-in-Push.new.reader c.alone-in-Push.result c.on-in-Push.result c.alone-in-Push.new.why c.on-in-Push.ensures c.alone-in-Push.ensures
 
 pub returns-in-Noop : goal.returns-in-Noop
-returns-in-Noop c = near_outcome c.args.cpu.now c.rests-in-Noop.new.cpu c.args.reader.now c.rests-in-Noop.new.reader c.rests-in-Noop.result c.on-in-Noop.result c.rests-in-Noop.new.why c.on-in-Noop.ensures c.rests-in-Noop.ensures
+returns-in-Noop c = near_outcome c.args.cpu.now c.alone-in-Noop.new.cpu c.args.reader.now c.alone-in-Noop.new.reader c.alone-in-Noop.result c.on-in-Noop.result c.alone-in-Noop.new.why c.on-in-Noop.ensures c.alone-in-Noop.ensures
 
 pub returns-in-Dlet : goal.returns-in-Dlet
-returns-in-Dlet c = near_outcome c.args.cpu.now c.deletes.new.cpu c.args.reader.now c.deletes.new.reader c.deletes.result c.on-in-Dlet.result c.deletes.new.why c.on-in-Dlet.ensures c.deletes.ensures
+returns-in-Dlet c = near_outcome c.args.cpu.now c.alone-in-Dlet.new.cpu c.args.reader.now c.alone-in-Dlet.new.reader c.alone-in-Dlet.result c.on-in-Dlet.result c.alone-in-Dlet.new.why c.on-in-Dlet.ensures c.alone-in-Dlet.ensures
 
 pub returns-in-Exch : goal.returns-in-Exch
-returns-in-Exch c = near_outcome c.args.cpu.now c.exchanges.new.cpu c.args.reader.now c.exchanges.new.reader c.exchanges.result c.on-in-Exch.result c.exchanges.new.why c.on-in-Exch.ensures c.exchanges.ensures
+returns-in-Exch c = near_outcome c.args.cpu.now c.alone-in-Exch.new.cpu c.args.reader.now c.alone-in-Exch.new.reader c.alone-in-Exch.result c.on-in-Exch.result c.alone-in-Exch.new.why c.on-in-Exch.ensures c.alone-in-Exch.ensures
 
 pub returns-in-Dupl : goal.returns-in-Dupl
-returns-in-Dupl c = near_outcome c.args.cpu.now c.doubles.new.cpu c.args.reader.now c.doubles.new.reader c.doubles.result c.on-in-Dupl.result c.doubles.new.why c.on-in-Dupl.ensures c.doubles.ensures
+returns-in-Dupl c = near_outcome c.args.cpu.now c.alone-in-Dupl.new.cpu c.args.reader.now c.alone-in-Dupl.new.reader c.alone-in-Dupl.result c.on-in-Dupl.result c.alone-in-Dupl.new.why c.on-in-Dupl.ensures c.alone-in-Dupl.ensures
 
 pub returns-in-Indx : goal.returns-in-Indx
 returns-in-Indx c = near_outcome c.args.cpu.now c.stays.new.cpu c.args.reader.now c.stays.new.reader c.stays.result c.on-in-Indx.result c.stays.new.why c.on-in-Indx.ensures c.stays.ensures
