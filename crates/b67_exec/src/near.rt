@@ -1,4 +1,5 @@
-//! The operator at the running place, read syllable after syllable: one arm for each first syllable.
+//! The operator at the running place, read syllable after syllable: one arm for each first syllable. An arm reads its syllables
+//! before it makes the next reader: so what is left of the word keeps its register.
 
 ghost use Rattle.std.specs.Prelude.{◌≡◌, ◌/◌, ◌^◌, ◌*◌, ◌+◌, ◌%◌, ◌<◌, Some, true, false};
 ghost use Rattle.b67_ctl.specs.Layout.{IsPlace};
@@ -68,8 +69,6 @@ fn unread(why: &mut Step) -> bool
     *why = Step::Fault(Fault::InvalidOperator);
     false
 }
-
-// An arm reads its syllables before it makes the next reader: so the syllables that are left keep their register.
 
 /// A couple whose highest six bits are in an operator's first syllable.
 #[inline(always)]
