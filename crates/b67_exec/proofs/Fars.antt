@@ -12,68 +12,68 @@ use Rattle.b67_layout.specs.Common.{RunsSome, here}
 use Rattle.b67_exec_cells.specs.Tops.{StaysInSegment}
 use Rattle.b67_exec.specs.Operators.{CutsRecord}
 use Rattle.b67_exec.specs.Near.{SaysDone}
-use Rattle.b67_exec.specs.Far.{Answers, RowMade, Refused, MadeOn, MadeAway, MadeWent, MadeLeaving, SaysOn, SaysAway, SaysMade, ShortlyOn, ShortlyAway, OnShortly, AwayShortly, WentShortly, LeavesShortly}
+use Rattle.b67_exec.specs.Far.{RowAnswers, RowMade, RowRefused, MadeOn, MadeAway, MadeWent, MadeLeaving, SaysOn, SaysAway, SaysMade, ShortlyOn, ShortlyAway, OnShortly, AwayShortly, WentShortly, LeavesShortly}
 use Rattle.b67_exec.specs.declared.far.Went.{Went}
 use Rattle.b67_exec.specs.declared.far.Went.TheVariants as wents
 use Rattle.b67_exec.proofs.Nears.{unmade}
 
 module _ (op : Op) (next : Place) (old new : Cpu) (r : RunsSome old) where
-  pub same : (step : Step) → step ≢ Done → Answers op next old new step → new ≡ old
+  pub same : (step : Step) → step ≢ Done → RowAnswers op next old new step → new ≡ old
   same step other each =
       let h = here r.member r.task next in
       unmade r.storage r.plan r.session r.member step old new (called op h) (row op h) other (each r.storage r.plan r.session r.member r.task r.ordered r.stands r.running)
 
   -- another answer is the reason
-  pub refused : (step why : Step) → why ≡ step → step ≢ Done → Answers op next old new step → Refused op next old new why
+  pub refused : (step why : Step) → why ≡ step → step ≢ Done → RowAnswers op next old new step → RowRefused op next old new why
   refused step why is other each = record {
     same = same step other each;
     other = subst (λ (z : Step). z ≢ Done) (sym is) other;
-    row = subst (Answers op next old new) (sym is) each;
+    row = subst (RowAnswers op next old new) (sym is) each;
   }
 
-  pub on_by : (step : Step) (made : Bool) (why : Step) → SaysDone step made why → Answers op next old new step → (step ≡ Done → StaysInSegment old new next) → MadeOn op next old made new why
-  on_by step true why done each stays = (subst (Answers op next old new) done each, stays done)
+  pub on_by : (step : Step) (made : Bool) (why : Step) → SaysDone step made why → RowAnswers op next old new step → (step ≡ Done → StaysInSegment old new next) → MadeOn op next old made new why
+  on_by step true why done each stays = (subst (RowAnswers op next old new) done each, stays done)
   on_by step false why says each stays = refused step why says.0 says.1 each
 
-  pub away_by : (step : Step) (made : Bool) (why : Step) → SaysDone step made why → Answers op next old new step → MadeAway op next old made new why
-  away_by step true why done each = subst (Answers op next old new) done each
+  pub away_by : (step : Step) (made : Bool) (why : Step) → SaysDone step made why → RowAnswers op next old new step → MadeAway op next old made new why
+  away_by step true why done each = subst (RowAnswers op next old new) done each
   away_by step false why says each = refused step why says.0 says.1 each
 
-  pub stayed_by : (step : Step) (went : Went) (why : Step) → SaysOn step went why → Answers op next old new step → (step ≡ Done → StaysInSegment old new next) → MadeWent op next old went new why
-  stayed_by step wents.On why done each stays = (subst (Answers op next old new) done each, stays done)
+  pub stayed_by : (step : Step) (went : Went) (why : Step) → SaysOn step went why → RowAnswers op next old new step → (step ≡ Done → StaysInSegment old new next) → MadeWent op next old went new why
+  stayed_by step wents.On why done each stays = (subst (RowAnswers op next old new) done each, stays done)
   stayed_by step wents.Away why says each stays = absurd says
   stayed_by step wents.Not why says each stays = refused step why says.0 says.1 each
 
-  pub entered_by : (step : Step) (went : Went) (why : Step) → SaysAway step went why → Answers op next old new step → MadeWent op next old went new why
+  pub entered_by : (step : Step) (went : Went) (why : Step) → SaysAway step went why → RowAnswers op next old new step → MadeWent op next old went new why
   entered_by step wents.On why says each = absurd says
-  entered_by step wents.Away why done each = subst (Answers op next old new) done each
+  entered_by step wents.Away why done each = subst (RowAnswers op next old new) done each
   entered_by step wents.Not why says each = refused step why says.0 says.1 each
 
   -- short ways
-  pub on_shortly : (step : Step) (made : Bool) → SaysMade step made → Answers op next old new step → (step ≡ Done → StaysInSegment old new next) → OnShortly op next old made new
-  on_shortly step true done each stays = (subst (Answers op next old new) done each, stays done)
+  pub on_shortly : (step : Step) (made : Bool) → SaysMade step made → RowAnswers op next old new step → (step ≡ Done → StaysInSegment old new next) → OnShortly op next old made new
+  on_shortly step true done each stays = (subst (RowAnswers op next old new) done each, stays done)
   on_shortly step false other each stays = same step other each
 
-  pub away_shortly : (step : Step) (made : Bool) → SaysMade step made → Answers op next old new step → AwayShortly op next old made new
-  away_shortly step true done each = subst (Answers op next old new) done each
+  pub away_shortly : (step : Step) (made : Bool) → SaysMade step made → RowAnswers op next old new step → AwayShortly op next old made new
+  away_shortly step true done each = subst (RowAnswers op next old new) done each
   away_shortly step false other each = same step other each
 
-  pub stayed_shortly : (step : Step) (went : Went) → ShortlyOn step went → Answers op next old new step → (step ≡ Done → StaysInSegment old new next) → WentShortly op next old went new
-  stayed_shortly step wents.On done each stays = (subst (Answers op next old new) done each, stays done)
+  pub stayed_shortly : (step : Step) (went : Went) → ShortlyOn step went → RowAnswers op next old new step → (step ≡ Done → StaysInSegment old new next) → WentShortly op next old went new
+  stayed_shortly step wents.On done each stays = (subst (RowAnswers op next old new) done each, stays done)
   stayed_shortly step wents.Away says each stays = absurd says
   stayed_shortly step wents.Not other each stays = same step other each
 
-  pub entered_shortly : (step : Step) (went : Went) → ShortlyAway step went → Answers op next old new step → WentShortly op next old went new
+  pub entered_shortly : (step : Step) (went : Went) → ShortlyAway step went → RowAnswers op next old new step → WentShortly op next old went new
   entered_shortly step wents.On says each = absurd says
-  entered_shortly step wents.Away done each = subst (Answers op next old new) done each
+  entered_shortly step wents.Away done each = subst (RowAnswers op next old new) done each
   entered_shortly step wents.Not other each = same step other each
 
-pub leaving_by : (op : Op) (old new : Cpu) → RunsSome old → (step : Step) (made : Bool) (why : Step) → SaysDone step made why → ((next : Place) → Answers op next old new step) → (step ≡ Done → CutsRecord old new) → MadeLeaving op old made new why
-leaving_by op old new r step true why done each cuts = (λ next. subst (Answers op next old new) done (each next), cuts done)
+pub leaving_by : (op : Op) (old new : Cpu) → RunsSome old → (step : Step) (made : Bool) (why : Step) → SaysDone step made why → ((next : Place) → RowAnswers op next old new step) → (step ≡ Done → CutsRecord old new) → MadeLeaving op old made new why
+leaving_by op old new r step true why done each cuts = (λ next. subst (RowAnswers op next old new) done (each next), cuts done)
 leaving_by op old new r step false why says each cuts = λ next. refused op next old new r step why says.0 says.1 (each next)
 
-pub leaving_shortly : (op : Op) (old new : Cpu) → RunsSome old → (step : Step) (made : Bool) → SaysMade step made → ((next : Place) → Answers op next old new step) → (step ≡ Done → CutsRecord old new) → LeavesShortly op old made new
-leaving_shortly op old new r step true done each cuts = (λ next. subst (Answers op next old new) done (each next), cuts done)
+pub leaving_shortly : (op : Op) (old new : Cpu) → RunsSome old → (step : Step) (made : Bool) → SaysMade step made → ((next : Place) → RowAnswers op next old new step) → (step ≡ Done → CutsRecord old new) → LeavesShortly op old made new
+leaving_shortly op old new r step true done each cuts = (λ next. subst (RowAnswers op next old new) done (each next), cuts done)
 leaving_shortly op old new r step false other each cuts = same op r.task.place old new r step other (each r.task.place)
 
 -- a short way that isn't one

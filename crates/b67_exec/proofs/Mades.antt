@@ -23,8 +23,8 @@ use Rattle.b67_exec.specs.declared.far.Went.{Went}
 use Rattle.b67_exec.specs.declared.far.Went.TheVariants as wents
 use Rattle.b67_exec.specs.declared.near.Made.{Made}
 use Rattle.b67_exec.specs.declared.near.Made.TheVariants as outcome
-use Rattle.b67_exec.specs.Near.{HoldsCode, ReaderBehind, reader_place, NearMade, MadeNear, FarMade, Makes, Stops, outcome_of}
-use Rattle.b67_exec.specs.Far.{RowMade, Refused, MadeOn, MadeAway, MadeWent, MadeLeaving, LeavesBy, LeadsTo}
+use Rattle.b67_exec.specs.Near.{HoldsCode, ReaderBehind, reader_place, NearMade, MadeNear, FarMade, Makes, StopsHere, outcome_of}
+use Rattle.b67_exec.specs.Far.{RowMade, RowRefused, MadeOn, MadeAway, MadeWent, MadeLeaving, LeavesBy, LeadsTo}
 use Rattle.b67_exec.proofs.Readings.{read_fits, operator_read}
 use Rattle.b67_exec.proofs.Through.{ReadsThrough, ReadsNone, far_made, far_on, lone_to, one_on, refused_stops, unread_stops}
 
@@ -68,14 +68,14 @@ module _ (old new : Cpu) (before next : Reader) (op : Op) (q : Place) (r : RunsS
   short_made m = far_on old new before next op q b.code read at m.0 stays r m.1
 
   -- it was refused
-  pub refusing : (why : Step) → Refused op q old new why → Stops old why
-  refusing why m = refused_stops old new before.code op (reader_place next) why b.code read.reads (subst (λ (z : Place). Refused op z old new why) at m)
+  pub refusing : (why : Step) → RowRefused op q old new why → StopsHere old why
+  refusing why m = refused_stops old new before.code op (reader_place next) why b.code read.reads (subst (λ (z : Place). RowRefused op z old new why) at m)
 
-  pub on_refused : (made : Bool) (why : Step) → made ≡ false → MadeOn op q old made new why → (new ≡ old) × Stops old why
+  pub on_refused : (made : Bool) (why : Step) → made ≡ false → MadeOn op q old made new why → (new ≡ old) × StopsHere old why
   on_refused true why is m = absurd (let z : ⊥ = cc in z)
   on_refused false why is m = (m.same, refusing why m)
 
-  pub away_refused : (made : Bool) (why : Step) → made ≡ false → MadeAway op q old made new why → (new ≡ old) × Stops old why
+  pub away_refused : (made : Bool) (why : Step) → made ≡ false → MadeAway op q old made new why → (new ≡ old) × StopsHere old why
   away_refused true why is m = absurd (let z : ⊥ = cc in z)
   away_refused false why is m = (m.same, refusing why m)
 
@@ -126,7 +126,7 @@ near_outcome old new before after false answer why is m = subst (λ (z : Made). 
 
 pub none_near : (old : Cpu) (before : Reader) (made : Bool) (why : Step) → made ≡ false → why ≡ answers.Fault InvalidOperator → HoldsCode old before.code → ReadsNone old → MadeNear old before made old before why
 none_near old before true why is fault code none = absurd (let z : ⊥ = cc in z)
-none_near old before false why is fault code none = (refl, refl, subst (λ (z : Step). Stops old z) (sym fault) (unread_stops old before.code code none))
+none_near old before false why is fault code none = (refl, refl, subst (λ (z : Step). StopsHere old z) (sym fault) (unread_stops old before.code code none))
 
 pub none_made : (old : Cpu) (before : Reader) (made : Bool) (answer : Made) (why : Step) → made ≡ false → answer ≡ outcome_of made → why ≡ answers.Fault InvalidOperator → HoldsCode old before.code → ReadsNone old → Makes old before answer old before why
 none_made old before made answer why is says fault code none = near_outcome old old before before made answer why says (none_near old before made why is fault code none)

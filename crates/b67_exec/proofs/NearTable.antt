@@ -8,12 +8,12 @@ use Rattle.b67_model.specs.Operators.{Form, form_of}
 use Rattle.b67_exec.specs.declared.firsts.Near.{Near}
 use Rattle.b67_exec.specs.declared.firsts.Near.TheVariants as nears
 use Rattle.b67_exec.specs.declared.firsts.TheConstants.{NEARS}
-use Rattle.b67_exec.specs.Operators.{is_on_top, IsWhole}
+use Rattle.b67_exec.specs.Operators.{is_on_top, BeginsWhole}
 use Rattle.b67_exec.specs.Firsts.{near_form}
 
 -- a row says the form of its syllable, or that an operator is read whole there
 abbrev Says : Option Form → ℕ → Type 0
-Says None first = IsWhole (form_of first)
+Says None first = BeginsWhole (form_of first)
 Says (Some f) first = form_of first ≡ Some f
 
 abbrev AllSay : ℕ → List Near → Type 0
@@ -39,7 +39,7 @@ says_form (Some g) first f h e = h ∙ e
 pub near_says : (first : ℕ) (n : Near) (f : Form) → slice_get NEARS first ≡ Some n → near_form n first ≡ Some f → form_of first ≡ Some f
 near_says first n f at e = says_form (near_form n first) first f (row_says 0 NEARS first n all_say at first (omega arith)) e
 
-pub other_says : (first : ℕ) (n : Near) → slice_get NEARS first ≡ Some n → n ≡ nears.Other → IsWhole (form_of first)
+pub other_says : (first : ℕ) (n : Near) → slice_get NEARS first ≡ Some n → n ≡ nears.Other → BeginsWhole (form_of first)
 other_says first n at is = subst (λ (z : Near). Says (near_form z first) first) is (row_says 0 NEARS first n all_say at first (omega arith))
 
 -- a far row is on the top cells

@@ -82,7 +82,6 @@ module _ (m : SessionJob) (t : Task) (job : Job) (printed : List Line) (touched 
   by_code q goes codes.Zero near e = leaves q goes _ e
   by_code q goes codes.One near e = leaves q goes _ e
   by_code q goes codes.Push near e = leaves q goes _ e
-  by_code q goes codes.Noop near e = leaves q goes _ e
   by_code q goes codes.Add near e = by_cells q goes _ e
   by_code q goes codes.Subt near e = by_cells q goes _ e
   by_code q goes codes.Less near e = by_cells q goes _ e

@@ -18,7 +18,7 @@ use Rattle.b67_refer.specs.Own.{LeadsTo}
 use Rattle.b67_exec_cells.specs.Tops.{NoOriginals, StaysInSegment}
 use Rattle.b67_fetch.specs.Fetches.{FindsEnd, IsEnd, SomeEnd, EntersOrMeets, is_procedure_end, value_at_end}
 use Rattle.b67_fetch.proofs.Values.{here_scene, here_shown, followed_stands, finds_end, some_end, top_followed, followed_plain, load_row}
-use Rattle.b67_exec.specs.Far.{Answers, OnShortly}
+use Rattle.b67_exec.specs.Far.{RowAnswers, OnShortly}
 use Rattle.b67_exec.proofs.Entered.{met_at}
 
 module _ (next : Place) (old new : Cpu) where
@@ -62,7 +62,7 @@ module _ (old : Cpu) (next : Place) (w : Tagged) (at : ℕ) (leads : LeadsTo old
 
   pub own_loads : ForEach old (λ x plan s m t. GivesTop x plan m t old (cells t) (Ok w)) → (answered : Step) (new : Cpu)
       → ForEach old (λ x plan s m t. (gone rest : List Word) (e : Chase.End) → cells t ≡ gone ++ rest → length gone ≡ 1 → NoOriginals gone → IsEnd plan m old.core (end.Cell at) e
-      → EntersOrMeets x plan s m answered old new (is_procedure_end e) (value_at_end (here m t next) rest e)) → Answers (Plain codes.Load) next old new answered
+      → EntersOrMeets x plan s m answered old new (is_procedure_end e) (value_at_end (here m t next) rest e)) → RowAnswers (Plain codes.Load) next old new answered
   own_loads given answered new pushes x plan s m t o h runs =
       let g = given x plan s m t o h runs in
       let a = top_followed x old plan s m t w o runs g in

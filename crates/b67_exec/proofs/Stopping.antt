@@ -12,12 +12,12 @@ use Rattle.b67_stack.specs.declared.What.TheVariants.{Code}
 use Rattle.b67_stack.specs.declared.Step.TheVariants as answers
 use Rattle.b67_layout.specs.Common.{RunsSome, ForEach}
 use Rattle.b67_exec_cells.specs.Running.{GivesSegment}
-use Rattle.b67_exec.specs.Near.{HoldsCode, IsOutside, Stops}
+use Rattle.b67_exec.specs.Near.{HoldsCode, IsOutside, StopsHere}
 use Rattle.b67_exec.specs.Operators.{OperatorAt}
 use Rattle.b67_exec.proofs.Readers.{words-are}
 use Rattle.b67_exec.proofs.Through.{unread_stops}
 
-pub absent_stops : (cpu : Cpu) → RunsSome cpu → ForEach cpu (λ x plan s m t. GivesSegment x plan m t None) → Stops cpu (answers.Absent (Code cpu.regs.segment))
+pub absent_stops : (cpu : Cpu) → RunsSome cpu → ForEach cpu (λ x plan s m t. GivesSegment x plan m t None) → StopsHere cpu (answers.Absent (Code cpu.regs.segment))
 absent_stops cpu q none = record {
   other = λ e. cc;
   row = λ x plan s m t ordered h runs.
@@ -34,7 +34,7 @@ outside code at (inr far) = by (nat_lt at.syllable 6) refl where
   by true one = let two : nat_lt at.word (length code) ≡ false = grind (arith, nat_tests) in rw (one, two) refl
   by false one = rw one refl
 
-pub outside_stops : (cpu : Cpu) (desc : SegDesc) → HoldsCode cpu desc → IsOutside cpu.regs.place desc → Stops cpu (answers.Fault InvalidOperator)
+pub outside_stops : (cpu : Cpu) (desc : SegDesc) → HoldsCode cpu desc → IsOutside cpu.regs.place desc → StopsHere cpu (answers.Fault InvalidOperator)
 outside_stops cpu desc code out = unread_stops cpu desc code (λ x plan s m t ordered h runs.
     let same = words-are x cpu plan s m t ordered h runs desc (code x plan s m t ordered h runs) in
     let P : Place → Type 0 = λ p. operator_at (code_of m.constants t.segment) p ≡ Err BadPlace in

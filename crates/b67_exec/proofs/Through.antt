@@ -31,8 +31,8 @@ use Rattle.b67_entry.specs.Procedures.{CallsOrMeets}
 use Rattle.b67_layout_step.specs.Keeping.{is_leaving}
 use Rattle.b67_exec.specs.Operators.{moves_cells, OperatorMeets, leaves_record}
 use Rattle.b67_exec.specs.declared.reader.Reader.{Reader}
-use Rattle.b67_exec.specs.Far.{Refused}
-use Rattle.b67_exec.specs.Near.{HoldsCode, ReaderAt, ReaderBehind, ReaderInside, EndsBehind, Stops, reader_place, is_straight, WentOn, NearMade, MadeNear, FarMade, code_of_numbers, word_op, branch_op}
+use Rattle.b67_exec.specs.Far.{RowRefused}
+use Rattle.b67_exec.specs.Near.{HoldsCode, ReaderAt, ReaderBehind, ReaderInside, EndsBehind, StopsHere, reader_place, is_straight, WentOn, NearMade, MadeNear, FarMade, code_of_numbers, word_op, branch_op}
 use Rattle.b67_exec.specs.declared.firsts.Near.{Near}
 use Rattle.b67_exec.specs.Firsts.{near_form}
 use Rattle.b67_exec.proofs.Nears.{unmet, made_near, LeavesCells, leaves, straight_leaves, straight_stays, straight_calls, branch_stays, branch_calls, holds_on, code_on, place_on, dict_on, segment_on}
@@ -262,7 +262,7 @@ module _ (cpu : Cpu) (r : Reader) (b : ReaderBehind cpu r 0) where
 -- ---- what isn't made
 
 -- no operator is read
-pub unread_stops : (cpu : Cpu) (desc : SegDesc) → HoldsCode cpu desc → ReadsNone cpu → Stops cpu (answers.Fault InvalidOperator)
+pub unread_stops : (cpu : Cpu) (desc : SegDesc) → HoldsCode cpu desc → ReadsNone cpu → StopsHere cpu (answers.Fault InvalidOperator)
 unread_stops cpu desc code none = record {
   other = λ e. cc;
   row = λ x plan s m t ordered h runs.
@@ -272,7 +272,7 @@ unread_stops cpu desc code none = record {
 }
 
 -- one that was read is refused
-pub refused_stops : (old new : Cpu) (desc : SegDesc) (op : Op) (q : Place) (why : Step) → HoldsCode old desc → ReadsTo old op q → Refused op q old new why → Stops old why
+pub refused_stops : (old new : Cpu) (desc : SegDesc) (op : Op) (q : Place) (why : Step) → HoldsCode old desc → ReadsTo old op q → RowRefused op q old new why → StopsHere old why
 refused_stops old new desc op q why code read r = record {
   other = r.other;
   row = λ x plan s m t ordered h runs.
@@ -358,7 +358,7 @@ straight_made old new before next after op answered true why r b near read each 
     }
 straight_made old new before next after op answered false why r b near read each w =
     let same = unmet r.storage r.plan r.session r.member answered old new (row op (here r.member r.task (reader_place next))) w.1 (each r.storage r.plan r.session r.member r.task r.ordered r.stands r.running) in
-    let no : Refused op (reader_place next) old new why = record {
+    let no : RowRefused op (reader_place next) old new why = record {
       same = same;
       other = subst (λ (z : Step). z ≢ answers.Done) (sym w.0) w.1;
       row = λ x plan s m t ordered h runs.
@@ -419,7 +419,6 @@ pub moves_straight : (code : Code) → moves_cells code ≡ true → is_straight
 moves_straight codes.Zero is = refl
 moves_straight codes.One is = refl
 moves_straight codes.Push is = refl
-moves_straight codes.Noop is = refl
 moves_straight codes.Dlet is = refl
 moves_straight codes.Exch is = refl
 moves_straight codes.Dupl is = refl

@@ -23,7 +23,7 @@ use Rattle.b67_exec_cells.specs.Tops.{NoOriginals}
 use Rattle.b67_fetch.specs.Fetches.{IsEnd, SomeEnd, EntersOrMeets, is_procedure_end, value_at_end}
 use Rattle.b67_fetch.proofs.Values.{here_scene, here_shown, followed_stands, couple_followed, finds_end, some_end, valc_row}
 use Rattle.b67_exec.proofs.Entered.{reaches, valc_enters, met_at}
-use Rattle.b67_exec.specs.Far.{Answers}
+use Rattle.b67_exec.specs.Far.{RowAnswers}
 
 -- what following the word answered
 abbrev pub Chased : Cpu → Tagged → Result End Fault → Type 0
@@ -58,7 +58,7 @@ module _ (cpu : Cpu) (couple : ℕ) (next : Place) (w : Tagged) (small : couple 
           subst (λ (z : Result End Fault). EndMeets a next z leads) same (chased a next (here_shown x cpu plan s m t ordered h runs) i.at i.owner (Name couple) (followed_stands x cpu plan s m t ordered h runs w (Name couple) i))
 
     -- a fault
-    pub couple_faults : (fault : Fault) → found ≡ Err fault → Answers (Valc couple) next cpu cpu (step.Fault fault)
+    pub couple_faults : (fault : Fault) → found ≡ Err fault → RowAnswers (Valc couple) next cpu cpu (step.Fault fault)
     couple_faults fault same x plan s m t ordered h runs =
         let hh = here m t next in
         (ap (λ (e : Answer Chase.End). e >>= λ f. evaluates hh f) (fault_end (a x plan s m t ordered h runs) next fault (leads x plan s m t ordered h runs) (ends x plan s m t ordered h runs (Err fault) same)), refl)
@@ -70,7 +70,7 @@ module _ (cpu : Cpu) (couple : ℕ) (next : Place) (w : Tagged) (small : couple 
         let (f, segment, level, place, e, p) = proc_end scene next cell (leads q.storage q.plan q.session q.member q.task q.ordered q.stands q.running) (ends q.storage q.plan q.session q.member q.task q.ordered q.stands q.running (Ok (end.Proc cell)) same) in
         (scene, next, f, segment, level, place, reaches q.storage cpu q.plan q.session q.member q.task q.ordered q.stands q.running next cell f segment level place p)
 
-    pub couple_enters : (cell : ℕ) → found ≡ Ok (end.Proc cell) → (answered : Step) (new : Cpu) → EntersAt cpu cell next answered new → Answers (Valc couple) next cpu new answered
+    pub couple_enters : (cell : ℕ) → found ≡ Ok (end.Proc cell) → (answered : Step) (new : Cpu) → EntersAt cpu cell next answered new → RowAnswers (Valc couple) next cpu new answered
     couple_enters cell same answered new enters x plan s m t ordered h runs =
         let scene = a x plan s m t ordered h runs in
         let (f, segment, level, place, e, p) = proc_end scene next cell (leads x plan s m t ordered h runs) (ends x plan s m t ordered h runs (Ok (end.Proc cell)) same) in
@@ -83,7 +83,7 @@ module _ (cpu : Cpu) (couple : ℕ) (next : Place) (w : Tagged) (small : couple 
         let E = leads q.storage q.plan q.session q.member q.task q.ordered q.stands q.running in
         some_end cpu q at E (finds_end q.storage cpu q.plan q.session q.member q.task q.ordered q.stands q.running next (Ok at) E (ends q.storage q.plan q.session q.member q.task q.ordered q.stands q.running (Ok at) same))
 
-    pub couple_pushes : (at : End) → found ≡ Ok at → ((cell : ℕ) → at ≢ end.Proc cell) → (answered : Step) (new : Cpu) → PushesValue cpu at next answered new → Answers (Valc couple) next cpu new answered
+    pub couple_pushes : (at : End) → found ≡ Ok at → ((cell : ℕ) → at ≢ end.Proc cell) → (answered : Step) (new : Cpu) → PushesValue cpu at next answered new → RowAnswers (Valc couple) next cpu new answered
     couple_pushes at same other answered new pushes x plan s m t ordered h runs =
         let E = leads x plan s m t ordered h runs in
         let k = finds_end x cpu plan s m t ordered h runs next (Ok at) E (ends x plan s m t ordered h runs (Ok at) same) in

@@ -13,16 +13,16 @@ use Rattle.b67_stack.specs.declared.Step.{Step}
 use Rattle.b67_layout.specs.Common.{ForEach}
 use Rattle.b67_layout_step.specs.Keeping.{is_leaving}
 use Rattle.b67_exec_cells.specs.Running.{GivesReading}
-use Rattle.b67_exec.specs.Operators.{leaves_record, is_whole, IsWhole, ReadsWhole}
+use Rattle.b67_exec.specs.Operators.{leaves_record, is_read_whole, BeginsWhole, ReadsWhole}
 use Rattle.b67_exec.specs.declared.reader.Reader.{Reader}
-use Rattle.b67_exec.specs.Near.{HoldsCode, ReaderAt, ReaderBehind, FarMade, MadeOrNot, Stops, branch_op}
+use Rattle.b67_exec.specs.Near.{HoldsCode, ReaderAt, ReaderBehind, FarMade, MadeOrNot, StopsHere, branch_op}
 use Rattle.b67_exec.specs.Far.{MadeAway}
 use Rattle.b67_exec.proofs.Readings.{operator_read}
 use Rattle.b67_exec.proofs.Through.{refused_stops, syllable_at}
 
 -- ---- what was read
 
-pub whole_stays : (op : Op) → is_whole op ≡ true → is_leaving op ≡ false
+pub whole_stays : (op : Op) → is_read_whole op ≡ true → is_leaving op ≡ false
 whole_stays (Plain code) is = absurd (let z : ⊥ = cc in z)
 whole_stays _ is = refl
 
@@ -38,32 +38,32 @@ pub whole_away : (old new : Cpu) (made : Bool) (why : Step) → made ≡ true �
 whole_away old new true why is m = m
 whole_away old new false why is m = absurd (let z : ⊥ = cc in z)
 
-pub whole_not : (old new : Cpu) (made : Bool) (why : Step) → made ≡ false → MadeOrNot old made new why → (new ≡ old) × Stops old why
+pub whole_not : (old new : Cpu) (made : Bool) (why : Step) → made ≡ false → MadeOrNot old made new why → (new ≡ old) × StopsHere old why
 whole_not old new true why is m = absurd (let z : ⊥ = cc in z)
 whole_not old new false why is m = m
 
 -- ---- where one is read so
 
 -- a branch may be
-pub whole_branch : (always wanted : Bool) (form : Option Form) → form ≡ Some (branch (branch_op always wanted)) → IsWhole form
-whole_branch true wanted form is = subst IsWhole (sym is) (λ high low. refl)
-whole_branch false true form is = subst IsWhole (sym is) (λ high low. refl)
-whole_branch false false form is = subst IsWhole (sym is) (λ high low. refl)
+pub whole_branch : (always wanted : Bool) (form : Option Form) → form ≡ Some (branch (branch_op always wanted)) → BeginsWhole form
+whole_branch true wanted form is = subst BeginsWhole (sym is) (λ high low. refl)
+whole_branch false true form is = subst BeginsWhole (sym is) (λ high low. refl)
+whole_branch false false form is = subst BeginsWhole (sym is) (λ high low. refl)
 
-ends_whole : (code : List ℕ) (end : ℕ) (op : Op) → is_whole op ≡ true → ReadsWhole (ends_at code end op)
+ends_whole : (code : List ℕ) (end : ℕ) (op : Op) → is_read_whole op ≡ true → ReadsWhole (ends_at code end op)
 ends_whole code end op is = by (nat_le end (6 * length code)) refl where
   by : (b : Bool) → nat_le end (6 * length code) ≡ b → ReadsWhole (ends_at code end op)
   by true test = rw test is
   by false test = rw test tt
 
-reads_whole : (code : List ℕ) (n : ℕ) (form : Option Form) → IsWhole form → ReadsWhole (reads code n form)
+reads_whole : (code : List ℕ) (n : ℕ) (form : Option Form) → BeginsWhole form → ReadsWhole (reads code n form)
 reads_whole code n None is = tt
 reads_whole code n (Some (Alone op)) is = absurd is
 reads_whole code n (Some (OneMore op)) is = ends_whole code (n + 2) (op (syllable code (n + 1))) (is (syllable code (n + 1)))
 reads_whole code n (Some (TwoMore op)) is = ends_whole code (n + 3) (op (syllable code (n + 1)) (syllable code (n + 2))) (is (syllable code (n + 1)) (syllable code (n + 2)))
 reads_whole code n (Some (Literal op)) is = ends_whole code (6 * (n / 6 + 2)) (op (slice_index code (n / 6 + 1))) (is (slice_index code (n / 6 + 1)))
 
-at_whole : (code : List ℕ) (at : Place) (r : Reader) → at.syllable < 6 → ReaderAt r code (count_at at + 0) → IsWhole (form_of (r.bits / 2 ^ 56)) → ReadsWhole (operator_at code at)
+at_whole : (code : List ℕ) (at : Place) (r : Reader) → at.syllable < 6 → ReaderAt r code (count_at at + 0) → BeginsWhole (form_of (r.bits / 2 ^ 56)) → ReadsWhole (operator_at code at)
 at_whole code at r in_word a is =
     let one : nat_lt at.syllable 6 ≡ true = grind (arith, nat_tests) in
     elim (cases_lt r.word (length code)) [
@@ -72,14 +72,14 @@ at_whole code at r in_word a is =
           let two : nat_lt at.word (length code) ≡ true = grind (arith, nat_tests) in
           let same : count_at at + 0 ≡ count_at at = omega arith in
           let first : r.bits / 2 ^ 56 ≡ syllable code (count_at at) = syllable_at r code (count_at at + 0) a low ∙ ap (syllable code) same in
-          rw (one, two) (reads_whole code (count_at at) (form_of (syllable code (count_at at))) (subst (λ (z : ℕ). IsWhole (form_of z)) first is))
+          rw (one, two) (reads_whole code (count_at at) (form_of (syllable code (count_at at))) (subst (λ (z : ℕ). BeginsWhole (form_of z)) first is))
       | inr high ↦
           let outside : length code ≤ at.word = omega (arith, a.at, a.in_word, high, in_word) in
           let two : nat_lt at.word (length code) ≡ false = grind (arith, nat_tests) in
           rw (one, two) tt
     ]
 
-pub stands_whole : (cpu : Cpu) (r : Reader) → ReaderBehind cpu r 0 → IsWhole (form_of (r.bits / 2 ^ 56)) → ForEach cpu (λ x plan s m t. ReadsWhole (reading_of m.constants t))
+pub stands_whole : (cpu : Cpu) (r : Reader) → ReaderBehind cpu r 0 → BeginsWhole (form_of (r.bits / 2 ^ 56)) → ForEach cpu (λ x plan s m t. ReadsWhole (reading_of m.constants t))
 stands_whole cpu r b is x plan s m t ordered h runs =
     let in_word : t.place.syllable < 6 = (let P : Place → Type 0 = λ p. p.syllable < 6 in subst P (h.holds.running m t runs).place b.in_word) in
     at_whole (code_of m.constants t.segment) t.place r in_word (b.at x plan s m t ordered h runs) is

@@ -17,44 +17,44 @@ use Rattle.b67_exec.specs.declared.near.Made.{Made}
 use Rattle.b67_exec.specs.declared.near.Made.TheVariants as outcome
 
 -- what a step answers is the operator's row, at such a place behind it
-abbrev pub Answers : Op → Place → Cpu → Cpu → Step → Type 0
-Answers op next old new step = ForEach old (λ x plan s m t. CallsOrMeets x plan s m step old new (called op (here m t next)) (row op (here m t next)))
+abbrev pub RowAnswers : Op → Place → Cpu → Cpu → Step → Type 0
+RowAnswers op next old new step = ForEach old (λ x plan s m t. CallsOrMeets x plan s m step old new (called op (here m t next)) (row op (here m t next)))
 
 -- an operator was made by its row
 abbrev pub RowMade : Op → Place → Cpu → Cpu → Type 0
-RowMade op next old new = Answers op next old new Done
+RowMade op next old new = RowAnswers op next old new Done
 
 -- it wasn't, for such a reason, and nothing was changed
-pub record Refused (op : Op) (next : Place) (old new : Cpu) (why : Step) : Type 0 where
+pub record RowRefused (op : Op) (next : Place) (old new : Cpu) (why : Step) : Type 0 where
   pub same : new ≡ old
   pub other : why ≢ Done
-  pub row : Answers op next old new why
+  pub row : RowAnswers op next old new why
 
 -- it was made, and the task goes on behind it in its segment; or it was refused
 abbrev pub MadeOn : Op → Place → Cpu → Bool → Cpu → Step → Type 0
 MadeOn op next old true new why = RowMade op next old new × StaysInSegment old new next
-MadeOn op next old false new why = Refused op next old new why
+MadeOn op next old false new why = RowRefused op next old new why
 
 -- it was made, or refused
 abbrev pub MadeAway : Op → Place → Cpu → Bool → Cpu → Step → Type 0
 MadeAway op next old true new why = RowMade op next old new
-MadeAway op next old false new why = Refused op next old new why
+MadeAway op next old false new why = RowRefused op next old new why
 
 -- it was made, and the task goes on behind it in its segment, or elsewhere; or it was refused
 abbrev pub MadeWent : Op → Place → Cpu → Went → Cpu → Step → Type 0
 MadeWent op next old went.On new why = RowMade op next old new × StaysInSegment old new next
 MadeWent op next old went.Away new why = RowMade op next old new
-MadeWent op next old went.Not new why = Refused op next old new why
+MadeWent op next old went.Not new why = RowRefused op next old new why
 
 -- it was made, wherever it ends, and an activation record was left; or it was refused
 abbrev pub MadeLeaving : Op → Cpu → Bool → Cpu → Step → Type 0
 MadeLeaving op old true new why = ((next : Place) → RowMade op next old new) × CutsRecord old new
-MadeLeaving op old false new why = (next : Place) → Refused op next old new why
+MadeLeaving op old false new why = (next : Place) → RowRefused op next old new why
 
 -- the same, with the address up to below which the record's words go
 abbrev pub LeavesBy : Op → Cpu → Made → Cpu → Step → Type 0
 LeavesBy op old (outcome.Left upto) new why = ((next : Place) → RowMade op next old new) × CutsRecord old new × (upto ≡ old.regs.s + 1)
-LeavesBy op old outcome.Not new why = (next : Place) → Refused op next old new why
+LeavesBy op old outcome.Not new why = (next : Place) → RowRefused op next old new why
 LeavesBy op old _ new why = ⊥
 
 -- whether a step was made, after which the task goes on behind the operator, or why not

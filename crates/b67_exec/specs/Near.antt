@@ -67,7 +67,7 @@ is_straight (Mpcw bits) = true
 is_straight _ = false
 
 -- the operator at the running place isn't made, and this is why
-pub record Stops (cpu : Cpu) (why : Step) : Type 0 where
+pub record StopsHere (cpu : Cpu) (why : Step) : Type 0 where
   pub other : why ≢ Done
   pub row : ForEach cpu (λ x plan s m t. OperatorMeets x plan s m t why cpu cpu)
 
@@ -85,7 +85,7 @@ pub record NearMade (old new : Cpu) (after : Reader) : Type 0 where
 -- that, or nothing was changed, and this is why
 abbrev pub MadeNear : Cpu → Reader → Bool → Cpu → Reader → Step → Type 0
 MadeNear old before true new after why = NearMade old new after
-MadeNear old before false new after why = (new ≡ old) × (after ≡ before) × Stops old why
+MadeNear old before false new after why = (new ≡ old) × (after ≡ before) × StopsHere old why
 
 -- the operators on two numbers, MPCW or LT48, and branches
 abbrev pub code_of_numbers : Numeric → Code
@@ -127,7 +127,7 @@ pub record LeftMade (old new : Cpu) (high : ℕ) : Type 0 where
 -- one that leaves none was made, or nothing was changed, and this is why
 abbrev pub MadeOrNot : Cpu → Bool → Cpu → Step → Type 0
 MadeOrNot old true new why = FarMade old new
-MadeOrNot old false new why = (new ≡ old) × Stops old why
+MadeOrNot old false new why = (new ≡ old) × StopsHere old why
 
 -- an operator was made, and the reader stands where the task goes on, or the task went elsewhere; or nothing was changed, and this
 -- is why
@@ -135,7 +135,7 @@ abbrev pub Makes : Cpu → Reader → Made → Cpu → Reader → Step → Type 
 Makes old before outcome.On new after why = NearMade old new after
 Makes old before outcome.Away new after why = FarMade old new
 Makes old before (outcome.Left upto) new after why = LeftMade old new upto
-Makes old before outcome.Not new after why = (new ≡ old) × (after ≡ before) × Stops old why
+Makes old before outcome.Not new after why = (new ≡ old) × (after ≡ before) × StopsHere old why
 
 abbrev pub outcome_of : Bool → Made
 outcome_of true = outcome.On

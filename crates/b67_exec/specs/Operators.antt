@@ -38,24 +38,22 @@ is_quick codes.Neql = true
 is_quick codes.Zero = true
 is_quick codes.One = true
 is_quick codes.Push = true
-is_quick codes.Noop = true
 is_quick codes.Dlet = true
 is_quick codes.Exch = true
 is_quick codes.Dupl = true
 is_quick _ = false
 
--- those of them that push, move or take off cells, or do nothing
+-- those of them that push, move or take off cells
 abbrev pub moves_cells : Code → Bool
 moves_cells codes.Zero = true
 moves_cells codes.One = true
 moves_cells codes.Push = true
-moves_cells codes.Noop = true
 moves_cells codes.Dlet = true
 moves_cells codes.Exch = true
 moves_cells codes.Dupl = true
 moves_cells _ = false
 
--- those behind a call that are on the top cells alone, or no operator
+-- those behind a call that are on the top cells alone, or on none
 abbrev pub is_on_top : Code → Bool
 is_on_top codes.Mult = true
 is_on_top codes.Idiv = true
@@ -66,6 +64,7 @@ is_on_top codes.Lor = true
 is_on_top codes.Leqv = true
 is_on_top codes.Lnot = true
 is_on_top codes.Same = true
+is_on_top codes.Noop = true
 is_on_top codes.Nvld = true
 is_on_top _ = false
 
@@ -85,27 +84,27 @@ may_enter codes.Ston = true
 may_enter _ = false
 
 -- those that are read whole, not syllable after syllable, as branches are to a place outside the segment
-abbrev pub is_whole : Op → Bool
-is_whole (Bset n) = true
-is_whole (Brst n) = true
-is_whole (Isol high width) = true
-is_whole (Insr high width) = true
-is_whole (Brun target) = true
-is_whole (Brtr target) = true
-is_whole (Brfl target) = true
-is_whole _ = false
+abbrev pub is_read_whole : Op → Bool
+is_read_whole (Bset n) = true
+is_read_whole (Brst n) = true
+is_read_whole (Isol high width) = true
+is_read_whole (Insr high width) = true
+is_read_whole (Brun target) = true
+is_read_whole (Brtr target) = true
+is_read_whole (Brfl target) = true
+is_read_whole _ = false
 
 -- what a first syllable begins is read whole, or is no operator
-abbrev pub IsWhole : Option Form → Type 0
-IsWhole None = Unit {0}
-IsWhole (Some (Alone code)) = ⊥
-IsWhole (Some (OneMore op)) = (low : ℕ) → is_whole (op low) ≡ true
-IsWhole (Some (TwoMore op)) = (high low : ℕ) → is_whole (op high low) ≡ true
-IsWhole (Some (Literal op)) = (bits : ℕ) → is_whole (op bits) ≡ true
+abbrev pub BeginsWhole : Option Form → Type 0
+BeginsWhole None = Unit {0}
+BeginsWhole (Some (Alone code)) = ⊥
+BeginsWhole (Some (OneMore op)) = (low : ℕ) → is_read_whole (op low) ≡ true
+BeginsWhole (Some (TwoMore op)) = (high low : ℕ) → is_read_whole (op high low) ≡ true
+BeginsWhole (Some (Literal op)) = (bits : ℕ) → is_read_whole (op bits) ≡ true
 
 abbrev pub ReadsWhole : Reading → Type 0
 ReadsWhole (Err why) = Unit {0}
-ReadsWhole (Ok read) = is_whole read.0 ≡ true
+ReadsWhole (Ok read) = is_read_whole read.0 ≡ true
 
 -- where the running segment is absent, nothing has changed; where it calls an intrinsic, neither; else its row was made
 abbrev pub OperatorAt : Storage → Placement → Session → SessionJob → Task → Step → Cpu → Cpu → Option ℕ → Type 0

@@ -4,7 +4,7 @@ ghost use Rattle.std.specs.Prelude.{◌≡◌, ◌<◌, Some, slice_get, length,
 ghost use Rattle.b67_model.specs.declared.operators.Code.{Code};
 ghost use Rattle.b67_model.specs.Operators.{Form, form_of};
 ghost use Rattle.b67_exec.specs.declared.firsts.Near.TheVariants as near;
-ghost use Rattle.b67_exec.specs.Operators.{is_on_top, IsWhole};
+ghost use Rattle.b67_exec.specs.Operators.{is_on_top, BeginsWhole};
 ghost use Rattle.b67_exec.specs.Firsts.{near_form};
 
 use b67_model::Code;
@@ -32,7 +32,6 @@ pub enum Near {
     Equl,
     Neql,
     Push,
-    Noop,
     Dlet,
     Exch,
     Dupl,
@@ -307,7 +306,7 @@ const NEARS: [Near; 256] = [
     Near::Other,
     Near::Other,
     Near::Other,
-    Near::Noop,
+    Near::Far(Code::Noop),
     Near::Far(Code::Nvld),
 ];
 
@@ -324,7 +323,7 @@ fn near_in(nears: &[Near], i: u8) -> Near
 pub fn near_of(first: u8) -> Near
     ensures form { (f : Form) → near_form result first ≡ Some f → form_of first ≡ Some f }
     ensures far { (code : Code) → result ≡ near.Far code → is_on_top code ≡ true }
-    ensures whole { result ≡ near.Other → IsWhole (form_of first) }
+    ensures whole { result ≡ near.Other → BeginsWhole (form_of first) }
 {
     near_in(&NEARS, first)
 }

@@ -11,7 +11,7 @@ ghost use Rattle.b67_stack.specs.declared.Step.TheVariants as answers;
 ghost use Rattle.b67_word.specs.declared.faults.Fault.TheVariants.{InvalidOperator};
 ghost use Rattle.b67_layout.specs.Meets.{here, Meets, RunsSome, ForEach};
 ghost use Rattle.b67_layout_step.specs.Keeping.{is_leaving};
-ghost use Rattle.b67_exec.specs.Operators.{moves_cells, is_on_top, goes_behind, may_enter, IsWhole};
+ghost use Rattle.b67_exec.specs.Operators.{moves_cells, is_on_top, goes_behind, may_enter, BeginsWhole};
 ghost use Rattle.b67_exec.specs.Near.{ReaderBehind, WentOn, MadeNear, Makes, outcome_of, code_of_numbers, word_op, branch_op};
 ghost use Rattle.b67_exec.specs.Far.{MadeOn, MadeAway, MadeWent, MadeLeaving, LeavesBy, LeadsTo};
 
@@ -102,7 +102,7 @@ fn numbers(cpu: &mut Cpu, reader: &mut Reader, op: Numeric, why: &mut Step) -> b
     went_on(step, reader, next, why)
 }
 
-/// ZERO, ONE, PUSH, NOOP, DLET, EXCH or DUPL, after which the task goes on at `next`.
+/// ZERO, ONE, PUSH, DLET, EXCH or DUPL, after which the task goes on at `next`.
 #[inline(always)]
 fn moves(cpu: &mut Cpu, code: Code, next: Place) -> Step
     requires runs { RunsSome cpu.old }
@@ -113,7 +113,6 @@ fn moves(cpu: &mut Cpu, code: Code, next: Place) -> Step
         Code::Zero => literal(cpu, 0, next),
         Code::One => literal(cpu, 1, next),
         Code::Push => branch_to(cpu, next),
-        Code::Noop => branch_to(cpu, next),
         Code::Dlet => dlet(cpu, next),
         Code::Exch => exch(cpu, next),
         Code::Dupl => dupl(cpu, next),
@@ -229,7 +228,7 @@ fn literal_word(cpu: &mut Cpu, reader: &mut Reader, procedure: bool, why: &mut S
 fn reads_whole(cpu: &mut Cpu, reader: Reader, why: &mut Step) -> Made
     requires runs { RunsSome cpu.old }
     requires stands { ReaderBehind cpu.old reader 0 }
-    requires whole { IsWhole (form_of (reader.bits / 2 ^ 56)) }
+    requires whole { BeginsWhole (form_of (reader.bits / 2 ^ 56)) }
     ensures { Makes cpu.old reader result cpu.new reader why.new }
 {
     let _ = reader;
@@ -564,7 +563,6 @@ pub fn operate(cpu: &mut Cpu, reader: &mut Reader, why: &mut Step) -> Made
         Near::Equl => on(numbers(cpu, reader, Numeric::Equl, why)),
         Near::Neql => on(numbers(cpu, reader, Numeric::Neql, why)),
         Near::Push => on(alone(cpu, reader, Code::Push, why)),
-        Near::Noop => on(alone(cpu, reader, Code::Noop, why)),
         Near::Dlet => on(alone(cpu, reader, Code::Dlet, why)),
         Near::Exch => on(alone(cpu, reader, Code::Exch, why)),
         Near::Dupl => on(alone(cpu, reader, Code::Dupl, why)),

@@ -8,7 +8,7 @@ ghost use Rattle.b67_stack.specs.declared.Step.TheVariants.{Done};
 ghost use Rattle.b67_layout.specs.Meets.{here, RunsSome, ForEach};
 ghost use Rattle.b67_exec_cells.specs.Tops.{StaysInSegment};
 ghost use Rattle.b67_entry.specs.Procedures.{CallsOrMeets};
-ghost use Rattle.b67_exec.specs.Operators.{ParametersHaveBits, is_on_top, is_whole, ReadsWhole, OperatorMeets};
+ghost use Rattle.b67_exec.specs.Operators.{ParametersHaveBits, is_on_top, is_read_whole, ReadsWhole, OperatorMeets};
 ghost use Rattle.b67_exec.specs.Near.{MadeOrNot};
 
 use crate::far::is_done;
@@ -21,7 +21,7 @@ use b67_model::{Code, Op};
 use b67_stack::{Cpu, Step, What};
 use b67_word::{Fault, Place};
 
-/// An operator without parameters on the top cells that stands behind a call, after which the task goes on at `next`.
+/// An operator without parameters on the top cells, NOOP or NVLD, which stands behind a call, after which the task goes on at `next`.
 #[inline(always)]
 pub(crate) fn on_top(cpu: &mut Cpu, code: Code, next: Place) -> Step
     requires runs { RunsSome cpu.old }
@@ -39,6 +39,7 @@ pub(crate) fn on_top(cpu: &mut Cpu, code: Code, next: Place) -> Step
         Code::Leqv => on_two(cpu, Binary::Leqv, next),
         Code::Lnot => on_one(cpu, Unary::Lnot, next),
         Code::Same => on_two(cpu, Binary::Same, next),
+        Code::Noop => branch_to(cpu, next),
         Code::Nvld => Step::Fault(Fault::InvalidOperator),
         _ => unreachable!(),
     }
@@ -48,7 +49,7 @@ pub(crate) fn on_top(cpu: &mut Cpu, code: Code, next: Place) -> Step
 #[inline(always)]
 fn whole(cpu: &mut Cpu, op: Op, next: Place) -> Step
     requires runs { RunsSome cpu.old }
-    requires whole { is_whole op ≡ true }
+    requires whole { is_read_whole op ≡ true }
     requires parameters { ParametersHaveBits op }
     ensures row { ForEach cpu.old (λ x plan s m t. CallsOrMeets x plan s m result cpu.old cpu.new (called op (here m t next)) (row op (here m t next))) }
 {

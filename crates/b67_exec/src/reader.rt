@@ -4,7 +4,7 @@ ghost use Rattle.std.specs.Prelude.{◌≡◌, ◌+◌, ◌-◌, ◌*◌, ◌/�
 ghost use Rattle.b67_model.specs.Operators.{count_at};
 ghost use Rattle.b67_model.specs.Rows.{code_of};
 ghost use Rattle.b67_layout.specs.Meets.{RunsSome, ForEach};
-ghost use Rattle.b67_exec.specs.Near.{HoldsCode, ReaderAt, ReaderBehind, ReaderInside, EndsBehind, IsOutside, Stops};
+ghost use Rattle.b67_exec.specs.Near.{HoldsCode, ReaderAt, ReaderBehind, ReaderInside, EndsBehind, IsOutside, StopsHere};
 
 use b67_ctl::SegDesc;
 use b67_exec_cells::present_segment;
@@ -186,7 +186,7 @@ fn reader_at(cpu: &Cpu, code: SegDesc) -> Option<Reader>
 pub fn reader_here(cpu: &Cpu, why: &mut Step) -> Option<Reader>
     requires { RunsSome cpu.now }
     ensures reader { IfSome result (λ r. ReaderBehind cpu.now r 0) }
-    ensures why { result ≡ None → Stops cpu.now why.new }
+    ensures why { result ≡ None → StopsHere cpu.now why.new }
 {
     let code = match present_segment(cpu) {
         Some(code) => code,

@@ -1,10 +1,15 @@
 -- The first operator of a turn, alone or with others behind it.
-use Rattle.std.proofs.Common.{◌≡◌, ℕ, ◌+◌, ◌-◌, ◌≤◌, refl, sym, ◌∙◌, subst, arith, inl, inr}
+use Rattle.std.proofs.Common.{◌≡◌, ◌≢◌, ℕ, ◌+◌, ◌-◌, ◌≤◌, refl, sym, ◌∙◌, subst, arith, inl, inr}
 use Rattle.std.proofs.lemmas.Bool.{cases_lt}
+use Rattle.std.proofs.lemmas.Bool.Decides.{eqb_tells}
+use Rattle.b67_stack.specs.declared.Cpu.{Cpu}
+use Rattle.b67_stack.specs.declared.Step.{Step}
+use Rattle.b67_stack.specs.declared.Step.TheVariants.{Done}
+use Rattle.b67_exec.specs.Near.{StopsHere}
 use Rattle.b67_task_tables.specs.declared.tables.Machine.{Machine}
 use Rattle.b67_task_tables.specs.Runs.{RunsTask}
 use Rattle.b67_session.specs.Makes.{MakesOne}
-use Rattle.b67_session.specs.InTurn.{BeginsWith}
+use Rattle.b67_session.specs.InTurn.{BeginsWith, SaysWhyFewer}
 
 pub begins_none : (made : ℕ) (k : Machine) → made ≡ 0 → BeginsWith made k k
 begins_none made k e = record { none = λ z. refl; one = λ z. absurd (omega (arith, e, z)) }
@@ -37,4 +42,11 @@ pub begins_runs : (most left : ℕ) (old now : Machine) → 1 ≤ left → left 
 begins_runs most left old now some few b runs later = elim (cases_lt 1 most) [
   | inl two ↦ later (omega (arith, two))
   | inr one ↦ subst RunsTask (sym (b.none (omega (arith, one, some, few)))) runs
+]
+
+-- a reason other than the one before is that of the operator at the running place
+pub why_here : (asked made : ℕ) (cpu : Cpu) (before after : Step) → made ≤ asked → before ≡ Done → SaysWhyFewer asked made cpu before after → after ≢ Done → StopsHere cpu after
+why_here asked made cpu before after few done says other = elim (eqb_tells made asked) [
+  | inl t ↦ absurd (other (says.all t.1 ∙ done))
+  | inr t ↦ says.stops (omega (arith, few, t.1))
 ]

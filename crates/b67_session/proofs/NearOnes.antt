@@ -8,7 +8,7 @@ use Rattle.b67_stack.specs.declared.Step.TheVariants.{Done}
 use Rattle.b67_stack.specs.MachineView.{PagedObject}
 use Rattle.b67_stack.specs.Represents.{Storage}
 use Rattle.b67_exec.specs.Operators.{CutsRecord}
-use Rattle.b67_exec.specs.Near.{FarMade, LeftMade, Stops}
+use Rattle.b67_exec.specs.Near.{FarMade, LeftMade, StopsHere}
 use Rattle.b67_task_release.specs.Left.{IsLeft, AreReleased}
 use Rattle.b67_task_tables.specs.declared.tables.Machine.{Machine}
 use Rattle.b67_task_tables.specs.Runs.{RunsTask, Keeps}
@@ -29,11 +29,11 @@ stays_keeps old new r made = record {
 }
 
 -- what isn't made, by its reason
-pub stopped : (k : Machine) (why : Step) → Stops k.cpu why → ForEachReady k (λ x told plan s m t. MakesInSegment x told plan s m t why k k)
+pub stopped : (k : Machine) (why : Step) → StopsHere k.cpu why → ForEachReady k (λ x told plan s m t. MakesInSegment x told plan s m t why k k)
 stopped k why stops x told plan s m t o h runs ready = not_made x told plan s m t k o h runs ready k.cpu why stops.other (stops.row x plan s m t o h.session runs)
 
 -- the first operator of a turn was made, or this is the reason
-pub stopped_first : (old new : Machine) (why : Step) → new ≡ old → Stops new.cpu why → ForEachReady old (λ x told plan s m t. MakesInSegment x told plan s m t why old new)
+pub stopped_first : (old new : Machine) (why : Step) → new ≡ old → StopsHere new.cpu why → ForEachReady old (λ x told plan s m t. MakesInSegment x told plan s m t why old new)
 stopped_first old new why same stops = subst (λ (z : Machine). ForEachReady z (λ x told plan s m t. MakesInSegment x told plan s m t why z new)) same (stopped new why stops)
 
 -- what giving back its arrays, up to an address, says of a machine

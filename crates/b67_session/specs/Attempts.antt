@@ -5,7 +5,7 @@ use Rattle.b67_word.specs.declared.faults.Ending.TheVariants.{Faulted}
 use Rattle.b67_word.specs.declared.faults.Fault.TheVariants.{InvalidOperator}
 use Rattle.b67_lemmas.specs.Lists.{Has}
 use Rattle.b67_backing.specs.Held.{Becomes}
-use Rattle.b67_layout_storage.specs.Machine.{HasHole}
+use Rattle.b67_layout_storage.specs.Machine.{HasHole, DeviceAfterCalls}
 use Rattle.b67_task_need.specs.Needing.{need_with}
 use Rattle.b67_model.specs.declared.intrinsics.TheConstants.{PROCESS}
 use Rattle.b67_model.specs.Common.{Array, Ready, Task, Job, SessionJob, code_of, sectors, touched_of, need, step, Session}
@@ -21,6 +21,7 @@ use Rattle.b67_task_tables.specs.declared.tables.Machine.{Machine}
 use Rattle.b67_task_tables.specs.declared.tables.Tasks.{Tasks}
 use Rattle.b67_task_tables.specs.Tables.{MachineRepresents}
 use Rattle.b67_mcp.specs.Called.{IsCalled, HoldsOther, IsCut, IsShortAt, Lengthens, StartsTask, CallsDevice, WaitsSo}
+use Rattle.b67_mcp.specs.Running.{CallCauses, Keeps}
 use Rattle.b67_mcp.specs.declared.ends.Stop.{Stop}
 use Rattle.b67_mcp.specs.declared.ends.Stop.TheVariants as stops
 use Rattle.b67_session.specs.declared.outcomes.Attempt.{Attempt}
@@ -232,3 +233,10 @@ TablesStay (Ok (attempts.Ends ending)) old new = new ≡ old
 TablesStay (Ok (attempts.Waits state)) old new = new ≡ old
 TablesStay (Err stops.PrintFault) old new = new ≡ record old { printed = new.printed }
 TablesStay (Err stop) old new = new ≡ old
+
+-- What a try leaves, however it ends: each failure has its cause, the sizes and what the deck gave are as they were, and the device is
+-- as calls leave it
+pub record TryLeaves {A D K : Type 0} (holds : D → Option (List (List ℕ))) (size calls faults : D → ℕ) (failed : K → ℕ) (answered : Result A Stop) (old new : Machine) (device device' : D) (paper paper' : K) : Type 0 where
+  pub causes : CallCauses faults failed device device' paper paper' answered
+  pub kept : Keeps old new
+  pub served : DeviceAfterCalls holds size calls faults device device'

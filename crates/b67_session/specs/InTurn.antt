@@ -1,9 +1,12 @@
 -- Operators of a turn that were made and aren't counted yet.
-use Rattle.std.specs.Prelude.{◌≡◌, ℕ, ◌+◌, ◌≤◌, List, length, Option, Some}
+use Rattle.std.specs.Prelude.{◌≡◌, ℕ, ◌+◌, ◌≤◌, ◌<◌, Bool, true, false, List, length, Option, Some}
 use Rattle.b67_model.specs.Common.{IsInOrderButPlaces, after, lines, number_of, Session, Task, SessionJob}
 use Rattle.b67_model.specs.Keyed.{keyed}
 use Rattle.b67_stack.specs.Represents.{Storage}
 use Rattle.b67_layout.specs.Placement.{Placement, slot_of}
+use Rattle.b67_stack.specs.declared.Cpu.{Cpu}
+use Rattle.b67_stack.specs.declared.Step.{Step}
+use Rattle.b67_exec.specs.Near.{StopsHere}
 use Rattle.b67_task_tables.specs.declared.tables.Machine.{Machine}
 use Rattle.b67_task_tables.specs.Runs.{RunsTask}
 use Rattle.b67_task_tables.specs.Tables.{MachineRepresents}
@@ -71,3 +74,14 @@ pub record MayMake (k : Machine) (most : ℕ) : Type 0 where
   pub runs : RunsTask k
   pub goes : 2 ≤ most → TurnGoesOn k most
   pub some : 1 ≤ most
+
+-- so many operators of a turn are still to be made: fewer, if the turn goes on with them elsewhere, and some, if it doesn't
+pub record LeavesToMake (most room : ℕ) (goes : Bool) : Type 0 where
+  pub few : room ≤ most
+  pub some : goes ≡ true → room < most
+  pub left : goes ≡ false → 1 ≤ room
+
+-- all operators that were asked for were made, and the reason is as it was; or fewer, and it says why the next one isn't made
+pub record SaysWhyFewer (asked made : ℕ) (cpu : Cpu) (before after : Step) : Type 0 where
+  pub all : made ≡ asked → after ≡ before
+  pub stops : made < asked → StopsHere cpu after

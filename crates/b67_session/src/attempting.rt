@@ -4,8 +4,8 @@ ghost use Rattle.std.specs.Prelude.{◌≡◌, ◌≢◌, ◌+◌, length};
 ghost use Rattle.b67_layout_storage.specs.Machine.{DeviceAfterCalls, content_after};
 ghost use Rattle.b67_mcp.specs.Running.{JobsHaveRoom, CallCauses, Keeps};
 ghost use Rattle.b67_stack.specs.declared.Step.TheVariants.{Done};
-ghost use Rattle.b67_exec.specs.Near.{Stops};
-ghost use Rattle.b67_session.specs.Attempts.{RunsOver, ForEachOver, AttemptRow, WithCodeRow, LastRow, TablesStay};
+ghost use Rattle.b67_exec.specs.Near.{StopsHere};
+ghost use Rattle.b67_session.specs.Attempts.{RunsOver, ForEachOver, AttemptRow, WithCodeRow, LastRow, TablesStay, TryLeaves};
 
 use crate::bringing::bring_wanted;
 use crate::outcomes::Attempt;
@@ -87,14 +87,12 @@ fn attempt_seen<B: Backing, K: Sink>(
     requires runs { RunsOver machine.old (B.holds backing.old) }
     requires jobs { JobsHaveRoom machine.old.tasks.jobs }
     requires same { B.size backing.old + 1 ≡ length machine.old.sectors.links }
-    requires why { Stops machine.old.cpu why }
+    requires why { StopsHere machine.old.cpu why }
     ensures row { ForEachOver machine.old (B.holds backing.old) (λ x plan s m t.
         AttemptRow B.holds K.taken x (content_after x.device (B.holds backing.new)) (length machine.old.cpu.core) (B.size backing.old) machine.old.tasks.printed plan s m t result machine.new
         backing.old backing.new paper.old paper.new) }
-    ensures causes { CallCauses B.faults K.faults backing.old backing.new paper.old paper.new result }
-    ensures kept { Keeps machine.old machine.new }
     ensures tables { TablesStay result machine.old.tasks machine.new.tasks }
-    ensures device { DeviceAfterCalls B.holds B.size B.calls B.faults backing.old backing.new }
+    ensures leaves { TryLeaves B.holds B.size B.calls B.faults K.faults result machine.old machine.new backing.old backing.new paper.old paper.new }
 {
     match carry_out(machine, why, backing, paper) {
         Ok(Tried::Made) => Ok(Attempt::Made),
@@ -120,15 +118,13 @@ pub(crate) fn attempt_told<B: Backing, K: Sink>(
     requires runs { RunsOver machine.old (B.holds backing.old) }
     requires jobs { JobsHaveRoom machine.old.tasks.jobs }
     requires same { B.size backing.old + 1 ≡ length machine.old.sectors.links }
-    requires why { why.old ≢ Done → Stops machine.old.cpu why.old }
+    requires why { why.old ≢ Done → StopsHere machine.old.cpu why.old }
     ensures done { why.new ≡ Done }
     ensures row { ForEachOver machine.old (B.holds backing.old) (λ x plan s m t.
         AttemptRow B.holds K.taken x (content_after x.device (B.holds backing.new)) (length machine.old.cpu.core) (B.size backing.old) machine.old.tasks.printed plan s m t result machine.new
         backing.old backing.new paper.old paper.new) }
-    ensures causes { CallCauses B.faults K.faults backing.old backing.new paper.old paper.new result }
-    ensures kept { Keeps machine.old machine.new }
     ensures tables { TablesStay result machine.old.tasks machine.new.tasks }
-    ensures device { DeviceAfterCalls B.holds B.size B.calls B.faults backing.old backing.new }
+    ensures leaves { TryLeaves B.holds B.size B.calls B.faults K.faults result machine.old machine.new backing.old backing.new paper.old paper.new }
 {
     if make_told(machine, why) {
         return Ok(Attempt::Made);

@@ -2,7 +2,7 @@
 
 ghost use Rattle.std.specs.Prelude.{◌≡◌, ◌≢◌};
 ghost use Rattle.b67_stack.specs.declared.Step.TheVariants.{Done};
-ghost use Rattle.b67_exec.specs.Near.{ReaderBehind, Stops};
+ghost use Rattle.b67_exec.specs.Near.{ReaderBehind, StopsHere};
 ghost use Rattle.b67_exec.specs.declared.far.Went.TheVariants.{On, Not};
 ghost use Rattle.b67_task_tables.specs.Runs.{RunsTask, Keeps};
 ghost use Rattle.b67_session.specs.Makes.{MakesInSegment, ForEachReady};
@@ -21,7 +21,7 @@ pub fn make_next(machine: &mut Machine, reader: &mut Reader, why: &mut Step) -> 
     requires stands { ReaderBehind machine.old.cpu reader.old 0 }
     ensures row { result ≢ Not → ForEachReady machine.old (λ x told plan s m t. MakesInSegment x told plan s m t Done machine.old machine.new) }
     ensures rest { result ≡ Not → machine.new ≡ machine.old }
-    ensures why { result ≡ Not → Stops machine.old.cpu why.new }
+    ensures why { result ≡ Not → StopsHere machine.old.cpu why.new }
     ensures stands { result ≡ On → ReaderBehind machine.new.cpu reader.new 0 }
     ensures keeps { Keeps machine.old machine.new }
     ensures tasks { machine.new.tasks ≡ machine.old.tasks }

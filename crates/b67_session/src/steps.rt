@@ -3,19 +3,19 @@
 ghost use Rattle.std.specs.Prelude.{◌≡◌, ◌≢◌, ℕ, ◌+◌, ◌≤◌, List, Option, None, Err, length};
 ghost use Rattle.b67_model.specs.State.{Task, SessionJob};
 ghost use Rattle.b67_model.specs.Schedule.{Session};
-ghost use Rattle.b67_layout_storage.specs.Machine.{Says, DeviceAfterCalls, content_after};
+ghost use Rattle.b67_layout_storage.specs.Machine.{Says, content_after};
 ghost use Rattle.b67_io.specs.Causes.{Rose};
 ghost use Rattle.b67_law_sessions.specs.Orders.{IsInOrderButLimit};
 ghost use Rattle.b67_law_sessions.specs.Turns.{IsNext};
 ghost use Rattle.b67_stack.specs.declared.Step.TheVariants.{Done};
 ghost use Rattle.b67_stack.specs.Represents.{Storage};
-ghost use Rattle.b67_exec.specs.Near.{Stops};
+ghost use Rattle.b67_exec.specs.Near.{StopsHere};
 ghost use Rattle.b67_layout.specs.Placement.{Placement};
 ghost use Rattle.b67_task_tables.specs.Runs.{Keeps};
 ghost use Rattle.b67_task_tables.specs.Tables.{MachineRepresents};
 ghost use Rattle.b67_session_ends.specs.Ends.{StandsBetween};
 ghost use Rattle.b67_session.specs.AttemptStops as stops;
-ghost use Rattle.b67_session.specs.AttemptPassed.{CallCauses};
+ghost use Rattle.b67_session.specs.Attempts.{TryLeaves};
 ghost use Rattle.b67_session.specs.Slices.{IsStepDue, StandsAt, IfPresent};
 ghost use Rattle.b67_session.specs.Steps.{EndsStep, Steps};
 
@@ -61,15 +61,13 @@ pub(crate) fn step<B: Backing, K: Sink>(
 ) -> Result<(), Stop>
     requires due { IsStepDue (B.holds backing.old) machine.old }
     requires sized { B.size backing.old + 1 ≡ length machine.old.sectors.links }
-    requires why { why.old ≢ Done → Stops machine.old.cpu why.old }
+    requires why { why.old ≢ Done → StopsHere machine.old.cpu why.old }
     ensures done { why.new ≡ Done }
     ensures row { (said : Option (List (List ℕ))) (s : Session) → Says said (B.holds backing.old) → StandsAt said machine.old s
         → Steps K.taken (content_after said (B.holds backing.new)) (said ≢ None) (B.size backing.old) s result machine.old machine.new paper.old paper.new }
     ensures present { (said : Option (List (List ℕ))) (s : Session) (m : SessionJob) (t : Task) → Says said (B.holds backing.old) → (h : StandsAt said machine.old s) → IsNext s m t
         → IfPresent B.holds (said ≢ None) (length machine.old.cpu.core) 1 h.storage h.plan s m t result machine.old machine.new backing.old backing.new }
-    ensures causes { CallCauses B.faults K.faults backing.old backing.new paper.old paper.new result }
-    ensures kept { Keeps machine.old machine.new }
-    ensures device { DeviceAfterCalls B.holds B.size B.calls B.faults backing.old backing.new }
+    ensures leaves { TryLeaves B.holds B.size B.calls B.faults K.faults result machine.old machine.new backing.old backing.new paper.old paper.new }
 {
     let chosen = match choose(&machine.tasks) {
         Some(chosen) => chosen,

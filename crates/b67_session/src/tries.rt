@@ -2,7 +2,7 @@
 
 ghost use Rattle.std.specs.Prelude.{◌≡◌, ◌+◌, length};
 ghost use Rattle.b67_layout_storage.specs.Machine.{DeviceAfterCalls};
-ghost use Rattle.b67_exec.specs.Near.{Stops};
+ghost use Rattle.b67_exec.specs.Near.{StopsHere};
 ghost use Rattle.b67_task_tables.specs.Runs.{Keeps};
 ghost use Rattle.b67_mcp.specs.Running.{JobsHaveRoom, CallCauses};
 ghost use Rattle.b67_session.specs.Makes.{ForEachReady};
@@ -38,7 +38,7 @@ pub(crate) fn carry_out<B: Backing, K: Sink>(
     requires runs { ReadyRuns machine.old }
     requires jobs { JobsHaveRoom machine.old.tasks.jobs }
     requires same { B.size backing.old + 1 ≡ length machine.old.sectors.links }
-    requires why { Stops machine.old.cpu why }
+    requires why { StopsHere machine.old.cpu why }
     ensures tried { ForEachReady machine.old (λ x told plan s m t.
         TryRow B.holds K.taken (B.size backing.old) x told plan s m t result machine.old machine.new backing.old backing.new paper.old paper.new) }
     ensures causes { CallCauses B.faults K.faults backing.old backing.new paper.old paper.new result }

@@ -9,7 +9,7 @@ ghost use Rattle.b67_layout.specs.Placement.{Placement};
 ghost use Rattle.b67_task_switch.specs.Turns.{with_running};
 ghost use Rattle.b67_task_tables.specs.declared.tables.TaskRow.{TaskRow};
 ghost use Rattle.b67_stack.specs.declared.Step.TheVariants.{Done};
-ghost use Rattle.b67_exec.specs.Near.{Stops};
+ghost use Rattle.b67_exec.specs.Near.{StopsHere};
 ghost use Rattle.b67_task_tables.specs.Runs.{RunsTask};
 ghost use Rattle.b67_task_tables.specs.Tables.{MachineRepresents};
 ghost use Rattle.b67_task_switch.specs.Standing.{HasRow};
@@ -17,7 +17,7 @@ ghost use Rattle.b67_task_switch.specs.Lasting.{TurnLasts};
 ghost use Rattle.b67_session.specs.Slices.{StandsAt, Keeps};
 ghost use Rattle.b67_session.specs.Steps.{IsInOrderFor, GoesOnInTurn};
 ghost use Rattle.b67_session.specs.Makes.{MakesInSegment, MakesOne, ForEachReady};
-ghost use Rattle.b67_session.specs.InTurn.{BeginsWith, MayMake, TurnBegins, HasTurnLeft, MadeInTurn};
+ghost use Rattle.b67_session.specs.InTurn.{BeginsWith, MayMake, TurnBegins, HasTurnLeft, MadeInTurn, LeavesToMake, SaysWhyFewer};
 
 use crate::making::make_next;
 use b67_exec::{Went, reader_here};
@@ -30,14 +30,14 @@ use b67_task_tables::Machine;
 #[inline(always)]
 pub(crate) fn give_turn(machine: &mut Machine, row: u8, why: &mut Step)
     requires row { HasRow machine.old row }
-    requires why { why.old ≢ Done → Stops machine.old.cpu why.old }
+    requires why { why.old ≢ Done → StopsHere machine.old.cpu why.old }
     ensures stands { (x : Storage) (told : Option (List (List ℕ))) (plan : Placement) (s : Session) (r : TaskRow) → IsInOrderButCounts s
         → MachineRepresents x told machine.old plan s → slice_get machine.old.tasks.rows.items row ≡ Some r
         → MachineRepresents x told machine.new (with_running plan r.slot) s }
     ensures tables { machine.new.tasks ≡ record machine.old.tasks { rows = machine.new.tasks.rows; running = row } }
     ensures len { length machine.new.cpu.core ≡ length machine.old.cpu.core }
     ensures sectors { machine.new.sectors ≡ machine.old.sectors }
-    ensures why { why.new ≢ Done → Stops machine.new.cpu why.new }
+    ensures why { why.new ≢ Done → StopsHere machine.new.cpu why.new }
 {
     if machine.tasks.running != row {
         switch_to(machine, row);
@@ -58,10 +58,8 @@ struct StillToMake {
 #[inline(always)]
 fn make_in_segment(machine: &mut Machine, most: u64, why: &mut Step) -> StillToMake
     requires { MayMake machine.old most }
-    ensures few { result.room ≤ most }
-    ensures some { result.goes ≡ true → result.room < most }
-    ensures left { result.goes ≡ false → 1 ≤ result.room }
-    ensures stops { result.goes ≡ false → Stops machine.new.cpu why.new }
+    ensures left { LeavesToMake most result.room result.goes }
+    ensures stops { result.goes ≡ false → StopsHere machine.new.cpu why.new }
     ensures first { BeginsWith (most - result.room) machine.old machine.new }
     ensures row { (said : Option (List (List ℕ))) (steps core : ℕ) (s : Session) → length machine.old.cpu.core ≡ core → HasTurnLeft said steps most s core machine.old
         → HasTurnLeft said (steps + (most - result.room)) result.room s core machine.new }
@@ -93,8 +91,7 @@ fn make_in_turn(machine: &mut Machine, room: u64, why: &mut Step) -> u64
     requires runs { RunsTask machine.old }
     requires begins { 2 ≤ room → TurnBegins machine.old room }
     ensures few { result ≤ room }
-    ensures all { result ≡ room → why.new ≡ why.old }
-    ensures stops { result < room → Stops machine.new.cpu why.new }
+    ensures why { SaysWhyFewer room result machine.new.cpu why.old why.new }
     ensures first { BeginsWith result machine.old machine.new }
     ensures row { (x : Storage) (said : Option (List (List ℕ))) (plan : Placement) (s : Session) → IsInOrderButPlaces s → MachineRepresents x said machine.old plan s → TurnLasts plan s room
         → MadeInTurn said result s (length machine.old.cpu.core) machine.new }
@@ -119,11 +116,11 @@ fn make_in_turn(machine: &mut Machine, room: u64, why: &mut Step) -> u64
 #[inline(always)]
 pub(crate) fn make_told(machine: &mut Machine, why: &mut Step) -> bool
     requires runs { RunsTask machine.old }
-    requires why { why.old ≢ Done → Stops machine.old.cpu why.old }
+    requires why { why.old ≢ Done → StopsHere machine.old.cpu why.old }
     ensures row { result ≡ true → MakesOne machine.old machine.new }
     ensures done { result ≡ true → why.new ≡ Done }
     ensures rest { result ≡ false → machine.new ≡ machine.old }
-    ensures stops { result ≡ false → Stops machine.new.cpu why.new }
+    ensures stops { result ≡ false → StopsHere machine.new.cpu why.new }
     ensures keeps { Keeps machine.old machine.new }
     ensures tasks { machine.new.tasks ≡ machine.old.tasks }
 {
@@ -151,7 +148,7 @@ pub fn make(machine: &mut Machine) -> Step
     requires runs { RunsTask machine.old }
     ensures row { ForEachReady machine.old (λ x told plan s m t. MakesInSegment x told plan s m t result machine.old machine.new) }
     ensures rest { result ≢ Done → machine.new ≡ machine.old }
-    ensures stops { result ≢ Done → Stops machine.new.cpu result }
+    ensures stops { result ≢ Done → StopsHere machine.new.cpu result }
     ensures keeps { Keeps machine.old machine.new }
     ensures tasks { machine.new.tasks ≡ machine.old.tasks }
 {
@@ -173,7 +170,7 @@ pub(crate) fn go_on_with_turn(machine: &mut Machine, most: u64, why: &mut Step) 
     requires done { why.old ≡ Done }
     ensures few { result ≤ most }
     ensures rests { most ≡ 0 → machine.new ≡ machine.old }
-    ensures stops { why.new ≢ Done → Stops machine.new.cpu why.new }
+    ensures stops { why.new ≢ Done → StopsHere machine.new.cpu why.new }
     ensures row { (said : Option (List (List ℕ))) (s : Session) → StandsAt said machine.old s → GoesOnInTurn said result s machine.old machine.new }
     ensures keeps { Keeps machine.old machine.new }
 {

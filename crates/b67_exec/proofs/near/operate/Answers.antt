@@ -2,7 +2,7 @@ use Rattle.std.proofs.Common.{ℕ, ◌+◌, ◌*◌, ◌/◌, ◌^◌, ◌%◌, 
 use Rattle.b67_model.specs.declared.operators.Op.TheVariants.{Valc, Namc, Lt8, Lt16, Lt48, Mpcw, Brun, Brtr, Brfl}
 use Rattle.b67_model.specs.declared.operators.Code.TheVariants as codes
 use Rattle.b67_model.specs.Operators.{Alone, OneMore, TwoMore, Literal, branch, form_of}
-use Rattle.b67_exec.specs.Operators.{IsWhole}
+use Rattle.b67_exec.specs.Operators.{BeginsWhole}
 use Rattle.b67_exec.specs.declared.firsts.Near.TheVariants as nears
 use Rattle.b67_exec.proofs.Through.{form_is, form_at}
 use Rattle.b67_exec.proofs.Mades.{near_outcome, left_made}
@@ -55,9 +55,6 @@ numbers-requires-in-Neql-clause-begins c = form_is c.near_of.result nears.Neql c
 
 pub alone-requires-in-Push-clause-begins : goal.alone-requires-in-Push-clause-begins
 alone-requires-in-Push-clause-begins c = form_is c.near_of.result nears.Push c.first.result (c.args.reader.now.bits / 2 ^ 56) (Alone codes.Push) c.near_of.ensures.form c.first.ensures c.in-Push.is refl
-
-pub alone-requires-in-Noop-clause-begins : goal.alone-requires-in-Noop-clause-begins
-alone-requires-in-Noop-clause-begins c = form_is c.near_of.result nears.Noop c.first.result (c.args.reader.now.bits / 2 ^ 56) (Alone codes.Noop) c.near_of.ensures.form c.first.ensures c.in-Noop.is refl
 
 pub alone-requires-in-Dlet-clause-begins : goal.alone-requires-in-Dlet-clause-begins
 alone-requires-in-Dlet-clause-begins c = form_is c.near_of.result nears.Dlet c.first.result (c.args.reader.now.bits / 2 ^ 56) (Alone codes.Dlet) c.near_of.ensures.form c.first.ensures c.in-Dlet.is refl
@@ -163,9 +160,6 @@ returns-in-Neql c = near_outcome c.args.cpu.now c.numbers-in-Neql.new.cpu c.args
 pub returns-in-Push : goal.returns-in-Push
 returns-in-Push c = near_outcome c.args.cpu.now c.alone-in-Push.new.cpu c.args.reader.now c.alone-in-Push.new.reader c.alone-in-Push.result c.on-in-Push.result c.alone-in-Push.new.why c.on-in-Push.ensures c.alone-in-Push.ensures
 
-pub returns-in-Noop : goal.returns-in-Noop
-returns-in-Noop c = near_outcome c.args.cpu.now c.alone-in-Noop.new.cpu c.args.reader.now c.alone-in-Noop.new.reader c.alone-in-Noop.result c.on-in-Noop.result c.alone-in-Noop.new.why c.on-in-Noop.ensures c.alone-in-Noop.ensures
-
 pub returns-in-Dlet : goal.returns-in-Dlet
 returns-in-Dlet c = near_outcome c.args.cpu.now c.alone-in-Dlet.new.cpu c.args.reader.now c.alone-in-Dlet.new.reader c.alone-in-Dlet.result c.on-in-Dlet.result c.alone-in-Dlet.new.why c.on-in-Dlet.ensures c.alone-in-Dlet.ensures
 
@@ -198,4 +192,4 @@ returns-in-Retn c =
     (form_is c.near_of.result nears.Retn c.first.result (c.args.reader.now.bits / 2 ^ 56) (Alone codes.Retn) c.near_of.ensures.form c.first.ensures c.in-Retn.is refl) refl c.exits-in-Retn.new.why c.exits-in-Retn.ensures
 
 pub reads_whole-requires-clause-whole : goal.reads_whole-requires-clause-whole
-reads_whole-requires-clause-whole c = subst (λ (z : ℕ). IsWhole (form_of z)) c.first.ensures (c.near_of.ensures.whole c.in-Other.is)
+reads_whole-requires-clause-whole c = subst (λ (z : ℕ). BeginsWhole (form_of z)) c.first.ensures (c.near_of.ensures.whole c.in-Other.is)

@@ -192,28 +192,59 @@ returns-in-Ok-clause-row g c = λ x plan s m t o h runs ready.
       sum = λ nothing. absurd (never g.K.Sink.taken (content_after x.device mid) (B.size c.args.backing.now) x plan s m t c.args.machine.now c.carry_out.new.machine c.args.paper.now c.carry_out.new.paper found nothing w);
     }
 
-pub returns-in-Ok-Made-clause-causes : goal.returns-in-Ok-Made-clause-causes
-returns-in-Ok-Made-clause-causes g c = caused_none g.B.Backing.faults g.K.Sink.faults c.args.backing.now c.carry_out.new.backing c.args.paper.now c.carry_out.new.paper Made c.carry_out.ensures.causes.printer.later
+pub returns-in-Ok-Made-clause-leaves : goal.returns-in-Ok-Made-clause-leaves
+returns-in-Ok-Made-clause-leaves g c = record {
+  causes = caused_none g.B.Backing.faults g.K.Sink.faults c.args.backing.now c.carry_out.new.backing c.args.paper.now c.carry_out.new.paper Made c.carry_out.ensures.causes.printer.later;
+  kept = c.carry_out.ensures.keeps;
+  served = c.carry_out.ensures.device;
+}
 
-pub returns-in-Ok-Ends-clause-causes : goal.returns-in-Ok-Ends-clause-causes
-returns-in-Ok-Ends-clause-causes g c = caused_none g.B.Backing.faults g.K.Sink.faults c.args.backing.now c.carry_out.new.backing c.args.paper.now c.carry_out.new.paper (Ends c.in-Ok-Ends.ending) c.carry_out.ensures.causes.printer.later
+pub returns-in-Ok-Ends-clause-leaves : goal.returns-in-Ok-Ends-clause-leaves
+returns-in-Ok-Ends-clause-leaves g c = record {
+  causes = caused_none g.B.Backing.faults g.K.Sink.faults c.args.backing.now c.carry_out.new.backing c.args.paper.now c.carry_out.new.paper (Ends c.in-Ok-Ends.ending) c.carry_out.ensures.causes.printer.later;
+  kept = c.carry_out.ensures.keeps;
+  served = c.carry_out.ensures.device;
+}
 
-pub returns-in-Ok-Waits-clause-causes : goal.returns-in-Ok-Waits-clause-causes
-returns-in-Ok-Waits-clause-causes g c = caused_none g.B.Backing.faults g.K.Sink.faults c.args.backing.now c.carry_out.new.backing c.args.paper.now c.carry_out.new.paper (Waits c.in-Ok-Waits.state) c.carry_out.ensures.causes.printer.later
+pub returns-in-Ok-Waits-clause-leaves : goal.returns-in-Ok-Waits-clause-leaves
+returns-in-Ok-Waits-clause-leaves g c = record {
+  causes = caused_none g.B.Backing.faults g.K.Sink.faults c.args.backing.now c.carry_out.new.backing c.args.paper.now c.carry_out.new.paper (Waits c.in-Ok-Waits.state) c.carry_out.ensures.causes.printer.later;
+  kept = c.carry_out.ensures.keeps;
+  served = c.carry_out.ensures.device;
+}
 
-pub returns-in-Err-clause-causes : goal.returns-in-Err-clause-causes
-returns-in-Err-clause-causes g c = caused_stop g.B.Backing.faults g.K.Sink.faults c.args.backing.now c.carry_out.new.backing c.args.paper.now c.carry_out.new.paper c.in-Err.stop c.in-Err.ensures.causes
+pub returns-in-Err-clause-leaves : goal.returns-in-Err-clause-leaves
+returns-in-Err-clause-leaves g c = record {
+  causes = caused_stop g.B.Backing.faults g.K.Sink.faults c.args.backing.now c.carry_out.new.backing c.args.paper.now c.carry_out.new.paper c.in-Err.stop c.in-Err.ensures.causes;
+  kept = c.carry_out.ensures.keeps;
+  served = c.carry_out.ensures.device;
+}
 
-pub returns-in-Err-bring_wanted-clause-causes : goal.returns-in-Err-bring_wanted-clause-causes
-returns-in-Err-bring_wanted-clause-causes g c =
-    caused_want g.B.Backing.faults g.K.Sink.faults c.args.backing.now c.carry_out.new.backing c.bring_wanted.new.backing c.args.paper.now c.carry_out.new.paper c.bring_wanted.result c.in-Err-bring_wanted.stop c.in-Err-bring_wanted.is
-    c.carry_out.ensures.device.faults c.carry_out.ensures.causes.printer.later c.bring_wanted.ensures.cause c.bring_wanted.ensures.silent
+pub returns-in-Err-bring_wanted-clause-leaves : goal.returns-in-Err-bring_wanted-clause-leaves
+returns-in-Err-bring_wanted-clause-leaves g c = record {
+  causes =
+      caused_want g.B.Backing.faults g.K.Sink.faults c.args.backing.now c.carry_out.new.backing c.bring_wanted.new.backing c.args.paper.now c.carry_out.new.paper c.bring_wanted.result c.in-Err-bring_wanted.stop c.in-Err-bring_wanted.is
+      c.carry_out.ensures.device.faults c.carry_out.ensures.causes.printer.later c.bring_wanted.ensures.cause c.bring_wanted.ensures.silent;
+  kept = keeps_then c.args.machine.now c.carry_out.new.machine c.bring_wanted.new.machine c.carry_out.ensures.keeps c.bring_wanted.ensures.keeps;
+  served =
+      let B = g.B.Backing in
+      Served-then B.holds B.size B.calls B.faults c.args.backing.now c.carry_out.new.backing c.bring_wanted.new.backing c.carry_out.ensures.device c.bring_wanted.ensures.device;
+}
 
-pub returns-in-Ok-clause-causes : goal.returns-in-Ok-clause-causes
-returns-in-Ok-clause-causes g c =
-    let d = c.carry_out.ensures.device.faults in
-    let e = c.bring_wanted.ensures.device.faults in
-    caused_later g.B.Backing.faults g.K.Sink.faults c.args.backing.now c.bring_wanted.new.backing c.with_code.new.backing c.args.paper.now c.carry_out.new.paper c.with_code.new.paper c.with_code.result (omega (arith, d, e)) c.carry_out.ensures.causes.printer.later c.with_code.ensures.causes
+pub returns-in-Ok-clause-leaves : goal.returns-in-Ok-clause-leaves
+returns-in-Ok-clause-leaves g c = record {
+  causes =
+      let d = c.carry_out.ensures.device.faults in
+      let e = c.bring_wanted.ensures.device.faults in
+      caused_later g.B.Backing.faults g.K.Sink.faults c.args.backing.now c.bring_wanted.new.backing c.with_code.new.backing c.args.paper.now c.carry_out.new.paper c.with_code.new.paper c.with_code.result (omega (arith, d, e)) c.carry_out.ensures.causes.printer.later c.with_code.ensures.causes;
+  kept =
+      keeps_then c.args.machine.now c.carry_out.new.machine c.with_code.new.machine c.carry_out.ensures.keeps
+      (keeps_then c.carry_out.new.machine c.bring_wanted.new.machine c.with_code.new.machine c.bring_wanted.ensures.keeps c.with_code.ensures.kept);
+  served =
+      let B = g.B.Backing in
+      Served-then B.holds B.size B.calls B.faults c.args.backing.now c.carry_out.new.backing c.with_code.new.backing c.carry_out.ensures.device
+      (Served-then B.holds B.size B.calls B.faults c.carry_out.new.backing c.bring_wanted.new.backing c.with_code.new.backing c.bring_wanted.ensures.device c.with_code.ensures.device);
+}
 
 pub returns-in-Ok-Ends-clause-tables : goal.returns-in-Ok-Ends-clause-tables
 returns-in-Ok-Ends-clause-tables g c =
@@ -251,25 +282,6 @@ returns-in-Ok-clause-tables g c =
     let same = tables_after_want g.K.Sink.taken (content_after r.storage.device (B.holds c.carry_out.new.backing)) (B.size c.args.backing.now) r.storage r.plan r.session r.member r.task c.args.machine.now c.carry_out.new.machine c.args.paper.now c.carry_out.new.paper c.in-Ok-Absent.wanted
     (((rw c.in-Ok-Absent.field-0-is at c.in-Ok-Absent.ensures.tried) r.storage r.storage.device r.plan r.session r.member r.task r.ordered r.stands.stands r.running r.ready).row r.stands.says) in
     tables_from c.with_code.result c.args.machine.now.tasks c.bring_wanted.new.machine.tasks c.with_code.new.machine.tasks (c.bring_wanted.ensures.tasks ∙ same) c.with_code.ensures.tables
-
-pub returns-in-Err-bring_wanted-clause-kept : goal.returns-in-Err-bring_wanted-clause-kept
-returns-in-Err-bring_wanted-clause-kept g c = keeps_then c.args.machine.now c.carry_out.new.machine c.bring_wanted.new.machine c.carry_out.ensures.keeps c.bring_wanted.ensures.keeps
-
-pub returns-in-Ok-clause-kept : goal.returns-in-Ok-clause-kept
-returns-in-Ok-clause-kept g c =
-    keeps_then c.args.machine.now c.carry_out.new.machine c.with_code.new.machine c.carry_out.ensures.keeps
-    (keeps_then c.carry_out.new.machine c.bring_wanted.new.machine c.with_code.new.machine c.bring_wanted.ensures.keeps c.with_code.ensures.kept)
-
-pub returns-in-Err-bring_wanted-clause-device : goal.returns-in-Err-bring_wanted-clause-device
-returns-in-Err-bring_wanted-clause-device g c =
-    let B = g.B.Backing in
-    Served-then B.holds B.size B.calls B.faults c.args.backing.now c.carry_out.new.backing c.bring_wanted.new.backing c.carry_out.ensures.device c.bring_wanted.ensures.device
-
-pub returns-in-Ok-clause-device : goal.returns-in-Ok-clause-device
-returns-in-Ok-clause-device g c =
-    let B = g.B.Backing in
-    Served-then B.holds B.size B.calls B.faults c.args.backing.now c.carry_out.new.backing c.with_code.new.backing c.carry_out.ensures.device
-    (Served-then B.holds B.size B.calls B.faults c.carry_out.new.backing c.bring_wanted.new.backing c.with_code.new.backing c.bring_wanted.ensures.device c.with_code.ensures.device)
 
 pub with_code-requires-clause-jobs : goal.with_code-requires-clause-jobs
 with_code-requires-clause-jobs g c =

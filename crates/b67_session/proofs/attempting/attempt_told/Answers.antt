@@ -36,14 +36,12 @@ returns-then-make_told-clause-row g c = λ x plan s m t o h runs ready.
       sum = λ nothing sum size e. absurd (let b : ⊥ = cc in b);
     }
 
-pub returns-then-make_told-clause-causes : goal.returns-then-make_told-clause-causes
-returns-then-make_told-clause-causes g c = caused_none g.B.Backing.faults g.K.Sink.faults c.args.backing.now c.args.backing.now c.args.paper.now c.args.paper.now Made (omega arith)
-
-pub returns-then-make_told-clause-kept : goal.returns-then-make_told-clause-kept
-returns-then-make_told-clause-kept g c = c.make_told.ensures.keeps
-
-pub returns-then-make_told-clause-device : goal.returns-then-make_told-clause-device
-returns-then-make_told-clause-device g c = Served-none g.B.Backing.holds g.B.Backing.size g.B.Backing.calls g.B.Backing.faults c.args.backing.now
+pub returns-then-make_told-clause-leaves : goal.returns-then-make_told-clause-leaves
+returns-then-make_told-clause-leaves g c = record {
+  causes = caused_none g.B.Backing.faults g.K.Sink.faults c.args.backing.now c.args.backing.now c.args.paper.now c.args.paper.now Made (omega arith);
+  kept = c.make_told.ensures.keeps;
+  served = Served-none g.B.Backing.holds g.B.Backing.size g.B.Backing.calls g.B.Backing.faults c.args.backing.now;
+}
 
 -- ---- it wasn't, and the machine is as it was
 
@@ -65,8 +63,12 @@ returns-clause-row g c =
     AttemptRow B.holds g.K.Sink.taken x (content_after x.device (B.holds after)) (length k.cpu.core) (B.size device) k.tasks.printed plan s m t c.attempt_seen.result c.attempt_seen.new.machine
     device after c.args.paper.now c.attempt_seen.new.paper)) (c.make_told.ensures.rest c.if-make_told.false) c.attempt_seen.ensures.row
 
-pub returns-clause-kept : goal.returns-clause-kept
-returns-clause-kept g c = keeps_then c.args.machine.now c.make_told.new.machine c.attempt_seen.new.machine c.make_told.ensures.keeps c.attempt_seen.ensures.kept
+pub returns-clause-leaves : goal.returns-clause-leaves
+returns-clause-leaves g c = record {
+  causes = c.attempt_seen.ensures.leaves.causes;
+  kept = keeps_then c.args.machine.now c.make_told.new.machine c.attempt_seen.new.machine c.make_told.ensures.keeps c.attempt_seen.ensures.leaves.kept;
+  served = c.attempt_seen.ensures.leaves.served;
+}
 
 pub returns-clause-tables : goal.returns-clause-tables
 returns-clause-tables g c = subst (λ (z : Tasks). TablesStay c.attempt_seen.result z c.attempt_seen.new.machine.tasks) c.make_told.ensures.tasks c.attempt_seen.ensures.tables

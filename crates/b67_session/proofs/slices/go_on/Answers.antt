@@ -24,7 +24,7 @@ use Rattle.b67_session.proofs.slices.go_on.Goals as goal
 
 module _ (g : Over) (c : After-step g) where
   keeps : Keeps c.args.machine.now c.step.new.machine
-  keeps = keeps_then c.args.machine.now c.turn.machine c.step.new.machine c.turn.invariant.keeps c.step.ensures.kept
+  keeps = keeps_then c.args.machine.now c.turn.machine c.step.new.machine c.turn.invariant.keeps c.step.ensures.leaves.kept
 
   module _ (said : Option (List (List ℕ))) (s : Session) (says : Says said (g.B.Backing.holds c.args.backing.now)) (h : StandsAt said c.args.machine.now s) where
     abbrev going : Going g.K.Sink.taken (said ≢ None) (content_after said (g.B.Backing.holds c.turn.backing)) c.turn.made s c.args.machine.now c.turn.machine c.args.paper.now c.turn.paper
@@ -119,8 +119,8 @@ turn-preserved g c =
     record {
       few = omega (arith, c.go_on_with_turn.ensures.few);
       why = c.go_on_with_turn.ensures.stops;
-      later = omega (arith, c.turn.invariant.later, c.step.ensures.causes.printer.later);
-      device = Served-then g.B.Backing.holds g.B.Backing.size g.B.Backing.calls g.B.Backing.faults c.args.backing.now c.turn.backing c.step.new.backing c.turn.invariant.device c.step.ensures.device;
+      later = omega (arith, c.turn.invariant.later, c.step.ensures.leaves.causes.printer.later);
+      device = Served-then g.B.Backing.holds g.B.Backing.size g.B.Backing.calls g.B.Backing.faults c.args.backing.now c.turn.backing c.step.new.backing c.turn.invariant.device c.step.ensures.leaves.served;
       keeps = keeps_then c.args.machine.now c.step.new.machine c.go_on_with_turn.new.machine (keeps g a) c.go_on_with_turn.ensures.keeps;
       going = λ said s says h.
           let one = one_more g a is c.in_default.ensures.1 said s says h in
@@ -229,11 +229,11 @@ returns-in-None-clause-kept g c = c.turn.invariant.keeps
 pub returns-in-Err-clause-causes : goal.returns-in-Err-clause-causes
 returns-in-Err-clause-causes g c =
     stop_causes g.B.Backing.faults g.K.Sink.faults c.in-Err.stop c.step.result c.args.backing.now c.turn.backing c.step.new.backing c.args.paper.now c.turn.paper c.step.new.paper c.in-Err.is
-    c.turn.invariant.device.faults c.turn.invariant.later c.step.ensures.causes
+    c.turn.invariant.device.faults c.turn.invariant.later c.step.ensures.leaves.causes
 
 pub returns-in-Err-clause-device : goal.returns-in-Err-clause-device
 returns-in-Err-clause-device g c =
-    Served-then g.B.Backing.holds g.B.Backing.size g.B.Backing.calls g.B.Backing.faults c.args.backing.now c.turn.backing c.step.new.backing c.turn.invariant.device c.step.ensures.device
+    Served-then g.B.Backing.holds g.B.Backing.size g.B.Backing.calls g.B.Backing.faults c.args.backing.now c.turn.backing c.step.new.backing c.turn.invariant.device c.step.ensures.leaves.served
 
 -- ---- no task from the beginning
 

@@ -7,14 +7,14 @@ use Rattle.b67_session.specs.AttemptPassed.{CallsDevice}
 use Rattle.b67_session.specs.Attempts.{WantsNothing, HoleFits, IsAtHand}
 use Rattle.b67_session.specs.Slices.{StandsAt, Keeps, GoesOnAlone, StepKeepsAreas, StepLeaves}
 use Rattle.b67_stack.specs.declared.Step.TheVariants.{Done}
-use Rattle.b67_exec.specs.Near.{Stops}
+use Rattle.b67_exec.specs.Near.{StopsHere}
 use Rattle.b67_session.proofs.Going.{Going}
 use Rattle.b67_session.proofs.slices.go_on.Given as goal
 
 abbrev pub invariant-turn : goal.invariant-turn
 invariant-turn g l = record {
   few : l.made ≤ l.n;
-  why : l.why ≢ Done → Stops l.machine.cpu l.why;
+  why : l.why ≢ Done → StopsHere l.machine.cpu l.why;
   later : g.K.Sink.faults l.initial.paper ≤ g.K.Sink.faults l.paper;
   device : DeviceAfterCalls g.B.Backing.holds g.B.Backing.size g.B.Backing.calls g.B.Backing.faults l.initial.backing l.backing;
   keeps : Keeps l.initial.machine l.machine;

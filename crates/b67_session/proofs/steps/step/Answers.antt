@@ -25,14 +25,14 @@ context g c = record {
   core = c.give_turn.ensures.len;
   row = c.attempt_told.ensures.row;
   stay = c.attempt_told.ensures.tables;
-  halt = halt_kept c.give_turn.new.machine c.attempt_told.new.machine c.attempt_told.ensures.kept;
+  halt = halt_kept c.give_turn.new.machine c.attempt_told.new.machine c.attempt_told.ensures.leaves.kept;
 }
 
 halted : (g : Over) (c : After-attempt_told g) → c.attempt_told.new.machine.tasks.halt ≡ c.args.machine.now.tasks.halt
-halted g c = halt_kept c.give_turn.new.machine c.attempt_told.new.machine c.attempt_told.ensures.kept ∙ ap (λ (z : Tasks). z.halt) c.give_turn.ensures.tables
+halted g c = halt_kept c.give_turn.new.machine c.attempt_told.new.machine c.attempt_told.ensures.leaves.kept ∙ ap (λ (z : Tasks). z.halt) c.give_turn.ensures.tables
 
 kept : (g : Over) (c : After-attempt_told g) → Keeps c.args.machine.now c.attempt_told.new.machine
-kept g c = turn_keeps c.args.machine.now c.give_turn.new.machine c.attempt_told.new.machine c.in-Some.chosen.row c.give_turn.ensures.tables c.give_turn.ensures.len c.give_turn.ensures.sectors c.attempt_told.ensures.kept
+kept g c = turn_keeps c.args.machine.now c.give_turn.new.machine c.attempt_told.new.machine c.in-Some.chosen.row c.give_turn.ensures.tables c.give_turn.ensures.len c.give_turn.ensures.sectors c.attempt_told.ensures.leaves.kept
 
 pub give_turn-requires-clause-row : goal.give_turn-requires-clause-row
 give_turn-requires-clause-row g c =
@@ -70,14 +70,14 @@ pub returns-in-Ok-Made-clause-present : goal.returns-in-Ok-Made-clause-present
 returns-in-Ok-Made-clause-present g c = λ said s m t says h next.
     made_present (tries_as c.attempt_told.result (Ok attempts.Made) (c.in-Ok-Made.is ∙ ap (λ (z : Attempt). Ok z) c.in-Ok-Made.field-0-is) (context g (goal.at.returns-in-Ok-Made-clause-present g c).After-attempt_told)) said s says h c.count_one.new.tasks c.count_one.ensures c.end_step.result c.end_step.new.machine c.end_step.new.paper c.end_step.ensures.finishes m t next
 
-pub returns-in-Ok-Made-clause-causes : goal.returns-in-Ok-Made-clause-causes
-returns-in-Ok-Made-clause-causes g c =
-    step_causes g.B.Backing.faults g.K.Sink.faults c.args.backing.now c.attempt_told.new.backing c.args.paper.now c.attempt_told.new.paper c.end_step.new.paper c.end_step.result c.attempt_told.ensures.causes.printer.later c.end_step.ensures.later c.end_step.ensures.cause c.end_step.ensures.other
-
-pub returns-in-Ok-Made-clause-kept : goal.returns-in-Ok-Made-clause-kept
-returns-in-Ok-Made-clause-kept g c =
-    let a = (goal.at.returns-in-Ok-Made-clause-kept g c).After-attempt_told in
-    let k = kept g a in let mid = record c.attempt_told.new.machine { tasks = c.count_one.new.tasks } in keeps_then c.args.machine.now mid c.end_step.new.machine (record { core = k.core; sectors = k.sectors; given = c.count_one.ensures.given ∙ k.given }) c.end_step.ensures.keeps
+pub returns-in-Ok-Made-clause-leaves : goal.returns-in-Ok-Made-clause-leaves
+returns-in-Ok-Made-clause-leaves g c = record {
+  causes = step_causes g.B.Backing.faults g.K.Sink.faults c.args.backing.now c.attempt_told.new.backing c.args.paper.now c.attempt_told.new.paper c.end_step.new.paper c.end_step.result c.attempt_told.ensures.leaves.causes.printer.later c.end_step.ensures.later c.end_step.ensures.cause c.end_step.ensures.other;
+  kept =
+      let a = (goal.at.returns-in-Ok-Made-clause-leaves g c).After-attempt_told in
+      let k = kept g a in let mid = record c.attempt_told.new.machine { tasks = c.count_one.new.tasks } in keeps_then c.args.machine.now mid c.end_step.new.machine (record { core = k.core; sectors = k.sectors; given = c.count_one.ensures.given ∙ k.given }) c.end_step.ensures.keeps;
+  served = c.attempt_told.ensures.leaves.served;
+}
 
 pub close-requires-clause-row : goal.close-requires-clause-row
 close-requires-clause-row g c =
@@ -107,14 +107,14 @@ returns-in-Ok-clause-present g c = λ said s m t says h next.
     closed_present (attempts.Ends c.in-Ok-Ends.ending) x x.stay said s says h (ending_made c.in-Ok-Ends.ending x said s says h) (ending_so c.in-Ok-Ends.ending x said s says h) c.close.new.machine c.close.new.paper (ending_closes c.in-Ok-Ends.ending x said s says h (Ok tt) c.close.new.machine c.close.new.paper c.in-Ok.ensures.closes) c.end_step-in-Ok.result c.end_step-in-Ok.new.machine c.end_step-in-Ok.new.paper c.end_step-in-Ok.ensures.finishes (λ e. let b : ⊥ = cc in b)
     (λ wants. ending_leaves c.in-Ok-Ends.ending x said s says h wants c.close.new.machine c.close.new.paper c.in-Ok.ensures.closes c.end_step-in-Ok.result c.end_step-in-Ok.new.machine c.end_step-in-Ok.new.paper c.end_step-in-Ok.ensures.finishes) m t next)
 
-pub returns-in-Ok-clause-causes : goal.returns-in-Ok-clause-causes
-returns-in-Ok-clause-causes g c =
-    step_causes g.B.Backing.faults g.K.Sink.faults c.args.backing.now c.attempt_told.new.backing c.args.paper.now c.close.new.paper c.end_step-in-Ok.new.paper c.end_step-in-Ok.result (omega (arith, c.attempt_told.ensures.causes.printer.later, c.close.ensures.cause.later)) c.end_step-in-Ok.ensures.later c.end_step-in-Ok.ensures.cause c.end_step-in-Ok.ensures.other
-
-pub returns-in-Ok-clause-kept : goal.returns-in-Ok-clause-kept
-returns-in-Ok-clause-kept g c =
-    let a = (goal.at.returns-in-Ok-clause-kept g c).After-attempt_told in
-    keeps_then c.args.machine.now c.close.new.machine c.end_step-in-Ok.new.machine (keeps_then c.args.machine.now c.attempt_told.new.machine c.close.new.machine (kept g a) c.close.ensures.keeps) c.end_step-in-Ok.ensures.keeps
+pub returns-in-Ok-clause-leaves : goal.returns-in-Ok-clause-leaves
+returns-in-Ok-clause-leaves g c = record {
+  causes = step_causes g.B.Backing.faults g.K.Sink.faults c.args.backing.now c.attempt_told.new.backing c.args.paper.now c.close.new.paper c.end_step-in-Ok.new.paper c.end_step-in-Ok.result (omega (arith, c.attempt_told.ensures.leaves.causes.printer.later, c.close.ensures.cause.later)) c.end_step-in-Ok.ensures.later c.end_step-in-Ok.ensures.cause c.end_step-in-Ok.ensures.other;
+  kept =
+      let a = (goal.at.returns-in-Ok-clause-leaves g c).After-attempt_told in
+      keeps_then c.args.machine.now c.close.new.machine c.end_step-in-Ok.new.machine (keeps_then c.args.machine.now c.attempt_told.new.machine c.close.new.machine (kept g a) c.close.ensures.keeps) c.end_step-in-Ok.ensures.keeps;
+  served = c.attempt_told.ensures.leaves.served;
+}
 
 pub returns-in-Err-close-clause-row : goal.returns-in-Err-close-clause-row
 returns-in-Err-close-clause-row g c = λ said s says h.
@@ -127,14 +127,14 @@ returns-in-Err-close-clause-present g c = λ said s m t says h next.
     cut_present (attempts.Ends c.in-Ok-Ends.ending) x x.stay said s says h (ending_made c.in-Ok-Ends.ending x said s says h) (ending_so c.in-Ok-Ends.ending x said s says h) c.in-Err-close._failed c.close.new.machine c.close.new.paper (λ e. let b : ⊥ = cc in b)
     (ap (λ (k : Machine). k.tasks.made) (ending_closes c.in-Ok-Ends.ending x said s says h (Err c.in-Err-close._failed) c.close.new.machine c.close.new.paper c.in-Err-close.ensures.closes).1) m t next)
 
-pub returns-in-Err-close-clause-causes : goal.returns-in-Err-close-clause-causes
-returns-in-Err-close-clause-causes g c =
-    step_causes g.B.Backing.faults g.K.Sink.faults c.args.backing.now c.attempt_told.new.backing c.args.paper.now c.attempt_told.new.paper c.close.new.paper _ c.attempt_told.ensures.causes.printer.later c.close.ensures.cause.later (λ e. c.in-Err-close.ensures.cause.failed) (λ e. absurd cc)
-
-pub returns-in-Err-close-clause-kept : goal.returns-in-Err-close-clause-kept
-returns-in-Err-close-clause-kept g c =
-    let a = (goal.at.returns-in-Err-close-clause-kept g c).After-attempt_told in
-    keeps_then c.args.machine.now c.attempt_told.new.machine c.close.new.machine (kept g a) c.close.ensures.keeps
+pub returns-in-Err-close-clause-leaves : goal.returns-in-Err-close-clause-leaves
+returns-in-Err-close-clause-leaves g c = record {
+  causes = step_causes g.B.Backing.faults g.K.Sink.faults c.args.backing.now c.attempt_told.new.backing c.args.paper.now c.attempt_told.new.paper c.close.new.paper _ c.attempt_told.ensures.leaves.causes.printer.later c.close.ensures.cause.later (λ e. c.in-Err-close.ensures.cause.failed) (λ e. absurd cc);
+  kept =
+      let a = (goal.at.returns-in-Err-close-clause-leaves g c).After-attempt_told in
+      keeps_then c.args.machine.now c.attempt_told.new.machine c.close.new.machine (kept g a) c.close.ensures.keeps;
+  served = c.attempt_told.ensures.leaves.served;
+}
 
 pub make_wait-requires-clause-row : goal.make_wait-requires-clause-row
 make_wait-requires-clause-row g c =
@@ -164,14 +164,14 @@ returns-in-Ok-make_wait-clause-present g c = λ said s m t says h next.
     closed_present (attempts.Waits c.in-Ok-Waits.state) x x.stay said s says h (waiting_made c.in-Ok-Waits.state x said s says h) (waiting_so c.in-Ok-Waits.state x said s says h) c.make_wait.new.machine c.make_wait.new.paper (waiting_closes c.in-Ok-Waits.state x said s says h (Ok tt) c.make_wait.new.machine c.make_wait.new.paper c.in-Ok-make_wait.ensures.holds) c.end_step-in-Ok-make_wait.result c.end_step-in-Ok-make_wait.new.machine c.end_step-in-Ok-make_wait.new.paper c.end_step-in-Ok-make_wait.ensures.finishes (λ e. let b : ⊥ = cc in b)
     (λ wants. waiting_leaves c.in-Ok-Waits.state x said s says h wants c.make_wait.new.machine c.make_wait.new.paper c.in-Ok-make_wait.ensures.holds c.end_step-in-Ok-make_wait.result c.end_step-in-Ok-make_wait.new.machine c.end_step-in-Ok-make_wait.new.paper c.end_step-in-Ok-make_wait.ensures.finishes) m t next)
 
-pub returns-in-Ok-make_wait-clause-causes : goal.returns-in-Ok-make_wait-clause-causes
-returns-in-Ok-make_wait-clause-causes g c =
-    step_causes g.B.Backing.faults g.K.Sink.faults c.args.backing.now c.attempt_told.new.backing c.args.paper.now c.make_wait.new.paper c.end_step-in-Ok-make_wait.new.paper c.end_step-in-Ok-make_wait.result (omega (arith, c.attempt_told.ensures.causes.printer.later, c.make_wait.ensures.cause.later)) c.end_step-in-Ok-make_wait.ensures.later c.end_step-in-Ok-make_wait.ensures.cause c.end_step-in-Ok-make_wait.ensures.other
-
-pub returns-in-Ok-make_wait-clause-kept : goal.returns-in-Ok-make_wait-clause-kept
-returns-in-Ok-make_wait-clause-kept g c =
-    let a = (goal.at.returns-in-Ok-make_wait-clause-kept g c).After-attempt_told in
-    keeps_then c.args.machine.now c.make_wait.new.machine c.end_step-in-Ok-make_wait.new.machine (keeps_then c.args.machine.now c.attempt_told.new.machine c.make_wait.new.machine (kept g a) c.make_wait.ensures.keeps) c.end_step-in-Ok-make_wait.ensures.keeps
+pub returns-in-Ok-make_wait-clause-leaves : goal.returns-in-Ok-make_wait-clause-leaves
+returns-in-Ok-make_wait-clause-leaves g c = record {
+  causes = step_causes g.B.Backing.faults g.K.Sink.faults c.args.backing.now c.attempt_told.new.backing c.args.paper.now c.make_wait.new.paper c.end_step-in-Ok-make_wait.new.paper c.end_step-in-Ok-make_wait.result (omega (arith, c.attempt_told.ensures.leaves.causes.printer.later, c.make_wait.ensures.cause.later)) c.end_step-in-Ok-make_wait.ensures.later c.end_step-in-Ok-make_wait.ensures.cause c.end_step-in-Ok-make_wait.ensures.other;
+  kept =
+      let a = (goal.at.returns-in-Ok-make_wait-clause-leaves g c).After-attempt_told in
+      keeps_then c.args.machine.now c.make_wait.new.machine c.end_step-in-Ok-make_wait.new.machine (keeps_then c.args.machine.now c.attempt_told.new.machine c.make_wait.new.machine (kept g a) c.make_wait.ensures.keeps) c.end_step-in-Ok-make_wait.ensures.keeps;
+  served = c.attempt_told.ensures.leaves.served;
+}
 
 pub returns-in-Err-make_wait-clause-row : goal.returns-in-Err-make_wait-clause-row
 returns-in-Err-make_wait-clause-row g c = λ said s says h.
@@ -184,14 +184,14 @@ returns-in-Err-make_wait-clause-present g c = λ said s m t says h next.
     cut_present (attempts.Waits c.in-Ok-Waits.state) x x.stay said s says h (waiting_made c.in-Ok-Waits.state x said s says h) (waiting_so c.in-Ok-Waits.state x said s says h) c.in-Err-make_wait._failed c.make_wait.new.machine c.make_wait.new.paper (λ e. let b : ⊥ = cc in b)
     (ap (λ (k : Machine). k.tasks.made) (waiting_closes c.in-Ok-Waits.state x said s says h (Err c.in-Err-make_wait._failed) c.make_wait.new.machine c.make_wait.new.paper c.in-Err-make_wait.ensures.holds).1) m t next)
 
-pub returns-in-Err-make_wait-clause-causes : goal.returns-in-Err-make_wait-clause-causes
-returns-in-Err-make_wait-clause-causes g c =
-    step_causes g.B.Backing.faults g.K.Sink.faults c.args.backing.now c.attempt_told.new.backing c.args.paper.now c.attempt_told.new.paper c.make_wait.new.paper _ c.attempt_told.ensures.causes.printer.later c.make_wait.ensures.cause.later (λ e. c.in-Err-make_wait.ensures.cause.failed) (λ e. absurd cc)
-
-pub returns-in-Err-make_wait-clause-kept : goal.returns-in-Err-make_wait-clause-kept
-returns-in-Err-make_wait-clause-kept g c =
-    let a = (goal.at.returns-in-Err-make_wait-clause-kept g c).After-attempt_told in
-    keeps_then c.args.machine.now c.attempt_told.new.machine c.make_wait.new.machine (kept g a) c.make_wait.ensures.keeps
+pub returns-in-Err-make_wait-clause-leaves : goal.returns-in-Err-make_wait-clause-leaves
+returns-in-Err-make_wait-clause-leaves g c = record {
+  causes = step_causes g.B.Backing.faults g.K.Sink.faults c.args.backing.now c.attempt_told.new.backing c.args.paper.now c.attempt_told.new.paper c.make_wait.new.paper _ c.attempt_told.ensures.leaves.causes.printer.later c.make_wait.ensures.cause.later (λ e. c.in-Err-make_wait.ensures.cause.failed) (λ e. absurd cc);
+  kept =
+      let a = (goal.at.returns-in-Err-make_wait-clause-leaves g c).After-attempt_told in
+      keeps_then c.args.machine.now c.attempt_told.new.machine c.make_wait.new.machine (kept g a) c.make_wait.ensures.keeps;
+  served = c.attempt_told.ensures.leaves.served;
+}
 
 pub returns-in-Err-clause-row : goal.returns-in-Err-clause-row
 returns-in-Err-clause-row g c = λ said s says h.
@@ -201,11 +201,11 @@ pub returns-in-Err-clause-present : goal.returns-in-Err-clause-present
 returns-in-Err-clause-present g c = λ said s m t says h next.
     stop_present c.in-Err.stop (tries_as c.attempt_told.result (Err c.in-Err.stop) c.in-Err.is (context g (goal.at.returns-in-Err-clause-present g c).After-attempt_told)) said s says h m t next
 
-pub returns-in-Err-clause-causes : goal.returns-in-Err-clause-causes
-returns-in-Err-clause-causes g c =
-    caused_stop g.B.Backing.faults g.K.Sink.faults c.args.backing.now c.attempt_told.new.backing c.args.paper.now c.attempt_told.new.paper c.in-Err.stop c.in-Err.ensures.causes
-
-pub returns-in-Err-clause-kept : goal.returns-in-Err-clause-kept
-returns-in-Err-clause-kept g c =
-    let a = (goal.at.returns-in-Err-clause-kept g c).After-attempt_told in
-    kept g a
+pub returns-in-Err-clause-leaves : goal.returns-in-Err-clause-leaves
+returns-in-Err-clause-leaves g c = record {
+  causes = caused_stop g.B.Backing.faults g.K.Sink.faults c.args.backing.now c.attempt_told.new.backing c.args.paper.now c.attempt_told.new.paper c.in-Err.stop c.in-Err.ensures.leaves.causes;
+  kept =
+      let a = (goal.at.returns-in-Err-clause-leaves g c).After-attempt_told in
+      kept g a;
+  served = c.attempt_told.ensures.leaves.served;
+}

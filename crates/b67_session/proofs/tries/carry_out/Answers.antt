@@ -2,7 +2,7 @@ use Rattle.std.proofs.Common.{◌∙◌, ◌≡◌, ℕ, List, length, Option, N
 use Rattle.b67_model.specs.Schedule.{Session}
 use Rattle.b67_stack.specs.declared.Step.{Step}
 use Rattle.b67_stack.specs.declared.Step.TheVariants as answers
-use Rattle.b67_exec.specs.Near.{Stops}
+use Rattle.b67_exec.specs.Near.{StopsHere}
 use Rattle.b67_stack.specs.Represents.{Storage}
 use Rattle.b67_layout_storage.specs.Machine.{content_after}
 use Rattle.b67_layout_storage.proofs.Untold.{untold}
@@ -26,7 +26,7 @@ stays x told plan s old new same h = let P : Machine → Type 0 = λ k. MachineR
 pub intrinsic-requires-clause-calls : goal.intrinsic-requires-clause-calls
 intrinsic-requires-clause-calls g c =
     let r = c.requires.runs.runs in
-    let it = was_call r.storage r.told r.plan r.session r.member r.task c.args.machine.now c.args.machine.now c.in-Call.n (code_area r.storage r.plan r.member r.task) refl (stopped c.args.machine.now (answers.Call c.in-Call.n) (subst (λ (z : Step). Stops c.args.machine.now.cpu z) c.in-Call.is c.requires.why) r.storage r.told r.plan r.session r.member r.task r.ordered r.stands r.running c.requires.runs.ready) in
+    let it = was_call r.storage r.told r.plan r.session r.member r.task c.args.machine.now c.args.machine.now c.in-Call.n (code_area r.storage r.plan r.member r.task) refl (stopped c.args.machine.now (answers.Call c.in-Call.n) (subst (λ (z : Step). StopsHere c.args.machine.now.cpu z) c.in-Call.is c.requires.why) r.storage r.told r.plan r.session r.member r.task r.ordered r.stands r.running c.requires.runs.ready) in
     record {
       runs = record {
         storage = r.storage;
@@ -47,7 +47,7 @@ pub returns-in-Absent-clause-tried : goal.returns-in-Absent-clause-tried
 returns-in-Absent-clause-tried g c = λ x told plan s m t o h runs ready.
     let old = c.args.machine.now in
     let new = c.args.machine.now in
-    let row = stopped c.args.machine.now (answers.Absent c.in-Absent.found) (subst (λ (z : Step). Stops c.args.machine.now.cpu z) c.in-Absent.is c.requires.why) x told plan s m t o h runs ready in
+    let row = stopped c.args.machine.now (answers.Absent c.in-Absent.found) (subst (λ (z : Step). StopsHere c.args.machine.now.cpu z) c.in-Absent.is c.requires.why) x told plan s m t o h runs ready in
     let w = was_absent x told plan s m t old new o runs c.in-Absent.found (code_area x plan m t) refl row in
     record {
       row = λ says. (w.0, w.1, w.2, w.3, refl);
@@ -59,7 +59,7 @@ pub returns-in-Fault-clause-tried : goal.returns-in-Fault-clause-tried
 returns-in-Fault-clause-tried g c = λ x told plan s m t o h runs ready.
     let old = c.args.machine.now in
     let new = c.args.machine.now in
-    let row = stopped c.args.machine.now (answers.Fault c.in-Fault.fault) (subst (λ (z : Step). Stops c.args.machine.now.cpu z) c.in-Fault.is c.requires.why) x told plan s m t o h runs ready in
+    let row = stopped c.args.machine.now (answers.Fault c.in-Fault.fault) (subst (λ (z : Step). StopsHere c.args.machine.now.cpu z) c.in-Fault.is c.requires.why) x told plan s m t o h runs ready in
     let is = was_operator x told plan s m t (answers.Fault c.in-Fault.fault) old new (code_area x plan m t) refl (λ e. absurd cc) (λ n e. absurd cc) row in
     let w = was_fault x told plan s m t old new c.in-Fault.fault (code_area x plan m t) row in
     record {
@@ -72,7 +72,7 @@ pub returns-in-Ended-clause-tried : goal.returns-in-Ended-clause-tried
 returns-in-Ended-clause-tried g c = λ x told plan s m t o h runs ready.
     let old = c.args.machine.now in
     let new = c.args.machine.now in
-    let row = stopped c.args.machine.now answers.Ended (subst (λ (z : Step). Stops c.args.machine.now.cpu z) c.in-Ended.is c.requires.why) x told plan s m t o h runs ready in
+    let row = stopped c.args.machine.now answers.Ended (subst (λ (z : Step). StopsHere c.args.machine.now.cpu z) c.in-Ended.is c.requires.why) x told plan s m t o h runs ready in
     let is = was_operator x told plan s m t answers.Ended old new (code_area x plan m t) refl (λ e. absurd cc) (λ n e. absurd cc) row in
     let w = was_ended x told plan s m t old new (code_area x plan m t) row in
     record {
@@ -85,7 +85,7 @@ pub returns-in-Ok-Done-clause-tried : goal.returns-in-Ok-Done-clause-tried
 returns-in-Ok-Done-clause-tried g c = λ x told plan s m t o h runs ready.
     let old = c.args.machine.now in
     let new = c.args.machine.now in
-    let it = was_call x told plan s m t old new c.in-Call.n (code_area x plan m t) refl (stopped c.args.machine.now (answers.Call c.in-Call.n) (subst (λ (z : Step). Stops c.args.machine.now.cpu z) c.in-Call.is c.requires.why) x told plan s m t o h runs ready) in
+    let it = was_call x told plan s m t old new c.in-Call.n (code_area x plan m t) refl (stopped c.args.machine.now (answers.Call c.in-Call.n) (subst (λ (z : Step). StopsHere c.args.machine.now.cpu z) c.in-Call.is c.requires.why) x told plan s m t o h runs ready) in
     let k = stays x told plan s old new it.2 h in
     let call = (rw c.in-Ok-Done.field-0-is at c.in-Ok-Done.ensures.call) x told plan s m t o k runs it.0 it.1 in
     let untold_call = (rw c.in-Ok-Done.field-0-is at c.in-Ok-Done.ensures.call) (untold x) None plan s m t o (machine_untold x told new plan s k) runs it.0 it.1 in
@@ -101,7 +101,7 @@ pub returns-in-Ok-Absent-clause-tried : goal.returns-in-Ok-Absent-clause-tried
 returns-in-Ok-Absent-clause-tried g c = λ x told plan s m t o h runs ready.
     let old = c.args.machine.now in
     let new = c.args.machine.now in
-    let it = was_call x told plan s m t old new c.in-Call.n (code_area x plan m t) refl (stopped c.args.machine.now (answers.Call c.in-Call.n) (subst (λ (z : Step). Stops c.args.machine.now.cpu z) c.in-Call.is c.requires.why) x told plan s m t o h runs ready) in
+    let it = was_call x told plan s m t old new c.in-Call.n (code_area x plan m t) refl (stopped c.args.machine.now (answers.Call c.in-Call.n) (subst (λ (z : Step). StopsHere c.args.machine.now.cpu z) c.in-Call.is c.requires.why) x told plan s m t o h runs ready) in
     let k = stays x told plan s old new it.2 h in
     let call = (rw c.in-Ok-Absent.field-0-is at c.in-Ok-Absent.ensures.call) x told plan s m t o k runs it.0 it.1 in
     record {
@@ -117,7 +117,7 @@ pub returns-in-Ok-Fault-clause-tried : goal.returns-in-Ok-Fault-clause-tried
 returns-in-Ok-Fault-clause-tried g c = λ x told plan s m t o h runs ready.
     let old = c.args.machine.now in
     let new = c.args.machine.now in
-    let it = was_call x told plan s m t old new c.in-Call.n (code_area x plan m t) refl (stopped c.args.machine.now (answers.Call c.in-Call.n) (subst (λ (z : Step). Stops c.args.machine.now.cpu z) c.in-Call.is c.requires.why) x told plan s m t o h runs ready) in
+    let it = was_call x told plan s m t old new c.in-Call.n (code_area x plan m t) refl (stopped c.args.machine.now (answers.Call c.in-Call.n) (subst (λ (z : Step). StopsHere c.args.machine.now.cpu z) c.in-Call.is c.requires.why) x told plan s m t o h runs ready) in
     let k = stays x told plan s old new it.2 h in
     let call = (rw c.in-Ok-Fault.field-0-is at c.in-Ok-Fault.ensures.call) x told plan s m t o k runs it.0 it.1 in
     let untold_call = (rw c.in-Ok-Fault.field-0-is at c.in-Ok-Fault.ensures.call) (untold x) None plan s m t o (machine_untold x told new plan s k) runs it.0 it.1 in
@@ -131,7 +131,7 @@ pub returns-in-Ok-Waits-clause-tried : goal.returns-in-Ok-Waits-clause-tried
 returns-in-Ok-Waits-clause-tried g c = λ x told plan s m t o h runs ready.
     let old = c.args.machine.now in
     let new = c.args.machine.now in
-    let it = was_call x told plan s m t old new c.in-Call.n (code_area x plan m t) refl (stopped c.args.machine.now (answers.Call c.in-Call.n) (subst (λ (z : Step). Stops c.args.machine.now.cpu z) c.in-Call.is c.requires.why) x told plan s m t o h runs ready) in
+    let it = was_call x told plan s m t old new c.in-Call.n (code_area x plan m t) refl (stopped c.args.machine.now (answers.Call c.in-Call.n) (subst (λ (z : Step). StopsHere c.args.machine.now.cpu z) c.in-Call.is c.requires.why) x told plan s m t o h runs ready) in
     let k = stays x told plan s old new it.2 h in
     let call = (rw c.in-Ok-Waits.field-0-is at c.in-Ok-Waits.ensures.call) x told plan s m t o k runs it.0 it.1 in
     let untold_call = (rw c.in-Ok-Waits.field-0-is at c.in-Ok-Waits.ensures.call) (untold x) None plan s m t o (machine_untold x told new plan s k) runs it.0 it.1 in
@@ -145,7 +145,7 @@ pub returns-in-Err-clause-tried : goal.returns-in-Err-clause-tried
 returns-in-Err-clause-tried g c = λ x told plan s m t o h runs ready.
     let old = c.args.machine.now in
     let new = c.args.machine.now in
-    let it = was_call x told plan s m t old new c.in-Call.n (code_area x plan m t) refl (stopped c.args.machine.now (answers.Call c.in-Call.n) (subst (λ (z : Step). Stops c.args.machine.now.cpu z) c.in-Call.is c.requires.why) x told plan s m t o h runs ready) in
+    let it = was_call x told plan s m t old new c.in-Call.n (code_area x plan m t) refl (stopped c.args.machine.now (answers.Call c.in-Call.n) (subst (λ (z : Step). StopsHere c.args.machine.now.cpu z) c.in-Call.is c.requires.why) x told plan s m t o h runs ready) in
     let k = stays x told plan s old new it.2 h in
     let call = c.in-Err.ensures.call x told plan s m t o k runs it.0 it.1 in
     let y = untold x in

@@ -3,6 +3,7 @@ use Rattle.b67_task_tables.specs.declared.tables.Tasks.{Tasks}
 use Rattle.b67_task_tables.specs.Tables.{given_of}
 use Rattle.b67_task_tables.proofs.Keeping.{rows_put, given_put}
 use Rattle.b67_task_switch.specs.Counted.{TurnHasRoom, row_more}
+use Rattle.b67_session.proofs.Begins.{why_here}
 use Rattle.b67_session.proofs.Turning.{turn_begins, turn_fits, turn_goes_on, turn_rests, turn_runs}
 use Rattle.b67_session.proofs.turns.go_on_with_turn.Goals as goal
 
@@ -62,3 +63,6 @@ returns-clause-keeps c =
       given = given_put mid c.count_turn.new.tasks (ap given_of c.count_turn.ensures.rest)
           (rows_put mid.jobs c.count_turn.new.tasks.jobs (mid.last_job - 1) r.job (row_more c.make_in_turn-made.result r.job) r.at (c.count_turn.ensures.jobs r.job r.at) refl) ∙ k.given;
     }
+
+pub returns-clause-stops : goal.returns-clause-stops
+returns-clause-stops c = λ other. why_here c.turn_room-room.result c.make_in_turn-made.result c.make_in_turn-made.new.machine.cpu c.args.why.now c.make_in_turn-made.new.why c.make_in_turn-made.ensures.few c.requires.done c.make_in_turn-made.ensures.why other

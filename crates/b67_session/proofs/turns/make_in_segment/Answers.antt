@@ -1,6 +1,6 @@
 use Rattle.std.proofs.Common.{◌≡◌, ◌≢◌, ◌+◌, ◌-◌, refl, sym, ◌∙◌, subst, arith}
 use Rattle.b67_exec.specs.declared.far.Went.TheVariants as wents
-use Rattle.b67_exec.specs.Near.{Stops}
+use Rattle.b67_exec.specs.Near.{StopsHere}
 use Rattle.b67_task_tables.specs.declared.tables.Machine.{Machine}
 use Rattle.b67_session.proofs.Begins.{begins_none, begins_same, begins_more, begins_runs}
 use Rattle.b67_session.proofs.Going.{keeps_on}
@@ -20,7 +20,11 @@ pub returns-in-None-clause-stops : goal.returns-in-None-clause-stops
 returns-in-None-clause-stops c = λ e. c.reader_here.ensures.why c.in-None.is
 
 pub returns-in-None-clause-left : goal.returns-in-None-clause-left
-returns-in-None-clause-left c = λ e. c.requires.some
+returns-in-None-clause-left c = record {
+  few = omega arith;
+  some = λ e. absurd (let z : ⊥ = cc in z);
+  left = λ e. c.requires.some;
+}
 
 pub operator-init : goal.operator-init
 operator-init c = record {
@@ -62,9 +66,11 @@ pub returns-in-Away : goal.returns-in-Away
 returns-in-Away c =
     let other : c.make_next.result ≢ wents.Not = λ e. let is = c.in-Away.is in let z : ⊥ = cc in z in
     record {
-      few = omega (arith, c.operator.invariant.few);
-      some = λ e. omega (arith, c.operator.invariant.few, c.operator-test.true);
-      left = λ e. absurd (let z : ⊥ = cc in z);
+      left = record {
+        few = omega (arith, c.operator.invariant.few);
+        some = λ e. omega (arith, c.operator.invariant.few, c.operator-test.true);
+        left = λ e. absurd (let z : ⊥ = cc in z);
+      };
       stops = λ e. absurd (let z : ⊥ = cc in z);
       first = begins_more (c.args.most - c.operator.room) (c.args.most - (c.operator.room - 1)) c.args.machine.now c.operator.machine c.operator.machine c.make_next.new.machine (omega (arith, c.operator.invariant.few, c.operator-test.true)) refl
           (c.make_next.ensures.row other) c.operator.invariant.first;
@@ -81,18 +87,24 @@ pub returns-in-Not : goal.returns-in-Not
 returns-in-Not c =
     let same : c.make_next.new.machine ≡ c.operator.machine = c.make_next.ensures.rest c.in-Not.is in
     record {
-      few = c.operator.invariant.few;
-      some = λ e. absurd (let z : ⊥ = cc in z);
-      left = λ e. omega (arith, c.operator-test.true);
-      stops = λ e. subst (λ (z : Machine). Stops z.cpu c.make_next.new.why) (sym same) (c.make_next.ensures.why c.in-Not.is);
+      left = record {
+        few = c.operator.invariant.few;
+        some = λ e. absurd (let z : ⊥ = cc in z);
+        left = λ e. omega (arith, c.operator-test.true);
+      };
+      stops = λ e. subst (λ (z : Machine). StopsHere z.cpu c.make_next.new.why) (sym same) (c.make_next.ensures.why c.in-Not.is);
       first = begins_same (c.args.most - c.operator.room) c.args.machine.now c.operator.machine c.make_next.new.machine same c.operator.invariant.first;
       row = λ said steps core s size h. turn_same said (steps + (c.args.most - c.operator.room)) c.operator.room s core c.operator.machine c.make_next.new.machine same (c.operator.invariant.turn said steps core s size h);
       tables = c.make_next.ensures.tasks ∙ c.operator.invariant.tables;
       keeps = keeps_on c.args.machine.now c.operator.machine c.make_next.new.machine c.operator.invariant.keeps c.make_next.ensures.keeps;
     }
 
-pub returns-clause-some : goal.returns-clause-some
-returns-clause-some c = λ e. let q = c.requires in omega (arith, q.some, c.operator-test.false)
+pub returns-clause-left : goal.returns-clause-left
+returns-clause-left c = record {
+  few = c.operator.invariant.few;
+  some = λ e. let q = c.requires in omega (arith, q.some, c.operator-test.false);
+  left = λ e. absurd (let z : ⊥ = cc in z);
+}
 
 pub returns-clause-first : goal.returns-clause-first
 returns-clause-first c = c.operator.invariant.first

@@ -41,14 +41,16 @@ returns-then-not-next c =
     let left = c.make_in_segment-next.result.room in
     record {
       few = omega arith;
-      all = λ all. (let low = next.left (not-true _ c.if-not-next.true) in absurd (omega (arith, all, low, next.few, c.segment.invariant.few)));
-      stops = λ low. next.stops (not-true _ c.if-not-next.true);
-      first = begins_as (c.args.room - c.segment.left + (c.segment.left - left)) (c.args.room - left) c.args.machine.now c.make_in_segment-next.new.machine (omega (arith, next.few, c.segment.invariant.few))
+      why = record {
+        all = λ all. (let low = next.left.left (not-true _ c.if-not-next.true) in absurd (omega (arith, all, low, next.left.few, c.segment.invariant.few)));
+        stops = λ low. next.stops (not-true _ c.if-not-next.true);
+      };
+      first = begins_as (c.args.room - c.segment.left + (c.segment.left - left)) (c.args.room - left) c.args.machine.now c.make_in_segment-next.new.machine (omega (arith, next.left.few, c.segment.invariant.few))
           (begins_then (c.args.room - c.segment.left) (c.segment.left - left) c.args.machine.now c.segment.machine c.make_in_segment-next.new.machine c.segment.invariant.first next.first);
       row = λ x said plan s o h w.
           made_in_turn said (c.args.room - left) left s (length c.args.machine.now.cpu.core) c.make_in_segment-next.new.machine
           (turn_as said (c.args.room - c.segment.left + (c.segment.left - left)) left s (length c.args.machine.now.cpu.core) c.make_in_segment-next.new.machine
-          (next.row said (c.args.room - c.segment.left) (length c.args.machine.now.cpu.core) s c.segment.invariant.keeps.core (c.segment.invariant.turn x said plan s o h w)) (c.args.room - left) left (omega (arith, next.few, c.segment.invariant.few)) refl);
+          (next.row said (c.args.room - c.segment.left) (length c.args.machine.now.cpu.core) s c.segment.invariant.keeps.core (c.segment.invariant.turn x said plan s o h w)) (c.args.room - left) left (omega (arith, next.left.few, c.segment.invariant.few)) refl);
       tables = next.tables ∙ c.segment.invariant.tables;
       keeps = keeps_on c.args.machine.now c.segment.machine c.make_in_segment-next.new.machine c.segment.invariant.keeps next.keeps;
     }
@@ -58,27 +60,27 @@ segment-preserved c =
     let next = c.make_in_segment-next.ensures in
     let left = c.make_in_segment-next.result.room in
     record {
-      few = omega (arith, next.few, c.segment.invariant.few);
+      few = omega (arith, next.left.few, c.segment.invariant.few);
       why = c.segment.invariant.why;
-      first = begins_as (c.args.room - c.segment.left + (c.segment.left - left)) (c.args.room - left) c.args.machine.now c.make_in_segment-next.new.machine (omega (arith, next.few, c.segment.invariant.few))
+      first = begins_as (c.args.room - c.segment.left + (c.segment.left - left)) (c.args.room - left) c.args.machine.now c.make_in_segment-next.new.machine (omega (arith, next.left.few, c.segment.invariant.few))
           (begins_then (c.args.room - c.segment.left) (c.segment.left - left) c.args.machine.now c.segment.machine c.make_in_segment-next.new.machine c.segment.invariant.first next.first);
       tables = next.tables ∙ c.segment.invariant.tables;
       keeps = keeps_on c.args.machine.now c.segment.machine c.make_in_segment-next.new.machine c.segment.invariant.keeps next.keeps;
       turn = λ x said plan s o h w.
           turn_as said (c.args.room - c.segment.left + (c.segment.left - left)) left s (length c.args.machine.now.cpu.core) c.make_in_segment-next.new.machine
-          (next.row said (c.args.room - c.segment.left) (length c.args.machine.now.cpu.core) s c.segment.invariant.keeps.core (c.segment.invariant.turn x said plan s o h w)) (c.args.room - left) left (omega (arith, next.few, c.segment.invariant.few)) refl;
+          (next.row said (c.args.room - c.segment.left) (length c.args.machine.now.cpu.core) s c.segment.invariant.keeps.core (c.segment.invariant.turn x said plan s o h w)) (c.args.room - left) left (omega (arith, next.left.few, c.segment.invariant.few)) refl;
     }
 
 pub segment-smaller : goal.segment-smaller
-segment-smaller c = c.make_in_segment-next.ensures.some (not-false _ c.if-not-next.false)
+segment-smaller c = c.make_in_segment-next.ensures.left.some (not-false _ c.if-not-next.false)
 
 pub returns-clause-row : goal.returns-clause-row
 returns-clause-row c = λ x said plan s o h w.
     made_in_turn said c.args.room c.segment.left s (length c.args.machine.now.cpu.core) c.segment.machine
     (turn_as said (c.args.room - c.segment.left) c.segment.left s (length c.args.machine.now.cpu.core) c.segment.machine (c.segment.invariant.turn x said plan s o h w) c.args.room c.segment.left (omega (arith, c.segment-test.false)) refl)
 
-pub returns-clause-all : goal.returns-clause-all
-returns-clause-all c = λ all. c.segment.invariant.why
+pub returns-clause-why : goal.returns-clause-why
+returns-clause-why c = record { all = λ all. c.segment.invariant.why; stops = λ low. absurd (omega (arith, low)) }
 
 pub returns-clause-first : goal.returns-clause-first
 returns-clause-first c = begins_as (c.args.room - c.segment.left) c.args.room c.args.machine.now c.segment.machine (omega (arith, c.segment-test.false)) c.segment.invariant.first

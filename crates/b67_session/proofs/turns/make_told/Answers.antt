@@ -11,10 +11,10 @@ pub returns-then-made-eq0-clause-rest : goal.returns-then-made-eq0-clause-rest
 returns-then-made-eq0-clause-rest c = λ not_made. c.make_in_turn-made.ensures.first.none c.if-made-eq0.true
 
 pub returns-then-made-eq0-clause-stops : goal.returns-then-made-eq0-clause-stops
-returns-then-made-eq0-clause-stops c = λ not_made. c.make_in_turn-made.ensures.stops (omega (arith, c.if-made-eq0.true))
+returns-then-made-eq0-clause-stops c = λ not_made. c.make_in_turn-made.ensures.why.stops (omega (arith, c.if-made-eq0.true))
 
 pub returns-clause-row : goal.returns-clause-row
 returns-clause-row c = λ made. c.make_in_turn-made.ensures.first.one (omega (arith, c.if-made-eq0.false, c.make_in_turn-made.ensures.few))
 
 pub returns-clause-done : goal.returns-clause-done
-returns-clause-done c = λ made. c.make_in_turn-made.ensures.all (omega (arith, c.if-made-eq0.false, c.make_in_turn-made.ensures.few)) ∙ c.in-Done.is
+returns-clause-done c = λ made. c.make_in_turn-made.ensures.why.all (omega (arith, c.if-made-eq0.false, c.make_in_turn-made.ensures.few)) ∙ c.in-Done.is
