@@ -95,7 +95,8 @@ for document in "$@"; do
         *)
             if head -1 "$room/text" | grep -q '^?'; then
                 deck=
-                for folder in decks/*/; do
+                for folder in decks/*/stdin; do
+                    folder=${folder%/stdin}
                     if cmp -s "$folder/stdin" "$room/text"; then deck=$folder; fi
                 done
                 if [ -n "$deck" ]; then passed=$((passed + 1)); else wrong "$name: no deck of decks/"; fi
@@ -114,7 +115,7 @@ for document in "$@"; do
     done <"$room/sentences"
 done
 
-if [ "$(ls -d decks/*/ | sed 's:decks/::; s:/::' | sort)" = "$(sed -n '/^## The decks/,$s/^| `\([a-z0-9]*\)` .*/\1/p' docs/ASSEMBLER.md | sort)" ]; then
+if [ "$(ls decks/*/stdin | cut -d/ -f2 | sort)" = "$(sed -n '/^## The decks/,$s/^| `\([a-z0-9]*\)` .*/\1/p' docs/ASSEMBLER.md | sort)" ]; then
     passed=$((passed + 1))
 else wrong 'the table of decks in docs/ASSEMBLER.md'; fi
 missing=$(for crate in crates/*/; do
@@ -138,7 +139,7 @@ rows=$(tail -1 crates/b67_rows/stdout | cut -d' ' -f1)
 if grep -qF "$rows rows" docs/TESTED.md; then passed=$((passed + 1)); else wrong "docs/TESTED.md: there are $rows rows"; fi
 crates=$(ls -d crates/*/ | wc -l)
 if grep -qF "There are $crates crates" docs/ARCHITECTURE.md; then passed=$((passed + 1)); else wrong "docs/ARCHITECTURE.md: there are $crates crates"; fi
-decks=$(ls -d decks/*/ | wc -l)
+decks=$(ls decks/*/stdin | wc -l)
 if grep -qF "the $decks decks" README.md; then passed=$((passed + 1)); else wrong "README.md: there are $decks decks"; fi
 page=$(MANWIDTH=1000 man -l docs/b67.1 2>/dev/null | col -b)
 for words in 'USAGE: b67 run' DECK ASM CODEFILE LOAD BIND IMAGE HALTED 'NO CORE' 'BACKING FULL' 'BACKING FAULT' 'READING FAULT' 'NO MEMORY'; do

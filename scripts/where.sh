@@ -3,29 +3,31 @@
 # that did it with its place and card, and the activation record that it found on top. For DEADLOCK and LIMIT: each live
 # task of the job before it, what it waits for, and the card of its next operator.
 #
-#     sh scripts/where.sh DECK [PROGRAM]
+#     sh scripts/where.sh DECK
 #
-# DECK is a file of cards; a ?HALT of its own is left out. PROGRAM is `b67` on the path if it isn't given. The deck is run
-# some forty times at most, to counts between which the ending lies ever more closely. Then `image` and `dump` read the
-# machine before the ending, plain.sh prints it, and explain.sh says what the ending means. Status 1: no task ends by a
-# fault, DEADLOCK or LIMIT. Nothing here is proved, and it is no part of the gate.
+# DECK is a file of cards, with names for cells if you like (cells.sh); a ?HALT of its own is left out. The program is `b67`
+# on the path, or what the variable B67 names. The deck is run some forty times at most, to counts between which the ending
+# lies ever more closely. Then `image` and `dump` read the machine before the ending, plain.sh prints it, and explain.sh says
+# what the ending means. Status 1: no task ends by a fault, DEADLOCK or LIMIT. Nothing here is proved, and it is no part of
+# the gate.
 set -u
 usage() {
     echo "$1" >&2
-    echo "usage: sh scripts/where.sh DECK [PROGRAM]" >&2
+    echo "usage: sh scripts/where.sh DECK" >&2
     exit 2
 }
-[ $# = 1 ] || [ $# = 2 ] || usage "one deck, and a program if you like"
+[ $# = 1 ] || usage "one deck is wanted"
 deck=$1
-program=${2:-b67}
+program=${B67:-b67}
 here=$(cd "$(dirname "$0")" && pwd)
 [ -f "$deck" ] && [ -r "$deck" ] || usage "$deck: not a file that can be read"
-command -v "$program" >/dev/null && [ ! -d "$(command -v "$program")" ] || usage "$program: not a program that can be run"
+command -v "$program" >/dev/null && [ ! -d "$(command -v "$program")" ] || usage "$program: not a program that can be run: put b67 on the path, or name it as in B67=PROGRAM sh scripts/where.sh"
 room=$(mktemp -d) || exit 2
 trap 'rm -rf "$room"' EXIT
 trap 'exit 130' HUP INT TERM
-"$program" check <"$deck" >"$room/checked" || { tail -n 1 "$room/checked" >&2; exit 2; }
-grep -v '^?HALT' <"$deck" >"$room/whole"
+sh "$here/cells.sh" "$deck" >"$room/deck" || exit 2
+"$program" check <"$room/deck" >"$room/checked" || { tail -n 1 "$room/checked" >&2; exit 2; }
+grep -v '^?HALT' <"$room/deck" >"$room/whole"
 # the same after a card ?HALT, whose count is written over in place: spaces at a card's end don't count
 { echo '?HALT 1          '; cat "$room/whole"; } >"$room/halting"
 
@@ -92,7 +94,7 @@ else
     go image "$low"
     "$program" dump <"$room/printed" >"$room/dump" || { echo "where.sh: dump: $(tail -n 1 "$room/dump")" >&2; exit 1; }
 fi
-sh "$here/listing.sh" "$deck" "$program" "${task%%.*}" >"$room/listing" || exit 1
+sh "$here/listing.sh" "$deck" "${task%%.*}" >"$room/listing" || exit 1
 # the heading of segment $1 and the operator at place $2 of it, from the listing
 operator() {
     awk -v segment="$1" -v place="$2" -v heading="$3" '
