@@ -30,7 +30,7 @@ while :; do
     case $status in
     0 | 3)
         echo "$core"
-        exit 0
+        exit
         ;;
     4)
         need=${last#NO CORE }

@@ -70,6 +70,7 @@ fi
 
 awk -v cards="$room/cards" -v names_of="$room/names" -v prefix="$prefix" '
 function digit(c) { return index("0123456789abcdef", c) - 1 }
+function counted(words) { return words (words == 1 ? " word" : " words") }
 function number(text,    i, n) {
     n = 0
     for (i = 1; i <= length(text); i++) n = n * 16 + digit(substr(text, i, 1))
@@ -182,14 +183,14 @@ END {
         entries = ""
         if (version ~ /2$/) for (k = number(take(1)); k > 0; k--) entries = entries " " place(number(take(2)))
         words = number(take(2))
-        print prefix "segment " segment ", " segment_names[segment] "level " level ", " words " words" (entries == "" ? "" : ", entries" entries) segment_cards[segment]
+        print prefix "segment " segment ", " segment_names[segment] "level " level ", " counted(words) (entries == "" ? "" : ", entries" entries) segment_cards[segment]
         code = ""
         for (k = 0; k < words; k++) code = code substr(take(8), 5)
         list(level, words, code)
     }
     for (row = 1; row <= rows; row++) {
         words = number(take(2))
-        print prefix "data row " row ", " row_names[row] "displacement " segments + 1 + row ", " words " words" row_cards[row]
+        print prefix "data row " row ", " row_names[row] "displacement " segments + 1 + row ", " counted(words) row_cards[row]
         for (k = 0; k < words; k++) print "  " sprintf("%6d", k) "  " literal(substr(take(8), 5))
     }
 }' "$room/hex"

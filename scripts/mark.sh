@@ -28,7 +28,7 @@ LC_ALL=C grep -q '^?JOB' <"$wanted" && usage "$wanted: this is a deck: EXPECTED 
 room=$(mktemp -d) || exit 2
 trap 'rm -rf "$room"' EXIT
 trap 'exit 130' HUP INT TERM
-tr -d '\r' <"$wanted" >"$room/wanted"
+tr -d '\r' <"$wanted" >"$room/wanted" || exit 2
 
 # the first line of `lines` that isn't as it should be, in words; nothing if all are
 first() {
@@ -49,7 +49,7 @@ while [ $# -gt 1 ]; do
     [ -n "$why" ] || "$program" check <"$room/plain" >"$room/lines" || why="refused, $(tail -n 1 "$room/lines")"
     [ -n "$why" ] || [ -s "$room/lines" ] || why="no job is in it"
     if [ -n "$why" ]; then
-        echo "$deck: $why"
+        echo "$deck: $why" || exit 2
         wrong=1
         continue
     fi
@@ -72,9 +72,8 @@ while [ $# -gt 1 ]; do
             why=${why:-$said}
         done
     done
-    if [ $failed = 0 ]; then echo "$deck: right in $all runs"; else
-        echo "$deck: wrong in $failed of $all runs"
-        echo "    $why"
+    if [ $failed = 0 ]; then echo "$deck: right in $all runs" || exit 2; else
+        printf '%s: wrong in %s of %s runs\n    %s\n' "$deck" $failed $all "$why" || exit 2
         wrong=1
     fi
 done

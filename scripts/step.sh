@@ -120,7 +120,7 @@ while [ "$from" -le "$to" ]; do
         echo "no task lives"
         exit 0
     fi
-    sh "$here/plain.sh" "$room/dump"
+    sh "$here/plain.sh" "$room/dump" || exit 1
     cp "$room/lines" "$room/shown"
     cp "$room/dump" "$room/before"
     from=$((from + 1))

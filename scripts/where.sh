@@ -102,6 +102,19 @@ operator() {
         now == segment && $1 == place && /^ / { print "  " $0; found = 1 }
         END { if (!found) print "       " place "  in the filling after its last operator" }' "$room/listing"
 }
+# the record on top of task $1; after `$2`, `running`, also the topmost entered one, whose cells couples name
+record() {
+    awk -v task="$1" '
+        /^TASK / { mine = $2 == task; if (mine) print; next }
+        mine && /^FRAME / { if (text !~ /MARKED/) level = text; text = $0; next }
+        mine { text = text "\n" $0 }
+        END { if (text ~ /MARKED/ && level != "") print level; print text }' "$room/dump" | sh "$here/plain.sh" |
+        awk -v all="${2-}" '
+            /^task / { next }
+            /^  record / && !all { text = $0; next }
+            { text = text (text == "" ? "" : "\n") $0 }
+            END { print text }' | sed 's/^/  /'
+}
 # what MESSAGES.md says of the ending
 causes() { sh "$here/explain.sh" "$fault" | sed '1s/.*/What it means, and the usual causes:/'; }
 echo "$fault, by operator $high:"
@@ -111,6 +124,8 @@ case $fault in
     grep "^TASK ${task%%.*}\." "$room/dump" | while read -r line; do
         echo "$line" | sh "$here/plain.sh" | sed 's/^/    /'
         operator $(echo "$line" | awk '{ print $(NF - 1), $NF }') ''
+        # at a DEADLOCK the one that is still ready comes to wait by this operator: its record says for what
+        case $fault$line in *DEADLOCK*READY*) record "$(echo "$line" | cut -d' ' -f2)" running | sed 's/^/    /' ;; esac
     done
     causes
     exit 0
@@ -120,13 +135,8 @@ set -- $(grep "^TASK $task " "$room/dump")
 [ $# -ge 5 ] || { echo "where.sh: the dump at $low has no task $task" >&2; exit 1; }
 operator "$4" "$5" 1
 echo "The record on top before it:"
-awk -v task="$task" '
-    /^TASK / { mine = $2 == task; if (mine) print; next }
-    mine && /^FRAME / { level = ($4 ~ /^[0-9]+$/) ? $0 : level; text = $0; next }
-    mine { text = text "\n" $0 }
-    END { if (text ~ /MARKED/ && level != "") print level; print text }' "$room/dump" | sh "$here/plain.sh" |
-    awk '/^task / { next } { if (/^  record /) { text = $0; next } text = text "\n" $0 } END { print text }' | sed 's/^/  /' >"$room/record"
-cat "$room/record"
+record "$task" >"$room/record"
+cat "$room/record" || exit 1
 # the one cause of several that the record shows: an intrinsic that wants a row copy, and has a reference
 case $fault in
 *' INVALID OPERAND')
