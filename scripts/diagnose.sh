@@ -27,7 +27,7 @@ sh "$here/cells.sh" "$deck" >"$room/deck" || exit 1
 status=$?
 line=$(tail -n 1 "$room/lines")
 if [ $status = 0 ]; then
-    cat "$room/lines"
+    cat "$room/lines" || exit 2
     [ -n "$line" ] || echo "    The deck is empty, or has empty cards alone."
     echo "    Nothing is refused. It may still fault: run it, and pipe its lines to sh $(dirname "$0")/explain.sh."
     case $deck in *[!A-Za-z0-9_./-]*) deck="'$deck'" ;; esac

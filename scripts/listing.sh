@@ -52,7 +52,7 @@ prefix=$(cat "$room/prefix" 2>/dev/null)
 : >"$room/names"
 if [ "$(cat "$room/kind")" = ASM ]; then
     command -v "$program" >/dev/null && [ ! -d "$(command -v "$program")" ] || usage "$program: not a program that can be run: put b67 on the path, or name it as in B67=PROGRAM sh scripts/listing.sh"
-    "$program" asm <"$room/body" >"$room/hex" || { cat "$room/hex" >&2; exit 1; }
+    "$program" asm <"$room/body" >"$room/hex" || { grep . "$room/hex" >&2 || echo "$program: it answers nothing" >&2; exit 1; }
     # operators alone: number, segment, mnemonic, and the card as it stands in DECK; and the names of segments and rows
     tr -d '\r' <"$deck" >"$room/own"
     awk -v names="$room/names" -v own="$room/own" '

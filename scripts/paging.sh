@@ -30,6 +30,7 @@ room=$(mktemp -d) || exit 2
 trap 'rm -rf "$room"' EXIT
 trap 'exit 130' HUP INT TERM
 sh "$here/cells.sh" "$deck" >"$room/deck" || exit 2
+"$program" check <"$room/deck" >"$room/lines" || { tail -n 1 "$room/lines" | grep . >&2 || echo "$program: it answers nothing" >&2; exit 2; }
 echo "   core    read written  last line"
 for core in "$@"; do
     strace -o "$room/calls" -P "$room/b" -e trace=pread64,pwrite64 \

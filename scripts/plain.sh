@@ -90,7 +90,7 @@ BEGIN {
 /^CELL [0-9]+ ROW / { show("copy of " array()); next }
 /^CELL [0-9]+ ELEMENT / { what = array(); show("element " $(next_field + 1) " of " what); next }
 /^CELL [0-9]+ PROC / { show("procedure: segment " $4 ($5 == "0:0" ? "" : " at " $5)); next }
-/^(TASK|FRAME|CELL) / {
+/^(TASK|FRAME|CELL)( |$)/ {
     print "plain.sh: line " NR " of the dump is cut: " substr($0, 1, 60) > "/dev/stderr"
     failed = 1
     exit 1

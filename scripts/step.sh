@@ -31,7 +31,7 @@ room=$(mktemp -d) || exit 2
 trap 'rm -rf "$room"' EXIT
 trap 'exit 130' HUP INT TERM
 sh "$here/cells.sh" "$deck" >"$room/deck" || exit 2
-"$program" check <"$room/deck" >"$room/checked" || { tail -n 1 "$room/checked" >&2; exit 2; }
+"$program" check <"$room/deck" >"$room/checked" || { tail -n 1 "$room/checked" | grep . >&2 || echo "$program: it answers nothing" >&2; exit 2; }
 grep -v '^?HALT' <"$room/deck" >"$room/whole"
 
 # runs the deck to count $1, in a core that has room for it: `printed`, `lines` of tasks, `dump`, and `status`

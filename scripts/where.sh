@@ -26,7 +26,7 @@ room=$(mktemp -d) || exit 2
 trap 'rm -rf "$room"' EXIT
 trap 'exit 130' HUP INT TERM
 sh "$here/cells.sh" "$deck" >"$room/deck" || exit 2
-"$program" check <"$room/deck" >"$room/checked" || { tail -n 1 "$room/checked" >&2; exit 2; }
+"$program" check <"$room/deck" >"$room/checked" || { tail -n 1 "$room/checked" | grep . >&2 || echo "$program: it answers nothing" >&2; exit 2; }
 grep -v '^?HALT' <"$room/deck" >"$room/whole"
 # the same after a card ?HALT, whose count is written over in place: spaces at a card's end don't count
 { echo '?HALT 1          '; cat "$room/whole"; } >"$room/halting"
