@@ -15,7 +15,8 @@
 # are left out of the comparison. Beside that
 # - each link must lead to a file and a heading, and each name of a file or a crate to one (scripts/links.py);
 # - the table of decks must name each folder of decks/, that of crates each crate, some page each script;
-# - the manual page must name each status's line, and its examples must end with status 0 and print something;
+# - the manual pages must be of the version and date that CITATION.cff has; b67.1 must name each status's line, and its examples
+#   must end with status 0 and print something;
 # - each number of lines in README.md and docs/PAPER.md must be one that scripts/trust.py or scripts/sizes.py prints;
 # - docs/TRUST.md must name each public function of b67_promises, docs/TESTED.md the number of rows, README.md that of decks,
 #   docs/ARCHITECTURE.md that of crates.
@@ -141,6 +142,12 @@ crates=$(ls -d crates/*/ | wc -l)
 if grep -qF "There are $crates crates" docs/ARCHITECTURE.md; then passed=$((passed + 1)); else wrong "docs/ARCHITECTURE.md: there are $crates crates"; fi
 decks=$(ls decks/*/stdin | wc -l)
 if grep -qF "the $decks decks" README.md; then passed=$((passed + 1)); else wrong "README.md: there are $decks decks"; fi
+version=$(sed -n 's/^version: //p' CITATION.cff)
+date=$(sed -n 's/^date-released: //p' CITATION.cff)
+for page in docs/b67.1 docs/*.5; do
+    head -1 "$page" | grep -qF "\"$date\" \"b67 $version\"" || wrong "$page: its head isn't of b67 $version, $date"
+done
+if grep -qF "This page describes b67 $version, of $date." docs/b67.1; then passed=$((passed + 1)); else wrong "docs/b67.1: VERSION isn't of b67 $version, $date"; fi
 page=$(MANWIDTH=1000 man -l docs/b67.1 2>/dev/null | col -b)
 for words in 'USAGE: b67 run' DECK ASM CODEFILE LOAD BIND IMAGE HALTED 'NO CORE' 'BACKING FULL' 'BACKING FAULT' 'READING FAULT' 'NO MEMORY'; do
     case $page in *"$words"*) passed=$((passed + 1)) ;; *) wrong "docs/b67.1: $words" ;; esac
