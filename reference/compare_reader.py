@@ -106,7 +106,7 @@ def main() -> int:
     if len(sys.argv) < 2 or not Path(sys.argv[1]).is_file():
         print("usage: python3 compare_reader.py PROGRAM [DECK..]", file=sys.stderr)
         return 2
-    names = sys.argv[2:] or sorted(each.name for each in DECKS.iterdir() if each.is_dir())
+    names = sys.argv[2:] or sorted(each.name for each in DECKS.iterdir() if (each / "stdin").is_file())
     for name in names:
         if not (DECKS / name / "args").is_file():
             print(f"{name}: not a folder of decks/", file=sys.stderr)

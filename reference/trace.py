@@ -342,6 +342,8 @@ def main() -> int:
     is_draw = len(words) == 2 and words[0] == "--draw" and len(counts) == 1
     if words != ["last"] and not is_draw and (len(counts) != len(words) or len(counts) > 2):
         return usage(f"{' '.join(words)}: not what to show")
+    if len(counts) == 2 and counts[0] > counts[1]:
+        return usage(f"{counts[0]} comes after {counts[1]}")
     if not path.is_file():
         return usage(f"{path}: not a file that can be read")
     try:

@@ -16,9 +16,11 @@ syntax keyword b67Arithmetic ADD SUBT MULT IDIV RDIV CHSN LESS GREQ GRTR LSEQ EQ
 syntax keyword b67Bits LAND LOR LNOT LEQV SAME BSET BRST ISOL INSR
 syntax keyword b67Flow BRFL BRTR BRUN MKST ENTR EXIT RETN
 syntax keyword b67Stack PUSH DLET EXCH DUPL NOOP NVLD
-syntax keyword b67Section SEGMENT ROW NUM ENTRY
+syntax keyword b67Section SEGMENT ROW NUM ENTRY CELL
 syntax match b67Number "\(^\|\s\)\@<=-\?\d\+\>"
 syntax match b67Couple "\<\d\+,\(\d\+\|[A-Z][A-Z0-9]*\)"
+" names for cells, as scripts/cells.sh reads them
+syntax match b67Couple "\(\<\(VALC\|NAMC\|CELL\) \+\)\@<=[a-z][a-z0-9_]\{,15}\>"
 syntax match b67Hexadecimal "#\x\{12}\>"
 
 " cards that begin with ?; no comment may stand on them

@@ -15,7 +15,8 @@
 # are left out of the comparison. Beside that
 # - each link must lead to a file and a heading, and each name of a file or a crate to one (scripts/links.py);
 # - the table of decks must name each folder of decks/, that of crates each crate, some page each script;
-# - the manual page must name each status's line, and its examples must end with status 0 and print something;
+# - the manual pages must be of the version and date that CITATION.cff has; b67.1 must name each status's line, and its examples
+#   must end with status 0 and print something;
 # - each number of lines in README.md and docs/PAPER.md must be one that scripts/trust.py or scripts/sizes.py prints;
 # - docs/TRUST.md must name each public function of b67_promises, docs/TESTED.md the number of rows, README.md that of decks,
 #   docs/ARCHITECTURE.md that of crates.
@@ -95,7 +96,8 @@ for document in "$@"; do
         *)
             if head -1 "$room/text" | grep -q '^?'; then
                 deck=
-                for folder in decks/*/; do
+                for folder in decks/*/stdin; do
+                    folder=${folder%/stdin}
                     if cmp -s "$folder/stdin" "$room/text"; then deck=$folder; fi
                 done
                 if [ -n "$deck" ]; then passed=$((passed + 1)); else wrong "$name: no deck of decks/"; fi
@@ -114,7 +116,7 @@ for document in "$@"; do
     done <"$room/sentences"
 done
 
-if [ "$(ls -d decks/*/ | sed 's:decks/::; s:/::' | sort)" = "$(sed -n '/^## The decks/,$s/^| `\([a-z0-9]*\)` .*/\1/p' docs/ASSEMBLER.md | sort)" ]; then
+if [ "$(ls decks/*/stdin | cut -d/ -f2 | sort)" = "$(sed -n '/^## The decks/,$s/^| `\([a-z0-9]*\)` .*/\1/p' docs/ASSEMBLER.md | sort)" ]; then
     passed=$((passed + 1))
 else wrong 'the table of decks in docs/ASSEMBLER.md'; fi
 missing=$(for crate in crates/*/; do
@@ -138,8 +140,14 @@ rows=$(tail -1 crates/b67_rows/stdout | cut -d' ' -f1)
 if grep -qF "$rows rows" docs/TESTED.md; then passed=$((passed + 1)); else wrong "docs/TESTED.md: there are $rows rows"; fi
 crates=$(ls -d crates/*/ | wc -l)
 if grep -qF "There are $crates crates" docs/ARCHITECTURE.md; then passed=$((passed + 1)); else wrong "docs/ARCHITECTURE.md: there are $crates crates"; fi
-decks=$(ls -d decks/*/ | wc -l)
+decks=$(ls decks/*/stdin | wc -l)
 if grep -qF "the $decks decks" README.md; then passed=$((passed + 1)); else wrong "README.md: there are $decks decks"; fi
+version=$(sed -n 's/^version: //p' CITATION.cff)
+date=$(sed -n 's/^date-released: //p' CITATION.cff)
+for page in docs/b67.1 docs/*.5; do
+    head -1 "$page" | grep -qF "\"$date\" \"b67 $version\"" || wrong "$page: its head isn't of b67 $version, $date"
+done
+if grep -qF "This page describes b67 $version, of $date." docs/b67.1; then passed=$((passed + 1)); else wrong "docs/b67.1: VERSION isn't of b67 $version, $date"; fi
 page=$(MANWIDTH=1000 man -l docs/b67.1 2>/dev/null | col -b)
 for words in 'USAGE: b67 run' DECK ASM CODEFILE LOAD BIND IMAGE HALTED 'NO CORE' 'BACKING FULL' 'BACKING FAULT' 'READING FAULT' 'NO MEMORY'; do
     case $page in *"$words"*) passed=$((passed + 1)) ;; *) wrong "docs/b67.1: $words" ;; esac

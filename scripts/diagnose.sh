@@ -1,31 +1,33 @@
 #!/bin/sh
 # Why a deck is refused: the line of `check`, the card itself, what the line means and what to do.
 #
-#     sh scripts/diagnose.sh DECK [PROGRAM]
+#     sh scripts/diagnose.sh DECK
 #
-# DECK is a file of cards. PROGRAM is `b67` on the path if it isn't given. A tab shows as ^I, and another character that
-# no card may have begins with M- or ^. Status 0: the deck is good; 1: it is refused.
+# DECK is a file of cards, with names for cells if you like (cells.sh). The program is `b67` on the path, or what the variable
+# B67 names. A tab shows as ^I, and another character that no card may have begins with M- or ^. Status 0: the deck is good;
+# 1: it is refused.
 set -u
 usage() {
     echo "$1" >&2
-    echo "usage: sh scripts/diagnose.sh DECK [PROGRAM]" >&2
+    echo "usage: sh scripts/diagnose.sh DECK" >&2
     exit 2
 }
-[ $# = 1 ] || [ $# = 2 ] || usage "one deck, and a program if you like"
+[ $# = 1 ] || usage "one deck is wanted"
 deck=$1
-program=${2:-b67}
+program=${B67:-b67}
 here=$(cd "$(dirname "$0")" && pwd)
 [ -f "$deck" ] && [ -r "$deck" ] || usage "$deck: not a file that can be read"
-command -v "$program" >/dev/null && [ ! -d "$(command -v "$program")" ] || usage "$program: not a program that can be run"
+command -v "$program" >/dev/null && [ ! -d "$(command -v "$program")" ] || usage "$program: not a program that can be run: put b67 on the path, or name it as in B67=PROGRAM sh scripts/diagnose.sh"
 job=
 room=$(mktemp -d) || exit 2
 trap 'rm -rf "$room"' EXIT
 trap 'exit 130' HUP INT TERM
-"$program" check <"$deck" >"$room/lines"
+sh "$here/cells.sh" "$deck" >"$room/deck" || exit 1
+"$program" check <"$room/deck" >"$room/lines"
 status=$?
 line=$(tail -n 1 "$room/lines")
 if [ $status = 0 ]; then
-    cat "$room/lines"
+    cat "$room/lines" || exit 2
     [ -n "$line" ] || echo "    The deck is empty, or has empty cards alone."
     echo "    Nothing is refused. It may still fault: run it, and pipe its lines to sh $(dirname "$0")/explain.sh."
     case $deck in *[!A-Za-z0-9_./-]*) deck="'$deck'" ;; esac
@@ -61,7 +63,7 @@ LOAD*)
     job=$(sed -n "1,${card}p" "$deck" | grep -c '^?JOB')
     name=$(sed -n "${card}p" "$deck" | tr -d '\r' | sed 's/^?JOB *//; s/ *$//')
     # the operator between its segment's heading and that of the segment which it names; for rule 8 their levels
-    sh "$here/listing.sh" "$deck" "$program" "$job" |
+    sh "$here/listing.sh" "$deck" "$job" |
         awk -v segment="$segment" -v place="$place" -v rule="$(echo "$line" | cut -d' ' -f4)" -v hint="$room/hint" '
             # what the heading says of its segment: its number, name, level and card
             function read(heading,    part, number) {

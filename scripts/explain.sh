@@ -8,11 +8,14 @@
 #
 # Status 1: a line is none of b67's.
 set -u
-here=$(cd "$(dirname "$0")" && pwd)
-if [ $# = 0 ] && [ -t 0 ]; then
+usage() {
     echo "usage: sh scripts/explain.sh LINE, or lines on standard input" >&2
     exit 2
-fi
+}
+here=$(cd "$(dirname "$0")" && pwd)
+[ $# -gt 0 ] || [ ! -t 0 ] || usage
+# no line begins with a dash
+case ${1-} in -*) usage ;; esac
 if [ $# -gt 0 ]; then printf '%s\n' "$*"; else cat; fi |
     awk -v pages="$here/../docs/MESSAGES.md" '
 function trim(s) {
@@ -66,13 +69,13 @@ BEGIN {
 /^USAGE: / { look("Statuses:1", 3); next }
 /^DECK [0-9]+ REASON [0-9]+$/ { look("DECK:" $4, 2, "Card " $2 " "); next }
 /^ASM [0-9]+ REASON [0-9]+$/ { look("ASM:" $4, 2, "Card " $2 " "); next }
-/^CODEFILE [0-9]+ REASON [0-9]+ BYTE [0-9]+$/ { look("CODEFILE:" $4, 2, "The bytes under card " $2 " "); next }
-/^LOAD [0-9]+ REASON [0-9]+ SEGMENT [0-9]+ AT [0-9]+:[0-9]$/ { look("LOAD:" $4, 2, "The program of the job that begins at card " $2 " "); next }
+/^CODEFILE [0-9]+ REASON [0-9]+( BYTE [0-9]+)?$/ { look("CODEFILE:" $4, 2, "The bytes under card " $2 " "); next }
+/^LOAD [0-9]+ REASON [0-9]+( SEGMENT [0-9]+ AT [0-9]+:[0-9])?$/ { look("LOAD:" $4, 2, "The program of the job that begins at card " $2 " "); next }
 /^BIND [0-9]+ REASON [0-9]+$/ { look("BIND:" $4, 2, "Pair " $2 " "); next }
 /^IMAGE [0-9]+ REASON [0-9]+$/ { look("IMAGE:" $4, 2, "Card " $2 " "); next }
-/^HALTED [0-9]+$/ { look("Statuses:3", 3); next }
-/^NO CORE [0-9]+ [0-9]+$/ { numbers["need"] = $3; numbers["core"] = $4; look("Statuses:4", 3); next }
-/^BACKING FULL [0-9]+ [0-9]+$/ { numbers["sum"] = $3; numbers["sectors"] = $4; look("Statuses:5", 3); next }
+/^HALTED( [0-9]+)?$/ { look("Statuses:3", 3); next }
+/^NO CORE( [0-9]+ [0-9]+)?$/ { if (NF > 2) { numbers["need"] = $3; numbers["core"] = $4 }; look("Statuses:4", 3); next }
+/^BACKING FULL( [0-9]+ [0-9]+)?$/ { if (NF > 2) { numbers["sum"] = $3; numbers["sectors"] = $4 }; look("Statuses:5", 3); next }
 /^BACKING FAULT$/ { print "    " cell["Statuses:6", 3]; list("BACKING FAULT"); next }
 /^EXERCISE [0-9]+ [0-9]+ [0-9]+$/ {
     print "    The deck of seed " $2 " with " $3 " arrays made " $4 " operators. All its tasks have ended."

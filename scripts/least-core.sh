@@ -1,33 +1,36 @@
 #!/bin/sh
 # The least core in which a deck runs, found by the first number of NO CORE. Prints that number of words.
 #
-#     sh scripts/least-core.sh DECK [PROGRAM]
+#     sh scripts/least-core.sh DECK
 #
-# DECK is a file of cards. PROGRAM is `b67` on the path if it isn't given. Each try runs the deck from the start. Only a
-# run that ends (status 0), or that halts where its deck says so (status 3), is an answer; any other end is an error.
+# DECK is a file of cards, with names for cells if you like (cells.sh). The program is `b67` on the path, or what the variable
+# B67 names. Each try runs the deck from the start. Only a run that ends (status 0), or that halts where its deck says so
+# (status 3), is an answer; any other end is an error.
 set -u
 usage() {
     echo "$1" >&2
-    echo "usage: sh scripts/least-core.sh DECK [PROGRAM]" >&2
+    echo "usage: sh scripts/least-core.sh DECK" >&2
     exit 2
 }
-[ $# = 1 ] || [ $# = 2 ] || usage "one deck, and a program if you like"
+[ $# = 1 ] || usage "one deck is wanted"
 deck=$1
-program=${2:-b67}
+program=${B67:-b67}
+here=$(cd "$(dirname "$0")" && pwd)
 [ -f "$deck" ] && [ -r "$deck" ] || usage "$deck: not a file that can be read"
-command -v "$program" >/dev/null && [ ! -d "$(command -v "$program")" ] || usage "$program: not a program that can be run"
+command -v "$program" >/dev/null && [ ! -d "$(command -v "$program")" ] || usage "$program: not a program that can be run: put b67 on the path, or name it as in B67=PROGRAM sh scripts/least-core.sh"
 room=$(mktemp -d) || exit 2
 trap 'rm -rf "$room"' EXIT
 trap 'exit 130' HUP INT TERM
+sh "$here/cells.sh" "$deck" >"$room/deck" || exit 1
 core=256
 while :; do
-    "$program" run --core "$core" --backing "$room/b" <"$deck" >"$room/lines"
+    "$program" run --core "$core" --backing "$room/b" <"$room/deck" >"$room/lines"
     status=$?
     last=$(tail -n 1 "$room/lines")
     case $status in
     0 | 3)
         echo "$core"
-        exit 0
+        exit
         ;;
     4)
         need=${last#NO CORE }

@@ -3,26 +3,29 @@
 # comes from. A refusal such as LOAD 2 REASON 8 SEGMENT 1 AT 0:0 names a segment and such a place. The heading of a
 # segment or data row ends with its card, and begins with the job if the deck has several.
 #
-#     sh scripts/listing.sh DECK [PROGRAM] [JOB]
+#     sh scripts/listing.sh DECK [JOB]
 #
 # DECK is a file: a deck, of which the program of job JOB is listed, the first if it isn't given; assembly cards alone;
-# or the hexadecimal that `b67 asm` prints. PROGRAM, which assembles, is `b67` on the path if it isn't given.
+# or the hexadecimal that `b67 asm` prints. It may have names for cells (cells.sh). The program, which assembles, is `b67` on
+# the path, or what the variable B67 names.
 set -u
 usage() {
     echo "$1" >&2
-    echo "usage: sh scripts/listing.sh DECK [PROGRAM] [JOB]" >&2
+    echo "usage: sh scripts/listing.sh DECK [JOB]" >&2
     exit 2
 }
-[ $# -ge 1 ] && [ $# -le 3 ] || usage "one deck, and a program and a job if you like"
+[ $# = 1 ] || [ $# = 2 ] || usage "one deck, and a job if you like"
 deck=$1
-program=${2:-b67}
-job=${3:-1}
+program=${B67:-b67}
+job=${2:-1}
+here=$(cd "$(dirname "$0")" && pwd)
 case $job in [1-8]) ;; *) usage "$job: a job is a number from 1 to 8" ;; esac
 [ -f "$deck" ] && [ -r "$deck" ] || usage "$deck: not a file that can be read"
 room=$(mktemp -d) || exit 2
 trap 'rm -rf "$room"' EXIT
 trap 'exit 130' HUP INT TERM
 
+sh "$here/cells.sh" "$deck" >"$room/deck" || exit 1
 # the body, each card on the line that it has in the deck; `kind` says what it is, `prefix` which job of several
 awk -v kind="$room/kind" -v prefix="$room/prefix" -v wanted="$job" '
 BEGIN { is = "plain" }
@@ -41,19 +44,20 @@ END {
     if (is == "plain") is = marked || wanted > 1 ? "none" : other ? "ASM" : "HEX"
     print is > kind
     if (job > 1) printf "job %d, %s, of %d: ", wanted, name, job > prefix
-}' "$deck" >"$room/body"
+}' "$room/deck" >"$room/body"
 [ "$(cat "$room/kind")" != none ] || usage "$deck: no program of a job $job"
 
 prefix=$(cat "$room/prefix" 2>/dev/null)
 : >"$room/cards"
 : >"$room/names"
 if [ "$(cat "$room/kind")" = ASM ]; then
-    command -v "$program" >/dev/null && [ ! -d "$(command -v "$program")" ] || usage "$program: not a program that can be run"
-    "$program" asm <"$room/body" >"$room/hex" || { cat "$room/hex" >&2; exit 1; }
-    # operators alone: number, segment, mnemonic, text; and the names of segments and rows, with their cards
-    awk -v names="$room/names" '
+    command -v "$program" >/dev/null && [ ! -d "$(command -v "$program")" ] || usage "$program: not a program that can be run: put b67 on the path, or name it as in B67=PROGRAM sh scripts/listing.sh"
+    "$program" asm <"$room/body" >"$room/hex" || { grep . "$room/hex" >&2 || echo "$program: it answers nothing" >&2; exit 1; }
+    # operators alone: number, segment, mnemonic, and the card as it stands in DECK; and the names of segments and rows
+    tr -d '\r' <"$deck" >"$room/own"
+    awk -v names="$room/names" -v own="$room/own" '
     {
-        text = $0
+        if ((getline text < own) <= 0) text = $0
         sub(/;.*/, "")
         if ($1 == "SEGMENT") segment++
         if ($1 == "SEGMENT" || $1 == "ROW") { print $1 "\t" $2 "\t" NR ": " text > names; next }
@@ -66,6 +70,7 @@ fi
 
 awk -v cards="$room/cards" -v names_of="$room/names" -v prefix="$prefix" '
 function digit(c) { return index("0123456789abcdef", c) - 1 }
+function counted(words) { return words (words == 1 ? " word" : " words") }
 function number(text,    i, n) {
     n = 0
     for (i = 1; i <= length(text); i++) n = n * 16 + digit(substr(text, i, 1))
@@ -178,14 +183,14 @@ END {
         entries = ""
         if (version ~ /2$/) for (k = number(take(1)); k > 0; k--) entries = entries " " place(number(take(2)))
         words = number(take(2))
-        print prefix "segment " segment ", " segment_names[segment] "level " level ", " words " words" (entries == "" ? "" : ", entries" entries) segment_cards[segment]
+        print prefix "segment " segment ", " segment_names[segment] "level " level ", " counted(words) (entries == "" ? "" : ", entries" entries) segment_cards[segment]
         code = ""
         for (k = 0; k < words; k++) code = code substr(take(8), 5)
         list(level, words, code)
     }
     for (row = 1; row <= rows; row++) {
         words = number(take(2))
-        print prefix "data row " row ", " row_names[row] "displacement " segments + 1 + row ", " words " words" row_cards[row]
+        print prefix "data row " row ", " row_names[row] "displacement " segments + 1 + row ", " counted(words) row_cards[row]
         for (k = 0; k < words; k++) print "  " sprintf("%6d", k) "  " literal(substr(take(8), 5))
     }
 }' "$room/hex"

@@ -4,8 +4,8 @@
 #     sh scripts/paging.sh DECK CORE..
 #
 # The sectors are counted by strace, which shows each call that the program makes on its backing file: pread64 reads a
-# sector, pwrite64 writes one. So strace must be there, and be allowed to watch a program. The program is `b67` on the
-# path, or what the variable B67 names.
+# sector, pwrite64 writes one. So strace must be there, and be allowed to watch a program. DECK may have names for cells
+# (cells.sh). The program is `b67` on the path, or what the variable B67 names.
 set -u
 usage() {
     echo "$1" >&2
@@ -16,8 +16,9 @@ usage() {
 deck=$1
 shift
 program=${B67:-b67}
+here=$(cd "$(dirname "$0")" && pwd)
 [ -f "$deck" ] && [ -r "$deck" ] || usage "$deck: not a file that can be read"
-command -v "$program" >/dev/null && [ ! -d "$(command -v "$program")" ] || usage "$program: not a program that can be run"
+command -v "$program" >/dev/null && [ ! -d "$(command -v "$program")" ] || usage "$program: not a program that can be run: put b67 on the path, or name it as in B67=PROGRAM sh scripts/paging.sh"
 command -v strace >/dev/null || usage "strace isn't installed, and nothing else here counts the sectors"
 for core in "$@"; do
     case $core in
@@ -28,10 +29,12 @@ done
 room=$(mktemp -d) || exit 2
 trap 'rm -rf "$room"' EXIT
 trap 'exit 130' HUP INT TERM
+sh "$here/cells.sh" "$deck" >"$room/deck" || exit 2
+"$program" check <"$room/deck" >"$room/lines" || { tail -n 1 "$room/lines" | grep . >&2 || echo "$program: it answers nothing" >&2; exit 2; }
 echo "   core    read written  last line"
 for core in "$@"; do
     strace -o "$room/calls" -P "$room/b" -e trace=pread64,pwrite64 \
-        "$program" run --core "$core" --backing "$room/b" <"$deck" >"$room/lines"
+        "$program" run --core "$core" --backing "$room/b" <"$room/deck" >"$room/lines"
     grep -q '^+++ exited with' "$room/calls" 2>/dev/null || usage "strace may not watch $program here"
     awk -v core="$core" -v last="$(tail -n 1 "$room/lines")" '
         /^pread64/ { reads++ }

@@ -7,7 +7,8 @@
 #
 # DUMP is a file with what `dump` printed, or standard input if it isn't given. Records and arrays have the names of the
 # dump: `1.1 2` is record 2 of task 1.1, and array `1.1 2 3` is that of the original in its cell 3. A place is written
-# as the tracer writes it, segment@word:syllable. Lines that are none of a dump are passed on. Nothing here is proved.
+# as the tracer writes it, segment@word:syllable. Lines that are none of a dump are passed on, if there is a line of one at all.
+# Status 1: there is none, or one is cut. Nothing here is proved.
 set -u
 usage() {
     echo "$1" >&2
@@ -54,25 +55,32 @@ function record(at) {
 function cell(   r) { r = record(4); return "cell " $next_field " of " r }
 # the array whose original such a cell is
 function array(   r) { r = record(4); return "array " r " " $next_field }
-function show(text) { printf "    %-6s%s\n", is_entered ? running "," $2 : "", text }
+# a line, after those that were held back while no line of a dump had come
+function put(line,   i) {
+    for (i = 1; i <= held; i++) print before[i]
+    held = 0
+    has_dump = 1
+    print line
+}
+function show(text) { put(sprintf("    %-6s%s", is_entered ? running "," $2 : "", text)) }
 BEGIN {
     n = split("ARRAYDEC PRINT PRINTROW READ PROCESS AWAIT STATUS WAIT CAUSE DEALLOCATE RESIZE", names, " ")
     for (i = 1; i <= n; i++) intrinsic[i + 7] = names[i]
 }
 { sub(/\r$/, "") }
-/^\?IMAGE *$/ { print "plain.sh: this is an image: give it to b67 dump first" > "/dev/stderr"; exit 2 }
+/^\?IMAGE *$/ { print "plain.sh: this is an image: give it to b67 dump first" > "/dev/stderr"; failed = 2; exit 2 }
 /^TASK [0-9]+\.[0-9]+ (READY|AWAITS|WAITS) / {
     what = $3 == "READY" ? "ready" : $3 == "AWAITS" ? "awaits the end of task " $2 : "waits at " cell()
     if ($3 == "AWAITS") sub(/[0-9]+$/, $4, what)
-    print "task " $2 ", " what ", next " $(NF - 1) "@" $NF
+    put("task " $2 ", " what ", next " $(NF - 1) "@" $NF)
     running = 2
     next
 }
-/^FRAME [0-9]+ MARKED$/ { is_entered = 0; print "  record " $2 ", marked for a call"; next }
+/^FRAME [0-9]+ MARKED$/ { is_entered = 0; put("  record " $2 ", marked for a call"); next }
 /^FRAME [0-9]+ LEVEL [0-9]+ ENV / {
     is_entered = 1
     running = $4
-    print "  record " $2 ", level " $4 ", static link to " record(6)
+    put("  record " $2 ", level " $4 ", static link to " record(6))
     next
 }
 /^CELL [0-9]+ NUM / { show(whole($4)); next }
@@ -82,4 +90,14 @@ BEGIN {
 /^CELL [0-9]+ ROW / { show("copy of " array()); next }
 /^CELL [0-9]+ ELEMENT / { what = array(); show("element " $(next_field + 1) " of " what); next }
 /^CELL [0-9]+ PROC / { show("procedure: segment " $4 ($5 == "0:0" ? "" : " at " $5)); next }
-{ print }'
+/^(TASK|FRAME|CELL)( |$)/ {
+    print "plain.sh: line " NR " of the dump is cut: " substr($0, 1, 60) > "/dev/stderr"
+    failed = 1
+    exit 1
+}
+has_dump { print; next }
+{ before[++held] = $0 }
+END {
+    if (failed) exit failed
+    if (held) { print "plain.sh: no line of a dump is there" > "/dev/stderr"; exit 1 }
+}'

@@ -1,6 +1,6 @@
 #!/usr/bin/env bash
-# Makes one archive of what a class needs: the built program, the page b67.html if there is one, the manual page, decks,
-# documents, scripts, the tracer, and a sum of each file. Nothing in it needs the toolchain. The same tree and program give
+# Makes one archive of what a class needs: the built program, the page b67.html if there is one, the manual pages, decks with
+# the exercises but not their answers, documents, scripts, the tracer, and a sum of each file. Nothing in it needs the toolchain. The same tree and program give
 # the same bytes: files are in the order of their names, and their time is the version's date. Needs git and GNU tar.
 #
 #     bash scripts/release.sh PROGRAM FILE.tar.gz [PAGE]
@@ -30,10 +30,11 @@ git rev-parse -q --verify HEAD >/dev/null 2>&1 || usage "$top: not a repository 
 version=$(sed -n 's/^version: //p' CITATION.cff)
 date=$(sed -n 's/^date-released: //p' CITATION.cff)
 room=$(mktemp -d)
-trap 'rm -rf "$room"' EXIT
+trap 'rm -rf "$room" "$archive.part"' EXIT
+trap 'exit 130' HUP INT TERM
 name=b67-$version
 out=$room/$name
-mkdir -p "$out/bin" "$out/man/man1"
+mkdir -p "$out/bin" "$out/man/man1" "$out/man/man5"
 
 # put FILE.. : each under the name that it has here
 put() {
@@ -45,21 +46,30 @@ put() {
 }
 cp "$program" "$out/bin/b67"
 cp docs/b67.1 "$out/man/man1/b67.1"
+cp docs/*.5 "$out/man/man5/"
 [ ! -f "$page" ] || cp "$page" "$out/b67.html"
-mapfile -t files < <(git ls-files README.md CHANGES.md CITATION.cff CONTRIBUTING.md docs bench/README.md web/README.md reference)
+mapfile -t files < <(git ls-files README.md CHANGES.md CITATION.cff CONTRIBUTING.md docs bench/README.md web/README.md reference \
+    crates/b67_promises/src/lib.rt crates/b67_promises/src/paging.rt)
 put "${files[@]}"
+# the page stands at the top, where a pupil finds it
+sed -i 's:`web/b67\.html`:`b67.html`:' "$out/README.md"
 # of the scripts those that need only the program, sh, awk and Python; the others work on the repository
 for file in $(git ls-files scripts); do
     case $file in
-    */check-docs.sh | */check-trace.sh | */before-landing.sh | */release.sh | *.py) ;;
+    */check-*.sh | */web.sh | */before-landing.sh | */release.sh | *.py) ;;
     *) put "$file" ;;
     esac
 done
 mkdir -p "$out/decks"
 for file in $(git ls-files crates/b67_rows/data/decks); do
     under=${file#crates/b67_rows/data/decks/}
+    case $under in answers/*) continue ;; esac
     mkdir -p "$out/decks/$(dirname "$under")"
-    cp "$file" "$out/decks/$under"
+    # links lead three folders less far up from here
+    case $under in
+    *.md) sed 's:(\.\./\.\./\.\./\(\.\./\):(\1:g' "$file" >"$out/decks/$under" ;;
+    *) cp "$file" "$out/decks/$under" ;;
+    esac
 done
 
 {
@@ -70,11 +80,17 @@ A stack machine after the Burroughs B6700, proved before it was built.
     PATH=$PWD/bin:$PATH
     b67 run --core 4096 --backing b < decks/sum/stdin
 
-prints 1.1 5 and 1.1 ENDED. The program needs Linux on x86-64 with the GNU C library; it is built, so skip what the documents
-say of rt. From here: docs/TOUR.md, three lessons with commands; docs/TEACHING.md, six lessons for whoever gives a course;
-man -l man/man1/b67.1, the commands. The scripts need sh and awk, the tracer (reference/trace.py) Python 3.11.
+prints 1.1 5 and 1.1 ENDED. The program needs Linux on x86-64 with the GNU C library 2.34 or later (Debian 12, Ubuntu 22.04,
+RHEL 9); it is built, so skip what the documents say of rt. From here: docs/TOUR.md, three lessons with commands;
+docs/TEACHING.md, six lessons for whoever gives a course; docs/ASSEMBLER.md, how to write decks, and decks/exercises/README.md,
+tasks for it. man -l man/man1/b67.1 has the commands, man -l man/man5/b67-deck.5 the cards, man -l man/man5/b67-image.5 the
+image of a halted machine. The scripts need sh and an awk as POSIX has it, the tracer (reference/trace.py) Python 3.11.
 TEXT
-    [ ! -f "$out/b67.html" ] || echo 'b67.html is the machine in a page: open it in a browser.'
+    [ ! -f "$out/b67.html" ] || cat <<'TEXT'
+
+b67.html is the machine in a page: open it in a browser of 2025 or later. It needs nothing of the above, so on Windows, on a Mac
+or on an older Linux it is all that runs; its button Lessons has the course.
+TEXT
     printf '\nEach file has its sum in SHA256SUMS: sha256sum -c SHA256SUMS\n'
 } >"$out/START.txt"
 (cd "$out" && find . -type f ! -name SHA256SUMS | LC_ALL=C sort | sed 's:^\./::' | xargs -d '\n' sha256sum >SHA256SUMS)
@@ -83,5 +99,6 @@ find "$out" -type f -exec chmod 644 {} +
 chmod 755 "$out/bin/b67"
 find "$out" -name '*.sh' -exec chmod 755 {} +
 tar -C "$room" --sort=name --format=ustar --owner=0 --group=0 --numeric-owner --mtime="$date 00:00:00Z" -cf - "$name" |
-    gzip -9n >"$archive"
+    gzip -9n >"$archive.part"
+mv "$archive.part" "$archive"
 printf '%s: %d files, %d bytes\n' "$(basename "$archive")" "$(find "$out" -type f | wc -l)" "$(stat -c %s "$archive")"

@@ -2,22 +2,23 @@
 # Shows the machine operator by operator: for each count from FROM to TO the operator that was made, with its task, its
 # place and its card, what was printed, and the stacks in plain words.
 #
-#     sh scripts/step.sh DECK FROM [TO [PROGRAM]]
+#     sh scripts/step.sh DECK FROM [TO]
 #
-# DECK is a file of cards; a ?HALT of its own is left out. TO is FROM if it isn't given. PROGRAM is `b67` on the path if
-# it isn't given. Each count runs the deck from its beginning with `image`, in a core that has room for it; `dump`
-# reads the machine, and plain.sh its lines. Nothing here is proved, and it is no part of the gate.
+# DECK is a file of cards, with names for cells if you like (cells.sh); a ?HALT of its own is left out. TO is FROM if it
+# isn't given. The program is `b67` on the path, or what the variable B67 names. Each count runs the deck from its beginning
+# with `image`, in a core that has room for it; `dump` reads the machine, and plain.sh its lines. Nothing here is proved, and
+# it is no part of the gate.
 set -u
 usage() {
     echo "$1" >&2
-    echo "usage: sh scripts/step.sh DECK FROM [TO [PROGRAM]]" >&2
+    echo "usage: sh scripts/step.sh DECK FROM [TO]" >&2
     exit 2
 }
-[ $# -ge 2 ] && [ $# -le 4 ] || usage "a deck, and one or two counts of operators"
+[ $# = 2 ] || [ $# = 3 ] || usage "a deck, and one or two counts of operators"
 deck=$1
 from=$2
 to=${3:-$2}
-program=${4:-b67}
+program=${B67:-b67}
 here=$(cd "$(dirname "$0")" && pwd)
 for count in "$from" "$to"; do
     case $count in '' | *[!0-9]* | 0* | ??????????*) usage "$count: a count is a number from 1 to 800000000" ;; esac
@@ -25,12 +26,13 @@ for count in "$from" "$to"; do
 done
 [ "$from" -le "$to" ] || usage "$from comes after $to"
 [ -f "$deck" ] && [ -r "$deck" ] || usage "$deck: not a file that can be read"
-command -v "$program" >/dev/null && [ ! -d "$(command -v "$program")" ] || usage "$program: not a program that can be run"
+command -v "$program" >/dev/null && [ ! -d "$(command -v "$program")" ] || usage "$program: not a program that can be run: put b67 on the path, or name it as in B67=PROGRAM sh scripts/step.sh"
 room=$(mktemp -d) || exit 2
 trap 'rm -rf "$room"' EXIT
 trap 'exit 130' HUP INT TERM
-"$program" check <"$deck" >"$room/checked" || { tail -n 1 "$room/checked" >&2; exit 2; }
-grep -v '^?HALT' <"$deck" >"$room/whole"
+sh "$here/cells.sh" "$deck" >"$room/deck" || exit 2
+"$program" check <"$room/deck" >"$room/checked" || { tail -n 1 "$room/checked" | grep . >&2 || echo "$program: it answers nothing" >&2; exit 2; }
+grep -v '^?HALT' <"$room/deck" >"$room/whole"
 
 # runs the deck to count $1, in a core that has room for it: `printed`, `lines` of tasks, `dump`, and `status`
 core=16384
@@ -78,7 +80,7 @@ operator() {
     [ $# -ge 6 ] || return 0
     eval "segment=\${$(($# - 1))} place=\${$#}"
     list=$room/listing.${1%%.*}
-    [ -f "$list" ] || sh "$here/listing.sh" "$deck" "$program" "${1%%.*}" >"$list"
+    [ -f "$list" ] || sh "$here/listing.sh" "$deck" "${1%%.*}" >"$list"
     awk -v segment="$segment" -v place="$place" '
         /^(job [^:]*: )?segment / { sub(/^job [^:]*: /, ""); now = $2 + 0; next }
         now == segment && $1 == place && /^ / {
@@ -118,7 +120,7 @@ while [ "$from" -le "$to" ]; do
         echo "no task lives"
         exit 0
     fi
-    sh "$here/plain.sh" "$room/dump"
+    sh "$here/plain.sh" "$room/dump" || exit 1
     cp "$room/lines" "$room/shown"
     cp "$room/dump" "$room/before"
     from=$((from + 1))

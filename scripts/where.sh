@@ -3,29 +3,31 @@
 # that did it with its place and card, and the activation record that it found on top. For DEADLOCK and LIMIT: each live
 # task of the job before it, what it waits for, and the card of its next operator.
 #
-#     sh scripts/where.sh DECK [PROGRAM]
+#     sh scripts/where.sh DECK
 #
-# DECK is a file of cards; a ?HALT of its own is left out. PROGRAM is `b67` on the path if it isn't given. The deck is run
-# some forty times at most, to counts between which the ending lies ever more closely. Then `image` and `dump` read the
-# machine before the ending, plain.sh prints it, and explain.sh says what the ending means. Status 1: no task ends by a
-# fault, DEADLOCK or LIMIT. Nothing here is proved, and it is no part of the gate.
+# DECK is a file of cards, with names for cells if you like (cells.sh); a ?HALT of its own is left out. The program is `b67`
+# on the path, or what the variable B67 names. The deck is run some forty times at most, to counts between which the ending
+# lies ever more closely. Then `image` and `dump` read the machine before the ending, plain.sh prints it, and explain.sh says
+# what the ending means. Status 1: no task ends by a fault, DEADLOCK or LIMIT. Nothing here is proved, and it is no part of
+# the gate.
 set -u
 usage() {
     echo "$1" >&2
-    echo "usage: sh scripts/where.sh DECK [PROGRAM]" >&2
+    echo "usage: sh scripts/where.sh DECK" >&2
     exit 2
 }
-[ $# = 1 ] || [ $# = 2 ] || usage "one deck, and a program if you like"
+[ $# = 1 ] || usage "one deck is wanted"
 deck=$1
-program=${2:-b67}
+program=${B67:-b67}
 here=$(cd "$(dirname "$0")" && pwd)
 [ -f "$deck" ] && [ -r "$deck" ] || usage "$deck: not a file that can be read"
-command -v "$program" >/dev/null && [ ! -d "$(command -v "$program")" ] || usage "$program: not a program that can be run"
+command -v "$program" >/dev/null && [ ! -d "$(command -v "$program")" ] || usage "$program: not a program that can be run: put b67 on the path, or name it as in B67=PROGRAM sh scripts/where.sh"
 room=$(mktemp -d) || exit 2
 trap 'rm -rf "$room"' EXIT
 trap 'exit 130' HUP INT TERM
-"$program" check <"$deck" >"$room/checked" || { tail -n 1 "$room/checked" >&2; exit 2; }
-grep -v '^?HALT' <"$deck" >"$room/whole"
+sh "$here/cells.sh" "$deck" >"$room/deck" || exit 2
+"$program" check <"$room/deck" >"$room/checked" || { tail -n 1 "$room/checked" | grep . >&2 || echo "$program: it answers nothing" >&2; exit 2; }
+grep -v '^?HALT' <"$room/deck" >"$room/whole"
 # the same after a card ?HALT, whose count is written over in place: spaces at a card's end don't count
 { echo '?HALT 1          '; cat "$room/whole"; } >"$room/halting"
 
@@ -92,13 +94,26 @@ else
     go image "$low"
     "$program" dump <"$room/printed" >"$room/dump" || { echo "where.sh: dump: $(tail -n 1 "$room/dump")" >&2; exit 1; }
 fi
-sh "$here/listing.sh" "$deck" "$program" "${task%%.*}" >"$room/listing" || exit 1
+sh "$here/listing.sh" "$deck" "${task%%.*}" >"$room/listing" || exit 1
 # the heading of segment $1 and the operator at place $2 of it, from the listing
 operator() {
     awk -v segment="$1" -v place="$2" -v heading="$3" '
         /^(job [^:]*: )?segment / { text = $0; sub(/^job [^:]*: /, ""); now = $2 + 0; if (now == segment && heading) print "    " text; next }
         now == segment && $1 == place && /^ / { print "  " $0; found = 1 }
         END { if (!found) print "       " place "  in the filling after its last operator" }' "$room/listing"
+}
+# the record on top of task $1; after `$2`, `running`, also the topmost entered one, whose cells couples name
+record() {
+    awk -v task="$1" '
+        /^TASK / { mine = $2 == task; if (mine) print; next }
+        mine && /^FRAME / { if (text !~ /MARKED/) level = text; text = $0; next }
+        mine { text = text "\n" $0 }
+        END { if (text ~ /MARKED/ && level != "") print level; print text }' "$room/dump" | sh "$here/plain.sh" |
+        awk -v all="${2-}" '
+            /^task / { next }
+            /^  record / && !all { text = $0; next }
+            { text = text (text == "" ? "" : "\n") $0 }
+            END { print text }' | sed 's/^/  /'
 }
 # what MESSAGES.md says of the ending
 causes() { sh "$here/explain.sh" "$fault" | sed '1s/.*/What it means, and the usual causes:/'; }
@@ -109,6 +124,8 @@ case $fault in
     grep "^TASK ${task%%.*}\." "$room/dump" | while read -r line; do
         echo "$line" | sh "$here/plain.sh" | sed 's/^/    /'
         operator $(echo "$line" | awk '{ print $(NF - 1), $NF }') ''
+        # at a DEADLOCK the one that is still ready comes to wait by this operator: its record says for what
+        case $fault$line in *DEADLOCK*READY*) record "$(echo "$line" | cut -d' ' -f2)" running | sed 's/^/    /' ;; esac
     done
     causes
     exit 0
@@ -118,13 +135,8 @@ set -- $(grep "^TASK $task " "$room/dump")
 [ $# -ge 5 ] || { echo "where.sh: the dump at $low has no task $task" >&2; exit 1; }
 operator "$4" "$5" 1
 echo "The record on top before it:"
-awk -v task="$task" '
-    /^TASK / { mine = $2 == task; if (mine) print; next }
-    mine && /^FRAME / { level = ($4 ~ /^[0-9]+$/) ? $0 : level; text = $0; next }
-    mine { text = text "\n" $0 }
-    END { if (text ~ /MARKED/ && level != "") print level; print text }' "$room/dump" | sh "$here/plain.sh" |
-    awk '/^task / { next } { if (/^  record /) { text = $0; next } text = text "\n" $0 } END { print text }' | sed 's/^/  /' >"$room/record"
-cat "$room/record"
+record "$task" >"$room/record"
+cat "$room/record" || exit 1
 # the one cause of several that the record shows: an intrinsic that wants a row copy, and has a reference
 case $fault in
 *' INVALID OPERAND')

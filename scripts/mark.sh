@@ -1,0 +1,80 @@
+#!/bin/sh
+# Marks decks: what each prints, in its least core and in the greatest, in turns of 1, 7, 17 and 1,000 operators, against
+# the lines that are wanted.
+#
+#     sh scripts/mark.sh DECK.. EXPECTED
+#
+# EXPECTED is a file with all lines that a right deck prints, up to `1.1 ENDED`. A DECK may have names for cells (cells.sh). Its
+# own ?QUANTUM is left out, so a deck with tasks is right only if it prints the same in turns of each length; a race may hide
+# from these four all the same. Prints a line for each deck, and after that of a wrong one the first line that differs and the
+# run in which it does. The program is `b67` on the path, or what the variable B67 names. Status 0: all are right; 1: one isn't.
+# Nothing here is proved.
+set -u
+usage() {
+    echo "$1" >&2
+    echo "usage: sh scripts/mark.sh DECK.. EXPECTED" >&2
+    exit 2
+}
+[ $# -ge 2 ] || usage "a deck, and a file with the lines that it should print"
+program=${B67:-b67}
+here=$(cd "$(dirname "$0")" && pwd)
+for file in "$@"; do
+    [ -f "$file" ] && [ -r "$file" ] || usage "$file: not a file that can be read"
+    wanted=$file
+done
+command -v "$program" >/dev/null && [ ! -d "$(command -v "$program")" ] || usage "$program: not a program that can be run: put b67 on the path, or name it as in B67=PROGRAM sh scripts/mark.sh"
+LC_ALL=C grep -q '^[0-9][0-9]*\.[0-9][0-9]* ' <"$wanted" || usage "$wanted: no lines of a run: EXPECTED stands last"
+LC_ALL=C grep -q '^?JOB' <"$wanted" && usage "$wanted: this is a deck: EXPECTED stands last"
+room=$(mktemp -d) || exit 2
+trap 'rm -rf "$room"' EXIT
+trap 'exit 130' HUP INT TERM
+tr -d '\r' <"$wanted" >"$room/wanted" || exit 2
+
+# the first line of `lines` that isn't as it should be, in words; nothing if all are
+first() {
+    LC_ALL=C awk -v printed="$room/lines" '
+        { is = (getline line < printed) > 0 }
+        !is { print "line " NR " is missing, `" $0 "`"; found = 1; exit }
+        line != $0 { print "line " NR " is `" line "` and should be `" $0 "`"; found = 1; exit }
+        END { if (!found && (getline line < printed) > 0) print "line " NR + 1 " is `" line "`, and nothing more is wanted" }' "$room/wanted"
+}
+wrong=0
+while [ $# -gt 1 ]; do
+    deck=$1
+    shift
+    all=0
+    failed=0
+    why=
+    sh "$here/cells.sh" "$deck" >"$room/plain" 2>"$room/said" || why=$(sed -n '1s/^cells.sh: //p' "$room/said")
+    [ -n "$why" ] || "$program" check <"$room/plain" >"$room/lines" || why="refused, $(tail -n 1 "$room/lines")"
+    [ -n "$why" ] || [ -s "$room/lines" ] || why="no job is in it"
+    if [ -n "$why" ]; then
+        echo "$deck: $why" || exit 2
+        wrong=1
+        continue
+    fi
+    for quantum in 1 7 17 1000; do
+        { echo "?QUANTUM $quantum"; grep -v '^?QUANTUM' <"$room/plain"; } >"$room/deck"
+        for core in least 1048575; do
+            all=$((all + 1))
+            if [ $core = least ]; then
+                core=$(B67=$program sh "$here/least-core.sh" "$room/deck" 2>"$room/said") || core=
+            fi
+            if [ -n "$core" ]; then
+                "$program" run --core "$core" --backing "$room/b" <"$room/deck" >"$room/lines"
+                said=$(first)
+                said=${said:+in turns of $quantum, in $core words: $said}
+            else
+                said="in turns of $quantum: $(tail -n 1 "$room/said")"
+            fi
+            [ -n "$said" ] || continue
+            failed=$((failed + 1))
+            why=${why:-$said}
+        done
+    done
+    if [ $failed = 0 ]; then echo "$deck: right in $all runs" || exit 2; else
+        printf '%s: wrong in %s of %s runs\n    %s\n' "$deck" $failed $all "$why" || exit 2
+        wrong=1
+    fi
+done
+[ $wrong = 0 ]
