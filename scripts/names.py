@@ -109,6 +109,7 @@ class House:
             if path.endswith(".rows"):
                 with open(path, encoding="utf-8") as text:
                     self.given.update(re.findall(r"^row (\w+)", text.read(), re.M))
+        self.known = self.all | self.given | KIT
 
     def read_given(self, text):
         """What the standard library and the kit's crates declare, as far as it is used here; must-fail edits and rows stand in files."""
@@ -139,7 +140,7 @@ class House:
         return name in self.crates or bool(IS_FILE.match(name))
 
     def is_known(self, name):
-        return name in self.all | self.given | KIT or re.search("[A-Z]{2}", name) or any(crate.startswith(name) for crate in self.crates)
+        return name in self.known or re.search("[A-Z]{2}", name) or any(crate.startswith(name) for crate in self.crates)
 
 
 def is_name(text):
