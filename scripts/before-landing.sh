@@ -9,7 +9,7 @@
 # edits outside the gate are those of the crates that changed since. Of a part that failed the last thirty lines are shown.
 [ -n "${BASH_VERSION:-}" ] || { echo "usage: bash scripts/before-landing.sh --list, or PROGRAM" >&2; exit 2; }
 set -u
-parts='gate rows decks tracer house links scripts documents release edits'
+parts='gate rows decks tracer house links names scripts documents release edits'
 usage() {
     printf '%s\nusage: bash scripts/before-landing.sh [--skip PART].. [--only PART].. [--since COMMIT] PROGRAM\nparts: %s\n' "$1" "$parts" >&2
     exit 2
@@ -22,6 +22,7 @@ means() {
     tracer) echo "the tracer's lines over the decks" ;;
     house) echo 'scripts/house.py: no count above its bound' ;;
     links) echo 'each link and path of the documents' ;;
+    names) echo 'what pages say of functions, calls and crates is in the code' ;;
     scripts) echo 'scripts/check-scripts.sh: each script, called carelessly' ;;
     documents) echo 'the commands of the documents' ;;
     release) echo 'scripts/release.sh twice: the same bytes' ;;
@@ -78,6 +79,7 @@ decks() { sh decks/run.sh "$program"; }
 tracer() { sh scripts/check-trace.sh; }
 house() { python3 scripts/house.py; }
 links() { python3 scripts/links.py; }
+names() { python3 scripts/names.py && python3 scripts/heads.py --check; }
 scripts() { bash scripts/check-scripts.sh "$program"; }
 documents() { bash scripts/check-docs.sh "$program"; }
 release() {

@@ -14,7 +14,7 @@
 # strace can be. The program is found as `b67` and as crates/b67/out/b67. The two lines with a status that `rt try` adds
 # are left out of the comparison. Beside that
 # - each link must lead to a file and a heading, and each name of a file or a crate to one (scripts/links.py);
-# - the table of decks must name each folder of decks/, that of crates each crate, some page each script;
+# - the table of decks must name each folder of decks/, that of crates be what scripts/heads.py makes, some page name each script;
 # - the manual pages must be of the version and date that CITATION.cff has; b67.1 must name each status's line, and its examples
 #   must end with status 0 and print something;
 # - each number of lines in README.md and docs/PAPER.md must be one that scripts/trust.py or scripts/sizes.py prints;
@@ -119,11 +119,10 @@ done
 if [ "$(ls decks/*/stdin | cut -d/ -f2 | sort)" = "$(sed -n '/^## The decks/,$s/^| `\([a-z0-9]*\)` .*/\1/p' docs/ASSEMBLER.md | sort)" ]; then
     passed=$((passed + 1))
 else wrong 'the table of decks in docs/ASSEMBLER.md'; fi
-missing=$(for crate in crates/*/; do
-    name=$(basename "$crate")
-    sed -n '/^## The crates/,/^## Where a rule/p' docs/ARCHITECTURE.md | grep '^|' | cut -d'|' -f2 | grep -qF "\`$name\`" || echo "$name"
-done)
-if [ -z "$missing" ]; then passed=$((passed + 1)); else wrong "the table of crates in docs/ARCHITECTURE.md: $(echo $missing)"; fi
+if python3 scripts/heads.py --check >"$room/printed"; then passed=$((passed + 1)); else
+    wrong 'the table of crates in docs/ARCHITECTURE.md'
+    cat "$room/printed"
+fi
 missing=$(for script in scripts/*.sh scripts/*.py; do grep -qF "$(basename "$script")" *.md docs/*.md */README.md || echo "$script"; done)
 if [ -z "$missing" ]; then passed=$((passed + 1)); else wrong "scripts that no page names: $(echo $missing)"; fi
 python3 scripts/trust.py >"$room/sizes"
