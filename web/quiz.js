@@ -21,7 +21,7 @@ export class Quiz {
     const right = isRight(question, answer), said = question.right.join(', ');
     this.asked++;
     if (right) this.right++;
-    put(byId('quiz'), element('strong', {class: right ? 'right' : 'wrong'}, right ? '✓ Right: ' : '✕ No: '), `${said}. ${this.right} of ${this.asked} so far.`);
+    put(byId('quiz'), element('strong', {class: right ? 'right' : 'wrong'}, right ? '✓ Right: ' : '✕ No: '), `${said}. ${right ? '' : 'The keys ← and → ask it again. '}${this.right} of ${this.asked} so far.`);
     return right ? said : '';
   }
   answerTo(question, next) {
