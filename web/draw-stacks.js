@@ -4,7 +4,7 @@ import {INTRINSICS} from './operators.js';
 import {heldBy} from './reading.js';
 import {arrowsOf, drawArrows, legend} from './draw-arrows.js';
 
-const [LEAST_SCALE, LEAST_FIT, MOST_FIT] = [0.85, 0.2, 2.2];
+const [LEAST_SCALE, LEAST_FIT, MOST_FIT] = [0.8, 0.2, 2.2];
 const [ROW, CHARACTER, LEFT, GAP, MOST_ROWS] = [20, 7.9, 34, 56, 46];
 const COUPLE = 52; // the room of a couple before the tag
 const [MOST_CELLS, LOWEST, TOPMOST] = [40, 8, 24]; // of a record; of more the lowest and the topmost ones are drawn
@@ -231,7 +231,7 @@ const watched = new WeakMap(); // by its box: the record on top that was brought
 
 // Brings the topmost record of the running task into view if another one is on top now; else the box stays where it was scrolled to.
 function bringIn(box, {x, right, y}, {clientWidth, clientHeight, scrollLeft, scrollTop, key}) {
-  if (x < scrollLeft || right > scrollLeft + clientWidth) box.scrollLeft = Math.max(0, x - 60);
+  if (x < scrollLeft || right > scrollLeft + clientWidth) box.scrollLeft = Math.max(0, Math.min(x - 60, right + 60 - clientWidth)); // no further than it must
   const [, ...record] = key.split(' '), last = watched.get(box);
   watched.set(box, record.join(' '));
   if (last !== record.join(' ') && last?.split(' ')[0] !== record[0] && (y < scrollTop || y > scrollTop + clientHeight - 20)) box.scrollTop = Math.max(0, y - clientHeight / 2);
