@@ -5,10 +5,13 @@
 #     BROWSER=firefox-esr sh scripts/check-page.sh [PROGRAM [FOLDER]]
 #
 # PROGRAM is `b67` on the path if it isn't given. Each deck of decks/ is opened, run and stepped through, and every key is pressed.
-# After each the state on the page is compared with what PROGRAM's `image` and `dump` print at that count. Bad input is tried, too.
-# A deck of one's own is reloaded, and the page is opened under policies that forbid workers or WebAssembly (in Chromium). Any complaint
-# of the browser's console counts as a difference. TRIES=keeps,policies tries these parts alone; check/page.mjs names them. With FOLDER pictures of the page are written there. Two minutes on a
-# machine that does nothing else.
+# After each the state on the page is compared with what PROGRAM's `image` and `dump` print at that count. Each task of each lesson
+# is done wrongly and then rightly; so is a teacher's sheet, sent as a link; what a pupil hands in is opened, and done again. Bad
+# input is tried, decks of 10,000 cards and of 4 MB, a deck of one's own after a reload, and in Chromium the page under policies that
+# forbid workers or WebAssembly. A complaint of the browser's console counts as a difference, and one of the net if the page itself
+# asked for that address. TRIES=keeps,policies tries these parts alone; web/check/page.mjs names them. With FOLDER pictures of the
+# page are written there. Three minutes on a machine that does nothing else. Chromium wants chromedriver beside it (Debian:
+# chromium-driver); CHROMEDRIVER names another one.
 #
 # The last line is `N the same, M different`. Status 1 if anything differs, 2 if something is missing. No part of the gate.
 set -eu
@@ -31,4 +34,8 @@ for name in ${BROWSER:-chromium chromium-browser google-chrome}; do
     [ -n "$browser" ] || browser=$(command -v "$name") || true
 done
 [ -n "$browser" ] || missing "${BROWSER:-Chromium} isn't on the path"
+case ${browser##*/} in
+firefox*) ;;
+*) command -v "${CHROMEDRIVER:-chromedriver}" >/dev/null || missing "${CHROMEDRIVER:-chromedriver} isn't on the path (Debian: apt-get install chromium-driver)" ;;
+esac
 exec node "$top/web/check/page.mjs" "$browser" "$top/web/b67.html" "$program" "$top/decks" ${2+"$2"}

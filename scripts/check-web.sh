@@ -7,7 +7,8 @@
 #
 # heap      the heap of the module by itself, built by the kit's clang
 # reader    the page's reader of images and its other parts, by node's own test runner
-# page      made again by scripts/web.sh from the proved crates, with the same bytes as web/b67.html
+# page      made again by scripts/web.sh from the proved crates, with the same bytes as web/b67.html; it wants the esbuild by which
+#           that was joined (web/README.md)
 # module    each deck of decks/ by each command in the page's module and in PROGRAM: statuses, all that is printed, and the sectors
 #
 # The last line is `check-web: all the same`, or names the parts that differ or can't be tried. Four minutes on a machine that does

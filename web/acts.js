@@ -2,25 +2,28 @@
 import {byId} from './elements.js';
 import {cardKey} from './search.js';
 import {nextChoice} from './follow.js';
+import {showHelp} from './help.js';
 import {savePicture} from './picture.js';
 
 const [SMALLEST, LARGEST, OF_CLASS] = [11, 28, 19];
 
 function resize(page, by) {
-  resizeTo(page, Math.max(SMALLEST, Math.min(LARGEST, page.view.size + by)));
+  resizeTo(page, Math.max(SMALLEST, Math.min(LARGEST, page.steps.view.size + by)));
 }
-function resizeTo(page, size) {
-  page.view.size = size;
-  document.documentElement.style.fontSize = `${page.view.size}px`;
-  page.redraw();
+function resizeTo({steps, editor}, size) {
+  steps.view.size = size;
+  document.documentElement.style.fontSize = `${size}px`;
+  editor.area.draw();
+  steps.redraw();
 }
 
 // The view for a class has no bars, and large letters; the size that was there before comes back after it.
 function togglePresent(page) {
   const on = document.body.classList.toggle('present');
-  if (on) page.view.sizeBefore = page.view.size;
+  const {view} = page.steps;
+  if (on) view.sizeBefore = view.size;
   byId('leave-class').hidden = !on;
-  resizeTo(page, on ? Math.max(OF_CLASS, page.view.size) : page.view.sizeBefore ?? page.view.size);
+  resizeTo(page, on ? Math.max(OF_CLASS, view.size) : view.sizeBefore ?? view.size);
 }
 
 export function toggleLessons(page, shown = byId('lessons').hidden) {
@@ -28,21 +31,22 @@ export function toggleLessons(page, shown = byId('lessons').hidden) {
   panel.hidden = !shown;
   byId('lessons-button').setAttribute('aria-pressed', String(!panel.hidden));
   if (shown) panel.querySelector('summary')?.focus({preventScroll: true});
-  page.redraw();
+  page.steps.redraw();
 }
 
 function toggleTwo(page) {
+  const {steps} = page;
   return page.guard(async () => {
-    if (!page.session?.state || document.body.dataset.view !== 'step') return page.step(undefined, page.core('other'));
-    page.session.other = page.session.other === null ? page.core('other') : null;
-    await page.goTo(page.session.state.count);
+    if (!steps.shown) return steps.step(undefined, page.core('other'));
+    steps.session.other = steps.session.other === null ? page.core('other') : null;
+    await steps.goTo(steps.session.state.count);
   });
 }
 
 // Stops what is computed; where nothing is, leaves the view for a class, or closes the lessons.
 function escape(page) {
   if (document.body.classList.contains('present') && byId('busy').hidden) return togglePresent(page);
-  if (!byId('busy').hidden) return page.guard(() => page.stopped());
+  if (!byId('busy').hidden) return page.guard(() => page.steps.stopped());
   if (!byId('lessons').hidden) toggleLessons(page);
 }
 
@@ -51,43 +55,44 @@ const ALWAYS = {
   larger: page => resize(page, 1),
   smaller: page => resize(page, -1),
   lessons: page => toggleLessons(page),
-  help: () => byId('help').showModal(),
+  help: () => showHelp(),
   two: page => toggleTwo(page),
   present: page => togglePresent(page),
   edit: page => page.show('deck'),
   escape,
 };
 
+// What is drawn otherwise at a key.
+function redrawn(steps, name) {
+  steps.view[name] = !steps.view[name];
+  steps.redraw();
+}
+
 // Acts over the moment that is shown.
 const STEPS = {
-  forth: page => page.goBy(1),
-  back: page => page.goBy(-1),
-  tenForth: page => page.goBy(10),
-  tenBack: page => page.goBy(-10),
-  first: page => page.guard(() => page.goTo(0)),
-  last: page => page.guard(async () => page.goTo(await page.ask('end', {}))),
-  before: page => page.guard(async () => page.goTo(await page.ask('firstFault', {}) - 1)),
-  over: (page, way) => page.find('over', way),
-  out: (page, way) => page.find('out', way),
-  line: (page, way) => page.find('line', way),
-  paging: (page, way) => page.find('paging', way),
-  task: (page, way) => page.find('task', way),
-  store: (page, way) => page.find('store', way),
-  follow: (page, way) => page.follows(nextChoice(page.session.state, page.view.followed, way)),
-  fault: (page, way) => page.find('fault', way),
-  stopped: (page, way) => page.find('stopped', way),
-  stoppedBack: page => page.find('stopped', -1),
-  stop: page => page.toggle(cardKey(page.session.state.next ?? page.session.state.operator)),
-  play: page => page.play(),
-  quiz: page => page.course.predict(),
-  fold: page => { page.view.folds = !page.view.folds; page.redraw(); },
-  arrows: page => { page.view.allArrows = !page.view.allArrows; page.redraw(); },
-  fit: page => { page.view.fit = !page.view.fit; page.redraw(); },
-  picture: page => page.guard(() => savePicture(byId('stacks'), `${page.session.name}-${page.session.state.count}`)),
-  wide: page => { document.body.classList.toggle('wide'); page.redraw(); },
+  forth: page => page.steps.goBy(1),
+  back: page => page.steps.goBy(-1),
+  tenForth: page => page.steps.goBy(10),
+  tenBack: page => page.steps.goBy(-10),
+  first: page => page.guard(() => page.steps.goTo(0)),
+  last: page => page.guard(async () => page.steps.goTo(await page.steps.ask('end', {}))),
+  before: page => page.guard(async () => page.steps.goTo(await page.steps.ask('firstFault', {}) - 1)),
+  ...Object.fromEntries(['over', 'out', 'line', 'paging', 'task', 'store', 'fault', 'stopped', 'deepest'].map(kind => [kind, (page, way) => page.steps.find(kind, way)])),
+  stoppedBack: page => page.steps.find('stopped', -1),
+  follow: ({steps}, way) => steps.follows(steps.view.walked && way > 0 && steps.view.walked.split(' ').length === 3 ? steps.view.walked : nextChoice(steps.session.state, steps.view.followed, way)),
+  stop: ({steps}) => steps.toggle(cardKey(steps.session.state.next ?? steps.session.state.operator)),
+  cellUp: ({steps}) => steps.walks(1),
+  cellDown: ({steps}) => steps.walks(-1),
+  play: page => page.steps.play(),
+  quiz: page => page.course.quiz.turn(),
+  fold: ({steps}) => redrawn(steps, 'folds'),
+  arrows: ({steps}) => redrawn(steps, 'allArrows'),
+  fit: ({steps}) => redrawn(steps, 'fit'),
+  picture: page => page.guard(() => savePicture(byId('stacks'), `${page.steps.session.name}-${page.steps.session.state.count}`)),
+  wide: page => { document.body.classList.toggle('wide'); page.steps.redraw(); },
 };
 
 export function perform(page, act, way) {
   if (ALWAYS[act]) return ALWAYS[act](page);
-  if (page.session?.state && document.body.dataset.view === 'step') return STEPS[act]?.(page, way);
+  if (page.steps.shown) return STEPS[act]?.(page, way);
 }

@@ -1,17 +1,28 @@
-// The address of a moment: `#two,630,20` is the deck two in a core of 630 words after operator 20; a fourth part is the
-// second core of two side by side. In the place of a deck's name may stand a deck itself, as share.js packs it.
+// The addresses of the page, by what stands after their sign #:
+//
+//     two,630,20          the deck two in a core of 630 words after operator 20; a fourth part is the second core of two side by side
+//     deck:..,4096,20     the same of a deck that the address holds, as share.js packs it
+//     lesson:3  task:3.2  a lesson, and a task
+//     sheet:..,2          a sheet of a teacher's own tasks, and its second one
+//     hand:..             what a pupil hands in
 
-export function momentOf(hash) {
-  const found = /^#([a-z0-9_-]+|deck:[\w-]+)(?:,(\d+))?(?:,(\d+))?(?:,(\d+))?$/.exec(hash);
-  if (!found) return null;
-  const [, deck, core, count, other] = found;
-  return {deck, core: core && Number(core), count: count === undefined ? null : Number(count), other: other ? Number(other) : null};
-}
+const PACKED = '[\\w-]+';
+const FORMS = [
+  [/^#lesson:([0-9.]+)$/, ([, id]) => ({kind: 'lesson', id})],
+  [/^#task:([0-9.]+)$/, ([, id]) => ({kind: 'task', id})],
+  [new RegExp(`^#sheet:(${PACKED})(?:,(\\d+))?$`), ([, packed, number]) => ({kind: 'sheet', packed, number: Number(number ?? 0)})],
+  [new RegExp(`^#hand:(${PACKED})$`), ([, packed]) => ({kind: 'hand', packed})],
+  [new RegExp(`^#([a-z0-9_-]+|deck:${PACKED})(?:,(\\d+))?(?:,(\\d+))?(?:,(\\d+))?$`), ([, deck, core, count, other]) => (
+    {kind: 'moment', deck, core: core && Number(core), count: count === undefined ? null : Number(count), other: other ? Number(other) : null})],
+];
 
-// The lesson or the task that an address names: `#lesson:3`, `#task:3.2`; null for another address.
-export function courseOf(hash) {
-  const found = /^#(lesson|task):([0-9.]+)$/.exec(hash);
-  return found && {kind: found[1], id: found[2]};
+// What an address leads to; null for one that the page can't read.
+export function placeOf(hash) {
+  for (const [form, made] of FORMS) {
+    const found = form.exec(hash);
+    if (found) return made(found);
+  }
+  return null;
 }
 
 export function hashOf({deck, core, count, other}) {

@@ -109,6 +109,11 @@ export function segmentNames(deck, job) {
   return kind === 'ASM' ? [...text.matchAll(/^ *SEGMENT +(\S+)/gm)].map(found => found[1]) : [];
 }
 
+// Whether a deck has a job, so that something runs.
+export function hasJob(deck) {
+  return /^\?JOB/m.test(deck);
+}
+
 export function jobsOf(deck) {
   return cardsOf(deck).filter(card => card.startsWith('?JOB')).map(card => card.slice(4).trim());
 }

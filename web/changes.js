@@ -27,7 +27,7 @@ function wentOut(thing, before) {
 export function cellName(copy) {
   const [task, record, at] = copy.cell.split(' ');
   if (copy.level < -1) return `cell ${at} of record ${record} of task ${task}`;
-  return copy.level < 0 ? `cell ${at} of the open record ${record} of task ${task}` : `cell ${copy.level},${at}, in record ${record} of task ${task}`;
+  return copy.level < 0 ? `cell ${at} of the open record ${record} of task ${task}` : `cell ${copy.level},${at}${copy.name ? ` ${copy.name}` : ''}, in record ${record} of task ${task}`;
 }
 
 function turned(thing, before) {
@@ -76,7 +76,8 @@ function cellsByName(state) {
 
 // Cells that hold something else than before, but for the result on top of the stack. `into` names the cell, or the array of an element.
 function stored(before, after) {
-  const old = cellsByName(before), running = after.tasks.find(task => task.name === after.last)?.records.at(-1), top = running?.cells.at(-1);
+  const old = cellsByName(before), running = after.tasks.find(task => task.name === after.last)?.records.at(-1), stores = /\bSTOD$/.test(before.next?.text ?? '');
+  const top = stores ? null : running?.cells.at(-1); // STOD leaves nothing on top, so what is there may be what it stored into
   return [...cellsByName(after)].flatMap(([name, cell]) => {
     const was = old.get(name);
     if (!was || cell.address === top?.address || cell.tag === 5 || was.text === cell.text && was.tag === cell.tag) return [];

@@ -15,7 +15,7 @@ export class Client {
     if (!this.desk) {
       const problem = await this.startWorker().then(() => null, it => it);
       this.works ||= !problem;
-      if (!problem || this.works && problem.message === 'stopped') return;
+      if (!problem || problem.message === 'stopped') return;
       if (this.works) throw problem;
       this.worker?.terminate();
       this.worker = null;

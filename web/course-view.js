@@ -1,148 +1,238 @@
-// The course on the page: the panel of the lessons with their tasks and marks, the bar of the task that is being done, and predict.
+// The course on the page: the panel of lessons and sheets with their tasks and marks, and the bar of the task that is being done.
 import {byId, element, put} from './elements.js';
 import {COURSE, TASKS} from './course.js';
-import {foundBy, Progress, writtenBy} from './progress.js';
-import {isRight, questionOf} from './predict.js';
+import {packedHand, sameElsewhere} from './handin.js';
+import {showHelp} from './help.js';
+import {keepValue, keptValue} from './keep.js';
+import {deckOfTask, isFound, isWritten, Progress} from './progress.js';
+import {Quiz} from './quiz.js';
 import {operatorParts} from './reading.js';
+import {packedText} from './share.js';
+import {sheetOf} from './sheet.js';
 
-const KINDS = {predict: 'predict', find: 'find', write: 'write'};
+const [SHEETS, NAME, MOST_SHEETS, FORGET] = ['b67-sheets', 'b67-name', 20, 'Forget my marks'];
 
-function wantedText({lines, refused, leastCore, resumed, halts}) {
-  if (lines) return `It is to print: ${lines.join(', ')}${halts ? ', and then HALTED' : ''}. It is run in two cores.`;
-  return refused ? 'Check is to refuse it.' : leastCore ? 'Run is to succeed in that core.' : resumed ? `Resume is to print: ${resumed.join(', ')}.` : '';
+// What must hold for a task of writing, in words.
+export function wantedText({lines, refused, refusal, leastCore, resumed, halts, has, lacks}) {
+  const parts = [...(lines ? [`It is to print: ${lines.join(', ')}${halts ? ', and then HALTED' : ''}. It is run in two cores.`] : []),
+    ...(refused ? [`Check is to refuse it${refusal ? `: ${refusal}` : ''}.`] : []), ...(leastCore ? ['Run is to succeed in that core.'] : []), ...(resumed ? [`Resume is to print: ${resumed.join(', ')}.`] : [])];
+  for (const [texts, verb] of [[has, 'must hold'], [lacks, 'may not hold']]) if (Array.isArray(texts) && texts.length) parts.push(`The deck ${verb}: ${texts.join(', ')}.`);
+  return parts.join(' ');
+}
+
+function nameOfTask({kind, id, sheet, number}) {
+  return `${kind} ${sheet ? number : id}`;
 }
 
 export class Course {
   constructor(page) {
-    Object.assign(this, {page, progress: new Progress(page.storage), current: null, predicting: false, right: 0, asked: 0});
+    Object.assign(this, {page, progress: new Progress(page.storage), quiz: new Quiz(), current: null, sheets: []});
+    for (const text of keptValue(page.storage, SHEETS) ?? []) this.takeSheet(text);
+  }
+
+  // Whether nothing was done in this browser yet.
+  isNew() {
+    return !this.progress.work.size && !this.page.editor.own.list().length;
+  }
+
+  // Takes in a sheet, the newest first; the same one stands once. One that can't be read any more is left out.
+  takeSheet(text) {
+    try {
+      const sheet = sheetOf(text, this.page.decks);
+      this.sheets = [sheet, ...this.sheets.filter(it => it.key !== sheet.key)].slice(0, MOST_SHEETS);
+      return sheet;
+    } catch {
+      return null;
+    }
+  }
+  get tasks() {
+    return [...this.sheets.flatMap(sheet => sheet.tasks), ...TASKS];
   }
 
   // ------------------------------------------------------------ the panel
 
   list() {
-    const forget = element('button', {type: 'button', onclick: () => this.forget()}, 'Forget my marks');
-    put(byId('lessons'), element('h2', {}, 'Lessons'), element('p', {id: 'progress-said', role: 'status'}), COURSE.map((lesson, k) => this.lessonPart(lesson, k === 2)),
-      element('p', {}, 'Key q asks a question before each step, in any deck. ', forget), element('p', {class: 'dim'}, 'The address of a lesson or a task can be handed on: copy it from its link.'));
+    const button = (text, act, title) => element('button', {type: 'button', onclick: act, title}, text);
+    const name = element('input', {id: 'pupil', size: 14, placeholder: 'your name', 'aria-label': 'your name, for your teacher', autocomplete: 'name', value: keptValue(this.page.storage, NAME) ?? ''});
+    put(byId('lessons'), element('h2', {}, 'Lessons'), element('p', {id: 'progress-said', role: 'status'}),
+      element('p', {class: 'group'}, name, button('Hand in', () => this.page.guard(() => this.handsIn(name.value.trim())), 'one link that shows your teacher what you have done')),
+      element('div', {id: 'sheets'}), COURSE.map(lesson => this.lessonPart(lesson)),
+      element('p', {}, 'Key q asks a question before each step, in any deck. ', button(FORGET, event => this.forget(event.target))),
+      element('p', {class: 'dim'}, 'For a teacher: the address of a lesson or a task can be handed on, copy it from its link. ',
+        button('Write tasks of your own', () => this.page.sheets.shows(), 'a text that becomes a link for the class'), ' ',
+        button('Look at work handed in', () => this.page.hand.open(), 'links that pupils have sent you')));
     this.showMarks();
+    this.listSheets();
   }
-  lessonPart({id, title, idea, shows, tasks}, open) {
+  lessonPart({id, title, idea, shows, tasks}) {
     const sentence = parts => element('li', {}, parts.map(part => (Array.isArray(part) ? element('a', {href: part[1]}, part[0]) : part)));
-    return element('details', {id: `lesson-${id}`, open}, element('summary', {}, `${id} ${title} `, element('span', {class: 'dim', 'data-lesson': id})),
+    return element('details', {id: `lesson-${id}`}, element('summary', {}, `${id} ${title} `, element('span', {class: 'dim', 'data-lesson': id})),
       element('p', {}, idea, ' ', element('a', {href: `#lesson:${id}`, class: 'small'}, 'address')), element('ol', {}, shows.map(sentence)),
-      element('ul', {class: 'tasks'}, tasks.map(task => this.taskRow(task))));
+      element('ul', {class: 'tasks'}, tasks.map(task => this.taskRow(task, `#task:${task.id}`))));
   }
-  taskRow(task) {
-    return element('li', {'data-task': task.id}, element('a', {href: `#task:${task.id}`}, `${KINDS[task.kind]} ${task.id}`), ` ${task.text} `,
-      element('span', {class: 'dim'}, wantedText(task)));
+  taskRow(task, href) {
+    return element('li', {'data-task': task.id}, element('a', {href}, nameOfTask(task)), ` ${task.name ? `${task.name}. ` : ''}${task.text} `, element('span', {class: 'dim'}, wantedText(task)));
+  }
+
+  // The sheets that this browser has got, each with a link that leads to it.
+  async listSheets() {
+    const parts = await Promise.all(this.sheets.map(async ({key, title, text, tasks}) => {
+      const hash = `#sheet:${await packedText(text)}`;
+      return element('details', {id: `sheet-${key}`, open: this.current?.sheet === key}, element('summary', {}, `${title} `, element('span', {class: 'dim', 'data-lesson': key})),
+        element('ul', {class: 'tasks'}, tasks.map((task, k) => this.taskRow(task, `${hash},${k + 1}`))));
+    }));
+    put(byId('sheets'), parts);
+    this.showMarks();
   }
 
   showMarks() {
-    const done = TASKS.filter(task => this.progress.isDone(task.id)).length, kept = this.page.storage ? '' : ' This browser keeps no marks for this page.';
+    const done = TASKS.filter(task => this.progress.isDone(task)).length, kept = this.page.storage ? '' : ' This browser keeps no marks for this page.';
     put(byId('progress-said'), `${done} of ${TASKS.length} tasks are done.${kept} `, element('progress', {value: done, max: TASKS.length, 'aria-label': 'tasks done'}));
     byId('lessons-button').textContent = done ? `Lessons ${done}/${TASKS.length}` : 'Lessons';
-    for (const row of document.querySelectorAll('[data-task]')) {
-      row.classList.toggle('done', this.progress.isDone(row.dataset.task));
+    for (const row of document.querySelectorAll('#lessons [data-task]')) {
+      row.classList.toggle('done', this.progress.isDone({id: row.dataset.task}));
       row.classList.toggle('current', this.current?.id === row.dataset.task);
     }
-    for (const {id, tasks} of COURSE) document.querySelector(`[data-lesson="${id}"]`).textContent = `${tasks.filter(task => this.progress.isDone(task.id)).length} of ${tasks.length}`;
+    for (const {id, key, tasks} of [...COURSE, ...this.sheets]) {
+      const box = document.querySelector(`[data-lesson="${id ?? key}"]`);
+      if (box) box.textContent = `${tasks.filter(task => this.progress.isDone(task)).length} of ${tasks.length}`;
+    }
   }
-  forget() {
+  // Forgets all marks with their work, at the second press only.
+  forget(button) {
+    const sure = button.textContent !== FORGET;
+    button.textContent = sure ? FORGET : 'All of them, and the work? Press again';
+    if (!sure) return;
     this.progress.forget();
     this.showMarks();
   }
 
-  // ------------------------------------------------------------ a task
+  // ------------------------------------------------------------ what is opened
 
-  // Opens what an address names: a lesson, or a task with its moment. False if there is none of that name.
-  async opens(kind, id) {
-    const lesson = COURSE.find(it => it.id === (kind === 'lesson' ? id : id.split('.')[0])), task = kind === 'task' && lesson?.tasks.find(it => it.id === id);
-    if (!lesson || kind === 'task' && !task) return false;
-    this.page.showLessons(true);
-    byId(`lesson-${lesson.id}`).open = true;
-    if (task) await this.begin(task);
-    if (task && matchMedia('(max-width:800px)').matches) scrollTo(0, 0); // on a phone the task stands above, and the list below
-    else (task ? document.querySelector(`[data-task="${id}"]`) : byId(`lesson-${id}`)).scrollIntoView({block: 'start'});
+  // Opens a lesson, beside the first moment that it shows, unless a deck of one's own is open. False if there is none of that name.
+  async opensLesson(id) {
+    const lesson = COURSE.find(it => it.id === id);
+    if (!lesson) return false;
+    const {page} = this, [, moment] = lesson.shows.flat().find(Array.isArray);
+    if (page.editor.name && page.editor.isOwn()) page.show('deck');
+    else await page.places.openAddress(moment.slice(1));
+    this.unfolds(`lesson-${id}`);
     return true;
   }
-  async begin(task) {
-    this.current = task;
-    this.tell(`${task.text} ${wantedText(task)}`);
-    this.showMarks();
-    if (task.at) await this.page.openAddress(task.at);
-    else if (task.kind === 'write') this.page.newDeck();
-    this.predict(task.kind === 'predict');
-    if (task.kind === 'predict') setTimeout(() => this.page.goBy(1)); // the question waits for its answer, the page doesn't
+  async opensTask(id) {
+    const lesson = COURSE.find(it => it.id === id.split('.')[0]), task = lesson?.tasks.find(it => it.id === id);
+    if (!task) return false;
+    await this.begin(task);
+    this.unfolds(`lesson-${lesson.id}`, task);
+    return true;
+  }
+  // Opens a sheet: the task of that number, or its first one that isn't done.
+  async opensSheet(text, number) {
+    const sheet = sheetOf(text, this.page.decks);
+    this.takeSheet(text);
+    keepValue(this.page.storage, SHEETS, this.sheets.map(it => it.text));
+    const task = sheet.tasks[number - 1] ?? sheet.tasks.find(it => !this.progress.isDone(it)) ?? sheet.tasks[0];
+    await this.begin(task);
+    await this.listSheets();
+    this.unfolds(`sheet-${sheet.key}`, task);
+  }
+  // Unfolds a part of the panel, and brings it, or its task, into view; on a phone the task stands above, and the list below.
+  unfolds(id, task) {
+    this.page.showLessons(true);
+    byId(id).open = true;
+    if (task && matchMedia('(max-width:800px)').matches) return scrollTo(0, 0);
+    (task ? document.querySelector(`[data-task="${task.id}"]`) : byId(id)).scrollIntoView({block: task ? 'nearest' : 'start'});
   }
 
-  tell(text, done = false) {
-    const {current} = this, next = TASKS[TASKS.indexOf(current) + 1], box = byId('task');
+  // Begins a task: with its deck at its moment, or with the deck alone, or with a new one.
+  async begin(task) {
+    const {page} = this;
+    this.current = task;
+    this.tell(task.text, wantedText(task));
+    this.showMarks();
+    if (task.at) await page.places.openAddress(task.at);
+    else if (task.deck || task.on) await this.beginOn(task);
+    else page.places.newDeck();
+    this.quiz.turn(task.kind === 'predict');
+    if (task.kind === 'predict') setTimeout(() => page.steps.goBy(1)); // the question waits for its answer, the page doesn't
+  }
+  async beginOn({deck, on, core, count}) {
+    const {page} = this;
+    if (on) page.editor.choose(on);
+    else page.editor.take(deck, 'The deck of a task.');
+    byId('core').value = core;
+    if (count === null) page.show('deck');
+    else await page.steps.step(count, null);
+  }
+
+  tell(text, wanted = '', done = false) {
+    const {current, tasks} = this, next = current && tasks[tasks.indexOf(current) + 1], box = byId('task');
     box.hidden = !text;
     box.className = done ? 'done' : '';
-    put(box, element('strong', {}, current ? `${done ? '✓ ' : ''}Task ${current.id} ` : ''), element('span', {}, text), ' ',
-      done && next ? element('a', {href: `#task:${next.id}`}, `next: ${KINDS[next.kind]} ${next.id}`) : null, ' ',
-      element('button', {type: 'button', 'aria-label': 'close the task', onclick: () => { this.current = null; this.tell(''); this.showMarks(); }}, '×'));
+    put(box, element('strong', {}, current ? `${done ? '✓ ' : ''}Task ${current.sheet ? current.number : current.id} ` : ''), element('span', {}, `${text} ${wanted}`), ' ',
+      done && next && next.sheet === current.sheet ? element('a', {href: document.querySelector(`#lessons [data-task="${next.id}"] a`)?.hash}, `next: ${nameOfTask(next)}`) : null, ' ',
+      element('button', {type: 'button', 'aria-label': 'close the task', onclick: () => this.leaves()}, '×'),
+      current?.kind === 'write' && !done ? element('button', {type: 'button', onclick: () => showHelp('Decks and cards', 'Operators')}, 'Cards and operators') : null);
+  }
+  leaves() {
+    this.current = null;
+    this.tell('');
+    this.quiz.turn(false);
+    this.showMarks();
   }
 
-  // Marks a task as done, and says so.
-  done(task, said) {
-    this.progress.mark(task.id);
-    if (this.current === task) this.tell(said, true);
+  // ------------------------------------------------------------ what is done
+
+  // Marks a task as done by a work, and says so.
+  done(task, work, said) {
+    const {page} = this;
+    this.progress.mark(task, {...work, deck: page.editor.isOwn() ? work.deck : page.editor.name});
+    if (this.current === task) this.tell(said, '', true);
     this.showMarks();
   }
 
   // Looks whether the state that is shown is what the task that is being done wants to be found.
-  async sees({name, text, core}, state) {
-    for (const task of foundBy(name, state).filter(it => it === this.current)) {
-      const first = !task.first || await this.page.client.ask('isFirst', {deck: text, core, id: task.id, count: state.count}).catch(() => false);
-      if (first) this.done(task, `Found: operator ${state.count}${state.operator ? `, ${operatorParts(state.operator).join(' ')}` : ''}.`);
-      else this.tell(`${task.text} Here it holds too, but not for the first time.`);
-    }
+  async sees({name, text, raw, core}, state) {
+    const task = this.current;
+    if (!task || !isFound(task, {name, text: raw}, state)) return;
+    const first = !task.first || await this.page.client.ask('isFirst', {deck: text, core, id: task.id, find: task.find, count: state.count}).catch(() => false);
+    if (this.current !== task) return;
+    if (first) this.done(task, {deck: raw, core, count: state.count}, `Found: operator ${state.count}${state.operator ? `, ${operatorParts(state.operator).join(' ')}` : ''}.`);
+    else this.tell(task.text, 'Here it holds too, but not for the first time.');
   }
 
-  // Looks whether a command has fulfilled the task of writing; lines are looked at in a second core, too.
-  async ran(words, text, {status, text: printed}, core) {
-    if (this.current?.kind !== 'write') return;
-    const least = words[0] === 'run' && status === 0 && /^\?JOB TEN$/m.test(text) ? await this.page.client.ask('coreFor', {deck: text, core: 256}) : null;
-    for (const task of writtenBy({words, text, status, printed, core, least}).filter(it => it === this.current)) {
-      if (!task.lines) this.done(task, `Done${core === least ? `: ${core} words are the fewest` : ''}.`);
-      else if (await this.sameElsewhere(text, printed, core)) this.done(task, 'Done: these are the lines, and in another core too.');
-    }
+  // Looks whether a command has done the task of writing; lines are looked at in a second core, too.
+  async ran({words, text, result: {status, text: printed}, core, halt}) {
+    const {current: task, page} = this, ask = (name, data) => page.client.ask(name, data), {text: deck} = page.editor;
+    if (task?.kind !== 'write') return;
+    const least = task.leastCore && words[0] === 'run' && status === 0 ? await ask('coreFor', {deck: text, core: 256}) : null;
+    if (!isWritten(task, {words, text, status, printed, core, least})) return this.notYet(task, words, status);
+    if (task.lines && !await sameElsewhere(ask, {text, core}, printed)) return;
+    this.done(task, {deck, core, halt}, task.lines ? 'Done: these are the lines, and in another core too.' : `Done${task.leastCore ? `: ${core} words are the fewest` : ''}.`);
   }
-  async sameElsewhere(text, printed, core) {
-    const other = core < 60000 ? 2 * core + 1 : core - 999, {text: again} = await this.page.client.ask('call', {words: ['run', '--core', String(other), '--backing', 'b'], text});
-    return again === printed;
-  }
-
-  // ------------------------------------------------------------ predict
-
-  predict(on = !this.predicting) {
-    this.predicting = on;
-    byId('quiz').hidden = !on;
-    if (on) put(byId('quiz'), 'Predict: step with →, and say first what the operator will do. Key q ends it.');
+  // Says that a run hasn't done the task, once it was one that could have.
+  notYet(task, words, status) {
+    if (words[0] === 'run' && status < 4 && !task.resumed) this.tell(task.text, `${wantedText(task)} Not yet.`);
   }
 
-  // Asks about the next operator, if it deserves a question; gives when that is answered or left.
-  async asks(now, then, moment) {
-    const question = questionOf(now, then);
-    if (!question) return;
-    const answer = await this.answerTo(question, now.next);
-    if (answer === null) return;
-    const right = isRight(question, answer), task = TASKS.find(it => it.at === moment && it.kind === 'predict');
-    this.asked++;
-    if (right) this.right++;
-    put(byId('quiz'), element('strong', {class: right ? 'right' : 'wrong'}, right ? '✓ Right: ' : '✕ No: '), `${question.right.join(', ')}. ${this.right} of ${this.asked} so far.`);
-    if (right && task) this.done(task, `Right: ${question.right.join(', ')}.`);
+  // Asks before a step; a right answer at the moment of a task to predict does it.
+  async asks(now, then, session) {
+    const said = await this.quiz.asks(now, then), task = this.current;
+    if (!said || task?.kind !== 'predict') return;
+    const {name, core} = session, its = task.at === `${name},${core},${now.count}` || task.count === now.count && (task.deck ? session.raw === task.deck : name === deckOfTask(task));
+    if (its) this.done(task, {deck: session.raw, core, count: now.count}, `Right: ${said}.`);
   }
-  answerTo(question, next) {
-    return new Promise(resolve => {
-      this.leave = () => resolve(null);
-      const input = question.choices ? null : element('input', {size: 12, 'aria-label': 'your answer', autocomplete: 'off'});
-      const form = element('form', {onsubmit: event => { event.preventDefault(); resolve(input?.value ?? null); }}, question.choices
-        ? question.choices.map(text => element('button', {type: 'button', onclick: () => resolve(text)}, text)) : [input, element('button', {}, 'Answer')],
-      element('button', {type: 'button', class: 'skip', onclick: () => resolve(null)}, 'skip'));
-      const name = question.hides ? '' : `${next.card ? `card ${next.card}` : next.place} ${operatorParts(next).join(' ')}. `;
-      put(byId('quiz'), element('span', {}, element('strong', {}, name), question.ask), form);
-      (input ?? form.querySelector('button')).focus();
-    });
+
+  // ------------------------------------------------------------ handing in
+
+  // Shows the one link that a pupil hands in, with their name in it.
+  async handsIn(name) {
+    const {page} = this, {work} = this.progress;
+    if (!work.size) throw new Error('Nothing is done yet, so there is nothing to hand in: do a task first.');
+    if (!name) throw new Error('Type your name beside Hand in first, so that your teacher knows whose work it is.');
+    keepValue(page.storage, NAME, name);
+    const sheet = this.sheets.find(it => it.tasks.some(task => work.has(task.id))), mine = [...work].filter(([id]) => !id.startsWith('s') || sheet && id.startsWith(`${sheet.key}/`));
+    const packed = await packedHand({name, version: page.version, sheet: sheet?.text, work: mine});
+    page.places.shows(`What ${name} hands in: ${mine.length} ${mine.length === 1 ? 'task' : 'tasks'}. Send this link to your teacher.`, page.places.withHash(`#hand:${packed}`));
   }
 }

@@ -10,10 +10,10 @@ const outOfCore = state => state.changes.some(it => it.kind === 'out' && it.text
 
 export const COURSE = [
   {id: '1', title: 'Words and tags', idea: 'A word has 48 bits and a tag of three bits. The tag says what the word is, and no operator makes a number of a reference.',
-    shows: [['The deck sum adds 2 and 3: ', ['LT8 pushes each', '#sum,4096,4'], ', ADD takes both and ', ['pushes 5', '#sum,4096,5'], ', and PRINT of the MCP prints it.'],
-      ['The small number in a cell is its tag: ', ['0 is a number, 1 a couple', '#sum,4096,4'], '.']],
+    shows: [['The deck start adds 2 and 3: ', ['LT8 pushes each', '#start,4096,4'], ', ADD takes both and ', ['pushes 5', '#start,4096,5'], ', and PRINT of the MCP prints it.'],
+      ['The small number in a cell is its tag: ', ['0 is a number, 1 a couple', '#start,4096,4'], '.']],
     tasks: [
-      {id: '1.1', kind: 'predict', at: 'sum,4096,4', text: 'What does the ADD of sum leave?'},
+      {id: '1.1', kind: 'predict', at: 'start,4096,4', text: 'What does the ADD leave?'},
       {id: '1.2', kind: 'write', text: 'Can a program add 1 to a reference? Write a deck that tries, and ends with this line.', lines: ['1.1 INVALID OPERAND']},
       {id: '1.3', kind: 'write', text: 'What comes after the greatest number, 549,755,813,887? Write a deck that goes one beyond.', lines: ['1.1 INTEGER OVERFLOW']},
       {id: '1.4', kind: 'write', text: 'A number has 40 bits, a word 48. Set one of the others with LNOT, and let PRINT have it.', lines: ['1.1 EXPONENT']},
@@ -65,7 +65,7 @@ export const COURSE = [
       {id: '5.1', kind: 'find', at: 'two,630,0', text: 'Go to the operator at which an array leaves core for the first time.', holds: outOfCore, first: true},
       {id: '5.2', kind: 'predict', at: 'two,630,22', text: 'An array comes into core. What leaves it?'},
       {id: '5.3', kind: 'find', at: 'two,630,0', text: 'Give the deck two a core in which both arrays stay, and go to its end.', holds: state => state.status === 0 && state.coreWords > 630 && (state.remains?.things ?? []).filter(it => it.kind === 'array').every(it => it.at)},
-      {id: '5.4', kind: 'write', at: 'ten,4096', text: 'How few words of core does the deck ten need? Run it in exactly that core.', leastCore: true},
+      {id: '5.4', kind: 'write', at: 'ten,4096', text: 'How few words of core does the deck ten need? Run it in exactly that core.', leastCore: true, has: /^\?JOB TEN$/m},
       {id: '5.5', kind: 'find', at: 'two,630,24,4096', text: 'Two cores side by side: go to the moment at which both have printed 23.', holds: state => state.count === 26 && state.lines.total > 0}]},
   {id: '6', title: 'An image, kept and resumed', idea: 'A halted machine is a text, the image, and its backing. From both the run goes on, and prints what it had still to print, which is proved.',
     shows: [['Below the deck, under More, the button Image halts a run after some operators, and Resume goes on from there. At ', ['operator 20 of two', '#two,630,20'], ' the 11 of the first array is in its sectors alone; in ', ['a core of 4,096', '#two,4096,20'], ' it is in the image.'],

@@ -42,27 +42,6 @@ export function withNumbers(deck, job, numbers) {
   return `${cards.join('\n')}\n`;
 }
 
-// The numbers beside the cards; the refused card's is marked.
-export function showNumbers(deck, refused) {
-  const box = byId('gutter'), many = cardsOf(deck || ' ').length;
-  while (box.childElementCount > many) box.lastChild.remove();
-  const more = Array.from({length: many - box.childElementCount}, (_, k) => element('div', {}, String(box.childElementCount + k + 1)));
-  if (more.length) box.append(...more);
-  for (const row of box.querySelectorAll('.refused')) row.classList.remove('refused');
-  if (refused) box.children[refused - 1]?.classList.add('refused');
-}
-
-// Selects a card in the editor and brings it into view.
-function markCard(card) {
-  const area = byId('deck'), before = area.value.split('\n').slice(0, card - 1).join('\n').length + (card > 1 ? 1 : 0);
-  const end = area.value.indexOf('\n', before);
-  area.focus({preventScroll: true});
-  area.setSelectionRange(before, end < 0 ? area.value.length : end);
-  const height = area.scrollHeight / Math.max(1, area.value.split('\n').length);
-  area.scrollTop = Math.max(0, (card - 4) * height);
-  byId('gutter').scrollTop = area.scrollTop;
-}
-
 // Whether a command has done what was wanted: a halt is wanted, a fault isn't.
 function outcomeOf(status, lines) {
   if (status === 3) return 'halted';
@@ -77,9 +56,6 @@ export function showFault(rows, {task, name, count, operator, said, fits}, look)
     element('p', {}, `Task ${task} ended by ${name} at operator ${count.toLocaleString('en')}, ${place}: `, element('strong', {}, operator.text), `. ${means?.means ?? ''} ${said}`),
     causes ? element('p', {class: 'dim'}, causes) : null,
     element('p', {}, element('button', {type: 'button', id: 'look', onclick: look}, 'Look at the machine before it')));
-  if (operator.card) showNumbers(byId('deck').value, operator.card);
-  byId('gutter').querySelector('.refused')?.scrollIntoView({block: 'nearest'});
-  byId('deck').scrollTop = byId('gutter').scrollTop;
 }
 
 // A button that does what helps, below what a command has given.
@@ -87,7 +63,7 @@ export function offer(text, act) {
   byId('outcome').append(element('p', {}, element('button', {type: 'button', class: 'offer', onclick: act}, text)));
 }
 
-// What a command has given: its status with its meaning, the lines, and what a refusal or a fault means.
+// What a command has given: its status with its meaning, the lines, and what a refusal or a fault means. Gives the card that is refused, or 0.
 export function showResult(rows, {words, status, text, milliseconds, place}, refusedOf = 'deck') {
   const lines = text.split('\n').slice(0, -1), last = lines.at(-1) ?? '', said = status === 2 ? explained(rows, last) : null;
   const faulty = lines.some(line => endingOf(line)?.bad);
@@ -96,9 +72,13 @@ export function showResult(rows, {words, status, text, milliseconds, place}, ref
     element('strong', {}, said ? `${last}. ` : `${words[0]}: status ${status}. `), means, ' ', advice,
     place?.[0] ? ` It is card ${place[0]}: ${place[1]}.` : '', element('span', {class: 'dim'}, ` ${Math.ceil(milliseconds)} ms`)));
   put(byId('ran'), resultRows(lines, said ? null : rows));
-  const card = refusedOf === 'deck' ? place?.[0] || said?.card || 0 : 0;
-  showNumbers(byId('deck').value, card);
-  if (card) markCard(card);
+  return refusedOf === 'deck' ? place?.[0] || said?.card || 0 : 0;
+}
+
+// Says why a deck can't be given to the machine.
+export function showRefusal(sentence) {
+  put(byId('outcome'), element('p', {class: 'status bad'}, sentence));
+  put(byId('ran'));
 }
 
 // The lines, and of very many the first and the last ones.

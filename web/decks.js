@@ -1,16 +1,20 @@
+// The first deck of the page, and the one to begin with for a deck of one's own.
+export const START = {name: 'start', core: 4096, about: 'Two and three: a deck to begin with. Change it, and Run.',
+  text: '?JOB MINE\n?ASM\nSEGMENT MAIN 2\nMKST            ; print(2 + 3)\nNAMC 0,9\nLT8 2\nLT8 3\nADD\nENTR\nEXIT\n?END\n'};
+
 // The decks in groups, each with what it is for.
 export const GROUPS = [
-  ['first steps', ['sum', 'addup', 'squares', 'sort', 'fields', 'library', 'gears', 'lights', 'entry']],
+  ['first steps', ['start', 'sum', 'addup', 'squares', 'sort', 'fields', 'library', 'gears', 'lights', 'entry']],
   ['calls and names', ['factorial', 'levels', 'jensen', 'swap', 'names', 'manboy', 'chain']],
   ['arrays and paging', ['two', 'ten', 'leave', 'lengths', 'forty', 'full']],
   ['tasks and jobs', ['shared', 'switched', 'family', 'event', 'producer', 'status', 'dining', 'bank', 'bank2', 'quantum', 'jobs', 'rivals', 'eight', 'crowd']],
   ['faults and ends', ['fault', 'protect', 'critical', 'limit', 'halt']],
 ];
 
-// The decks of the repository, as web.sh puts them into the page: `#DECK name core`, `#ABOUT text`, and the cards.
+// The first deck, and those of the repository, as web.sh puts them into the page: `#DECK name core`, `#ABOUT text`, and the cards.
 
 export function decksOf(text) {
-  const decks = new Map();
+  const decks = new Map([[START.name, START]]);
   for (const part of text.split(/^#DECK /m).slice(1)) {
     const [head, about, ...cards] = part.split('\n');
     const [name, core] = head.split(' ');

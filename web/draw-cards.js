@@ -4,6 +4,9 @@ import {cardsOf} from './cards.js';
 import {cardKey} from './search.js';
 import {explained} from './messages.js';
 
+const [MOST_ROWS, PART] = [1000, 300]; // of a long deck a part has rows, that around the card that is made
+const lists = new WeakMap(); // by its box: the cards, what makes their rows, and which ones have rows
+
 // A row: the button that sets a breakpoint, and a text.
 function row(key, kind, shown, said, text, toggle) {
   const button = element('button', {type: 'button', tabindex: -1, class: 'stop', 'aria-pressed': 'false',
@@ -27,9 +30,30 @@ function operatorRows(operators, job, toggle) {
 }
 
 export function showCards(box, deck, operators, toggle, help) {
-  const rows = cardsOf(deck).map((card, k) => cardRow(card, k + 1, toggle, help));
   const without = operators.flatMap((table, k) => (Object.values(table).some(([card]) => card) ? [] : operatorRows(table, k + 1, toggle)));
-  put(box, rows, without);
+  lists.set(box, {cards: cardsOf(deck), toggle, help, without, from: 0, to: 0});
+  showRows(box, 1);
+}
+
+// A row for cards that have none, as a button that leads to them.
+function foldRow(box, text, card) {
+  return element('li', {}, element('button', {type: 'button', onclick: () => showRows(box, card)}, text));
+}
+
+// Makes the rows of a deck; of a long one those around a card.
+function showRows(box, card) {
+  const list = lists.get(box), {cards, toggle, help, without} = list, long = cards.length > MOST_ROWS;
+  list.from = long ? Math.max(0, Math.min(card - 1 - PART / 2, cards.length - PART)) : 0;
+  list.to = long ? list.from + PART : cards.length;
+  const rows = cards.slice(list.from, list.to).map((text, k) => cardRow(text, list.from + k + 1, toggle, help)), after = cards.length - list.to;
+  put(box, list.from ? foldRow(box, `… ${list.from.toLocaleString('en')} cards before`, list.from - PART / 2) : null, rows,
+    after ? foldRow(box, `… ${after.toLocaleString('en')} cards after`, list.to + PART / 2) : null, without);
+}
+
+// Makes rows around the card of an operator that has none.
+function bringRow(box, operator) {
+  const {from, to} = lists.get(box), card = operator?.card;
+  if (card && (card <= from || card > to)) showRows(box, card);
 }
 
 function rowOf(box, key) {
@@ -44,6 +68,7 @@ function markStop(row, stops) {
 
 // Marks the card just made, the next one, the one that faults, and the breakpoints, and brings the first one into view.
 export function markCards(box, state, stops, faulty) {
+  bringRow(box, state.operator ?? state.next);
   const now = rowOf(box, cardKey(state.operator)), next = rowOf(box, cardKey(state.next)), shown = now ?? next;
   const {scrollTop, clientHeight} = box, at = shown?.offsetTop; // asked before anything changes
   for (const row of box.querySelectorAll('.now, .next, .faulty')) {

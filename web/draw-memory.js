@@ -5,12 +5,18 @@ import {cellName} from './changes.js';
 import {spansText} from './memory.js';
 
 const [MOST_AREAS, NUMBERS_SHOWN, SHORT_ARRAY, SECTORS_IN_ROW] = [24, 40, 16, 24];
+const LETTERS = {mcp: 'M', dictionary: 'D', stack: 'S', code: 'C', row: 'R', array: 'A', hole: ''}; // beside the colour of an area
 // The kinds of changes: the colour and the words of each.
 const CHANGES = {
   in: ['in', 'comes into core'], out: ['out', 'leaves core'], turn: ['turn', 'copy turned'], made: ['in', 'new in core'],
   gone: ['quiet', 'gone'], task: ['turn', 'task'], cell: ['quiet', 'store'], line: ['ink', 'prints'], took: ['quiet', 'takes'], pushed: ['quiet', 'pushes'],
   call: ['call', 'calls'], entered: ['call', 'enters'], began: ['call', 'begins'], left: ['call', 'leaves'], goes: ['quiet', 'goes'],
 };
+
+// A kind of change in words.
+export function wordOf(kind) {
+  return CHANGES[kind][1];
+}
 
 export function changesList({changes, status, count}) {
   if (count === 0) return element('p', {class: 'dim'}, 'Nothing has run yet.');
@@ -42,7 +48,7 @@ function areaText(area) {
 function areaRow(area) {
   const size = area.used ? `${area.used} of ${area.words} words` : countOf(area.words, 'word');
   return element('tr', {}, element('td', {class: 'number'}, String(area.at)), element('td', {class: 'number'}, String(area.at + area.words - 1)),
-    element('td', {}, element('span', {class: `swatch ${area.kind}`}), ` ${area.text}, ${size}`));
+    element('td', {}, element('span', {class: `swatch ${area.kind}`, 'aria-hidden': 'true'}, LETTERS[area.kind]), ` ${area.text}, ${size}`));
 }
 
 // The rows of the table of core; of many areas the last ones.

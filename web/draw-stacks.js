@@ -4,8 +4,9 @@ import {INTRINSICS} from './operators.js';
 import {heldBy} from './reading.js';
 import {arrowsOf, drawArrows, legend} from './draw-arrows.js';
 
-const [LEAST_SCALE, LEAST_FIT, MOST_FIT] = [0.85, 0.2, 2.2];
+const [LEAST_SCALE, LEAST_FIT, MOST_FIT] = [0.8, 0.2, 2.2];
 const [ROW, CHARACTER, LEFT, GAP, MOST_ROWS] = [20, 7.9, 34, 56, 46];
+const COUPLE = 52; // the room of a couple before the tag
 const [MOST_CELLS, LOWEST, TOPMOST] = [40, 8, 24]; // of a record; of more the lowest and the topmost ones are drawn
 
 function textAt(x, y, kind, ...text) {
@@ -23,12 +24,19 @@ function linkText(record) {
   return record.link.startsWith('DICT') ? 'link: dictionary' : `link: ${record.link.replace(' ', ' record ')}`;
 }
 
+// How many signs the longest name of a cell has, with a space before it.
+function longestName(state) {
+  const names = state.tasks.flatMap(task => task.records.flatMap(record => record.cells.map(cell => (cell.name ? cell.name.length + 1 : 0))));
+  return Math.max(0, ...names);
+}
+
 class StacksDrawing {
   // `view` says what is folded and followed, and which arrows are drawn; `operators` name the cards of return words.
   constructor(state, operators, view) {
     Object.assign(this, {state, operators, view, parts: [], records: new Map(), cells: new Map(), lowest: 40, highest: 0});
     this.fresh = new Set(state.freshCells);
     this.short = view.fit && state.tasks.length > 3;
+    this.room = COUPLE + Math.ceil(CHARACTER * longestName(state));
     this.tasks = [...state.tasks].sort((a, b) => a.name.localeCompare(b.name, 'en', {numeric: true}));
   }
 
@@ -60,7 +68,7 @@ class StacksDrawing {
   // A width of whole steps, so that it is seldom another one.
   widthOf(task) {
     const texts = task.records.flatMap(record => [20 + 5.2 * record.display.length, this.linkLine(task, record).length + 2,
-      ...record.cells.map(cell => this.text(shownText(cell)).length + 11)]);
+      ...record.cells.map(cell => this.text(shownText(cell)).length + 11 + (this.room - COUPLE) / CHARACTER)]);
     return Math.ceil(Math.max(this.short ? 140 : this.tasks.length > 2 ? 170 : 230, Math.max(...texts) * CHARACTER) / 10) * 10;
   }
 
@@ -140,7 +148,7 @@ class StacksDrawing {
       else this.cells.set(`${id} ${row.at}`, at);
     });
     const running = task.runs && !open && !task.records.some(it => it.level >= 0 && it.number > record.number);
-    const shown = {id, number: record.number, level: record.level, display: record.display, link: this.linkLine(task, record), width, foot,
+    const shown = {id, room: this.room, walked: this.view.walked === id, number: record.number, level: record.level, display: record.display, link: this.linkLine(task, record), width, foot,
       kind: `record ${open ? 'open' : ''} ${running ? taskClass(task.name) : ''}`, fresh: this.fresh.has(id), rows: rows.map(row => this.shownRow(row, id))};
     this.add(JSON.stringify(shown), x, y, () => recordParts(shown));
     return (rows.length + foot) * ROW + 6;
@@ -149,7 +157,7 @@ class StacksDrawing {
   shownRow(row, id) {
     if (row.folded) return {folded: row.folded.length};
     const name = `${id} ${row.at}`;
-    return {at: row.at, tag: row.tag, text: this.text(shownText(row)), fresh: this.fresh.has(name), followed: this.view.followed === name, wrong: this.view.wrong?.has(name), said: `tag ${row.tag}: ${heldBy(row)}`};
+    return {at: row.at, tag: row.tag, text: this.text(shownText(row)), fresh: this.fresh.has(name), followed: this.view.followed === name, walked: this.view.walked === name, name: row.name ?? '', wrong: this.view.wrong?.has(name), said: `tag ${row.tag}: ${heldBy(row)}`};
   }
 
   // S, the top word, and F, the topmost mark.
@@ -162,27 +170,29 @@ class StacksDrawing {
 }
 
 // A record over its foot at the origin: its title, where it leads and returns to, and its cells.
-function recordParts({number, level, display, link, width, foot, kind, fresh, rows}) {
+function recordParts({number, level, display, link, width, foot, kind, fresh, rows, room, walked}) {
   const height = (rows.length + foot) * ROW;
   return [drawn('rect', {y: -height, width, height, rx: 4, class: kind}),
     drawn('rect', {x: 1, y: -ROW, width: width - 2, height: ROW - 1, class: fresh ? 'fresh' : 'head'}),
     textAt(6, -5.5, 'strong', foot === 1 ? `record ${number}, open` : `record ${number}, level ${level}`),
     display.map((at, k) => [drawn('rect', {x: width - 42 - 40 * k, y: 2 - ROW, width: 38, height: 16, rx: 8, class: 'display'}),
       textAt(width - 37 - 40 * k, -5.5, 'display-text', `D[${at}]`)]),
+    walked ? drawn('rect', {x: 1.5, y: 1.5 - ROW, width: width - 3, height: ROW - 3, class: 'walked'}) : null,
     foot === 2 ? textAt(6, -ROW - 5.5, 'dim', link) : null,
-    rows.map((row, k) => (row.folded ? foldParts(row.folded, -(foot + k + 1) * ROW, width) : cellParts(row, foot === 1 ? '' : `${level},${row.at}`, -(foot + k + 1) * ROW, width)))];
+    rows.map((row, k) => (row.folded ? foldParts(row.folded, -(foot + k + 1) * ROW, width) : cellParts(row, foot === 1 ? '' : `${level},${row.at}${row.name ? ` ${row.name}` : ''}`, -(foot + k + 1) * ROW, width, room)))];
 }
 
 function foldParts(many, y, width) {
   return [drawn('rect', {x: 1, y: y + 1, width: width - 2, height: ROW - 1, class: 'fold'}), textAt(8, y + 14.5, 'dim', `… ${many} cells (z shows them) …`)];
 }
 
-function cellParts({tag, text, fresh, followed, wrong, said}, name, y, width) {
+function cellParts({tag, text, fresh, followed, walked, wrong, said}, name, y, width, room) {
   return [fresh ? drawn('rect', {x: 1, y: y + 1, width: width - 2, height: ROW - 1, class: 'fresh'}) : null,
     drawn('path', {d: `M0 ${y + ROW}h${width}`, class: 'rule'}), textAt(6, y + 14.5, 'dim', name),
-    drawn('rect', {x: 52, y: y + 3, width: 15, height: 14, rx: 2, class: `tag tag-${tag}`}), textAt(55.5, y + 14.5, 'tag-text', String(tag)),
-    textAt(74, y + 14.5, '', text),
+    drawn('rect', {x: room, y: y + 3, width: 15, height: 14, rx: 2, class: `tag tag-${tag}`}), textAt(room + 3.5, y + 14.5, 'tag-text', String(tag)),
+    textAt(room + 22, y + 14.5, fresh ? 'strong' : '', text), fresh && !wrong ? drawn('path', {d: `M${width - 9} ${y + 5}v10l-6 -5z`, class: 'fresh-sign'}) : null,
     wrong ? [drawn('rect', {x: 1.5, y: y + 1.5, width: width - 3, height: ROW - 3, class: 'wrong'}), textAt(width - 16, y + 14.5, 'wrong-sign', '✕')] : null,
+    walked ? drawn('rect', {x: 1.5, y: y + 1.5, width: width - 3, height: ROW - 3, class: 'walked'}) : null,
     followed ? drawn('rect', {x: 1.5, y: y + 1.5, width: width - 3, height: ROW - 3, class: 'followed'}) : null,
     drawn('rect', {x: 0, y, width, height: ROW, class: 'under'}, drawn('title', {}, said))];
 }
@@ -221,7 +231,7 @@ const watched = new WeakMap(); // by its box: the record on top that was brought
 
 // Brings the topmost record of the running task into view if another one is on top now; else the box stays where it was scrolled to.
 function bringIn(box, {x, right, y}, {clientWidth, clientHeight, scrollLeft, scrollTop, key}) {
-  if (x < scrollLeft || right > scrollLeft + clientWidth) box.scrollLeft = Math.max(0, x - 60);
+  if (x < scrollLeft || right > scrollLeft + clientWidth) box.scrollLeft = Math.max(0, Math.min(x - 60, right + 60 - clientWidth)); // no further than it must
   const [, ...record] = key.split(' '), last = watched.get(box);
   watched.set(box, record.join(' '));
   if (last !== record.join(' ') && last?.split(' ')[0] !== record[0] && (y < scrollTop || y > scrollTop + clientHeight - 20)) box.scrollTop = Math.max(0, y - clientHeight / 2);

@@ -1,14 +1,18 @@
 // The deck in the editor: which one it is, those of one's own, and what keeps it: the address, the browser, a file.
 import {byId, element, put} from './elements.js';
-import {GROUPS} from './decks.js';
+import {GROUPS, START} from './decks.js';
 import {OwnDecks, saveFile} from './keep.js';
 import {MOST_OF_ADDRESS, packed} from './share.js';
-import {jobsOf} from './cards.js';
-import {showJobs, showNumbers} from './deck-view.js';
+import {CardsArea} from './cards-area.js';
+import {showJobs} from './deck-view.js';
 
 export const USUAL_CORE = 4096;
 const KEEP_MILLISECONDS = 300;
-const NEW_DECK = '?JOB MINE\n?ASM\nSEGMENT MAIN 2\nMKST            ; print(2 + 3)\nNAMC 0,9\nLT8 2\nLT8 3\nADD\nENTR\nEXIT\n?END\n';
+
+// The name of a deck's first job.
+function firstJob(text) {
+  return /^\?JOB +(\S+)/m.exec(text)?.[1] ?? '';
+}
 
 // The first words of a line about a deck.
 function shortened(about) {
@@ -18,11 +22,11 @@ function shortened(about) {
 export class Editor {
   // `decks` are those of the repository; `changed` is called when another deck is open, or the same with another text.
   constructor(decks, storage, changed) {
-    Object.assign(this, {decks, changed, own: new OwnDecks(storage), name: '', about: '', kept: Boolean(storage)});
+    Object.assign(this, {decks, changed, own: new OwnDecks(storage), area: new CardsArea(), name: '', about: '', kept: Boolean(storage)});
   }
 
   get text() {
-    return byId('deck').value;
+    return this.area.text;
   }
   isOwn(name = this.name) {
     return !this.decks.has(name);
@@ -33,7 +37,7 @@ export class Editor {
 
   // The list: first the decks of one's own, the one changed last on top.
   list() {
-    const mine = this.own.list().map(({name, text}) => element('option', {value: name}, `${name} ${jobsOf(text)[0] ?? ''}`));
+    const mine = this.own.list().map(({name, text}) => element('option', {value: name}, `${name} ${firstJob(text)}`));
     const line = name => element('option', {value: name, title: this.decks.get(name).about}, `${name}: ${shortened(this.decks.get(name).about)}`);
     put(byId('pick'), mine.length ? element('optgroup', {label: this.kept ? 'yours, kept in this browser' : 'yours'}, mine) : null,
       GROUPS.map(([label, names]) => element('optgroup', {label}, names.filter(name => this.decks.has(name)).map(line))));
@@ -57,18 +61,18 @@ export class Editor {
   }
   begin() {
     byId('core').value = USUAL_CORE;
-    this.take(NEW_DECK, 'A deck to begin with: change it, and Run.');
+    this.take(START.text, START.about);
   }
 
   open(text, name, about) {
     Object.assign(this, {name, about});
-    byId('deck').value = text;
+    this.area.put(text);
     this.list();
     this.tell();
     for (const id of ['outcome', 'ran']) put(byId(id));
     byId('take').disabled = byId('resume').disabled = true;
-    showNumbers(text, 0);
     showJobs(text);
+    byId('welcome').hidden = true;
     this.changed();
   }
 
@@ -78,17 +82,16 @@ export class Editor {
       this.name = this.own.begin(this.text, byId('core').value, this.name);
       this.about = '';
       this.list();
+      this.tell();
     }
+    this.area.changed();
     this.keepSoon();
-    this.tell();
-    showNumbers(this.text, 0);
-    showJobs(this.text);
     this.changed();
   }
 
   keepSoon() {
     clearTimeout(this.keeping);
-    if (this.isOwn()) this.keeping = setTimeout(() => this.keepNow(), KEEP_MILLISECONDS);
+    this.keeping = setTimeout(() => { showJobs(this.text); this.keepNow(); }, KEEP_MILLISECONDS);
   }
   keepNow() {
     clearTimeout(this.keeping);
@@ -111,13 +114,13 @@ export class Editor {
   async addressed() {
     const {name, text} = this;
     if (!this.isOwn()) return name;
-    const part = text.length > 40 * MOST_OF_ADDRESS ? '' : await packed(text);
+    const part = text.length > 10 * MOST_OF_ADDRESS ? '' : await packed(text);
     return part && part.length <= MOST_OF_ADDRESS ? part : name;
   }
 
   save() {
     this.keepNow();
-    saveFile(this.text, `${(jobsOf(this.text)[0] || this.name).toLowerCase().replace(/[^a-z0-9_-]+/g, '-')}.deck`);
+    saveFile(this.text, `${(firstJob(this.text) || this.name).toLowerCase().replace(/[^a-z0-9_-]+/g, '-')}.deck`);
   }
 
   remove() {
@@ -125,6 +128,6 @@ export class Editor {
     const from = this.own.get(this.name)?.from;
     this.own.remove(this.name);
     this.name = '';
-    this.choose(this.decks.has(from) ? from : 'two');
+    this.choose(this.decks.has(from) ? from : START.name);
   }
 }

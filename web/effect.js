@@ -58,7 +58,7 @@ function goesOn({next}) {
 // Of a couple also what it names now.
 function namedBy(before, task, cell) {
   const found = cell.kind === 'NAME' && !cell.text.startsWith('0,') ? cellOfCouple(before, task, cell.text) : null;
-  return found ? `, which names ${placeOf(`${found.task} ${found.record.number} ${found.cell.at}`)} now` : '';
+  return found ? `, which names ${placeOf(`${found.task} ${found.record.number} ${found.cell.at}`)}${found.cell.name ? `, ${found.cell.name},` : ''} now` : '';
 }
 
 // Words taken from the record on top, and pushed there.
@@ -67,7 +67,7 @@ function onTop({name, operands, task, before, was, now, after}) {
   const parts = [...(taken.length ? [{kind: 'took', text: held(taken)}] : [])];
   if (name === 'VALC' && pushed.length) {
     const found = cellOfCouple(before, task, operands[0]), chain = found && found.cell.kind !== 'NUM' ? `, by ${heldBy(found.cell)}` : '';
-    parts.push({kind: 'pushed', text: `${held(pushed)}, the value of cell ${operands[0]}${found ? ` in record ${found.record.number}` : ''}${chain}`});
+    parts.push({kind: 'pushed', text: `${held(pushed)}, the value of cell ${operands[0]}${found?.cell.name ? ` ${found.cell.name}` : ''}${found ? ` in record ${found.record.number}` : ''}${chain}`});
   } else if (pushed.length) parts.push({kind: 'pushed', text: `${held(pushed)}${pushed.length === 1 ? namedBy(before, task, pushed[0]) : ''}`});
   return name.startsWith('BR') ? [...parts, ...goesOn(after)] : parts;
 }

@@ -13,6 +13,11 @@ function cellFollowed(state, followed) {
   return cell && {...cell, level: found.level};
 }
 
+// Of a cell what its name is made of.
+function onlyPlace(cell) {
+  return cell && {level: cell.level, name: cell.name};
+}
+
 function thingFollowed(state, followed) {
   return state.things.find(thing => thing.cell + thing.kind === followed);
 }
@@ -20,7 +25,7 @@ function thingFollowed(state, followed) {
 // What is followed, in words.
 export function nameOfFollowed(state, followed) {
   if (!isCell(followed)) return thingFollowed(state, followed)?.text ?? 'the array';
-  return cellName({cell: followed, level: cellFollowed(state, followed)?.level ?? -2});
+  return cellName({cell: followed, level: -2, ...onlyPlace(cellFollowed(state, followed))});
 }
 
 // What is followed, and what it holds now.

@@ -9,24 +9,23 @@ Nine lines of page.html are placeholders. Each is replaced by a text, and nothin
 - @PROVED@: the section "The page" of docs/TRUST.md;
 - @VERSION@: the version that CITATION.cff has;
 - @MODULE@: the module, in base64;
-- @SCRIPT@: the modules that modules.txt lists, in its order, without their import lines and the word `export`.
-
-The script is one, so no two modules may declare the same name at the top, and a module is listed after those that it imports."""
+- @SCRIPT@: the modules, from start.js on, as esbuild joins them into one script."""
 
 import base64
 import pathlib
 import re
+import shutil
+import subprocess
 import sys
 
 HERE = pathlib.Path(__file__).resolve().parent
 TOP = HERE.parent
-IMPORT = re.compile(r"import \{ ?[\w$]+(?:, [\w$]+)* ?\} from '\./([\w-]+\.js)';")
-EXPORT = re.compile(r"export (?=(?:async )?function\b|class\b|const\b|let\b)")
-DECLARES = re.compile(r"^(?:export )?(?:async )?(?:function\*?|class|const|let|var) (?:([\w$]+)|[{\[]([^=]*)[}\]] =)", re.M)
+ESBUILD = "0.17.0"  # the version of Debian 12; another one may give other bytes
+OPTIONS = ["--bundle", "--format=iife", "--charset=utf8", "--target=es2022", "--log-level=error"]
 
 
-def stop(why):
-    sys.exit(print(f"join.py: {why}", file=sys.stderr) or 1)
+def stop(why, status=1):
+    sys.exit(print(f"join.py: {why}", file=sys.stderr) or status)
 
 
 def styles():
@@ -82,34 +81,16 @@ def version():
     return re.search(r"^version: (\S+)", (TOP / "CITATION.cff").read_text(encoding="utf-8"), re.M)[1]
 
 
-def names_in(text):
-    """The names that a module declares at its top."""
-    return [name for one, many in DECLARES.findall(text) for name in ([one] if one else re.findall(r"[\w$]+", many))]
-
-
 def script():
-    """The listed modules as one script."""
-    parts, seen = [], {}
-    for name in (HERE / "modules.txt").read_text(encoding="utf-8").split():
-        text = (HERE / name).read_text(encoding="utf-8")
-        body = []
-        for number, line in enumerate(text.splitlines(), 1):
-            found = IMPORT.fullmatch(line)
-            if found and found[1] not in seen.values():
-                stop(f"web/{name}:{number}: {found[1]} isn't listed before it in modules.txt")
-            if not found and line.startswith("import"):
-                stop(f"web/{name}:{number}: an import is one line `import {{a, b}} from './NAME.js';`")
-            if line.startswith("export") and not EXPORT.match(line):
-                stop(f"web/{name}:{number}: an export is the word `export` before a function, a class or a constant")
-            if not found:
-                body.append(EXPORT.sub("", line))
-        for it in names_in(text):
-            if it in seen:
-                stop(f"web/{name}: {it} is declared in {seen[it]}, too")
-            seen[it] = name
-        seen[f"./{name}"] = name
-        parts.append(f"// {name}\n" + "\n".join(body).strip("\n") + "\n")
-    return "\n".join(parts)
+    """The modules from start.js on as one script, joined by esbuild: a module that is imported nowhere isn't in it."""
+    esbuild = shutil.which("esbuild") or stop("esbuild isn't on the path (Debian: apt-get install esbuild)", 2)
+    version = subprocess.run([esbuild, "--version"], capture_output=True, text=True, check=True).stdout.strip()
+    if version != ESBUILD:
+        print(f"join.py: esbuild {version}; the page in the repository was joined by {ESBUILD}, so its bytes may differ", file=sys.stderr)
+    made = subprocess.run([esbuild, "start.js", *OPTIONS], cwd=HERE, capture_output=True, text=True)
+    if made.returncode:
+        stop(made.stderr.strip())
+    return made.stdout
 
 
 def put(page, mark, text):

@@ -6,6 +6,7 @@ import {operatorsOf, cardsOf, jobsOf, segmentNames} from './cards.js';
 import {stateOf} from './state.js';
 import {presentIn} from './memory.js';
 import {changesOf, freshCells} from './changes.js';
+import {namesIn, putNames} from './names.js';
 import {textOf} from './program.js';
 
 export const MOST_OPERATORS = 800000000;
@@ -62,6 +63,7 @@ export class Machine {
     this.body = cardsOf(deck).filter(card => !card.startsWith('?HALT')).join('\n');
     this.operators = jobsOf(deck).map((_, k) => operatorsOf(program, deck, k + 1));
     this.names = jobsOf(deck).map((_, k) => segmentNames(deck, k + 1));
+    this.cellNames = namesIn(deck);
   }
 
   // Runs to a count, with as many sectors and as much room as that takes.
@@ -114,7 +116,7 @@ export class Machine {
     if (status !== HALTED) return {over: true};
     const image = new Image(bytes), task = nextTask(image), place = image.placeOf(task).join('@');
     return {task: `${image.lastJob}.${image.lastTask}`, next: {task: task.name, place, ...this.operatorAt(task.job, place)}, present: presentIn(image),
-      depths: Object.fromEntries(image.tasks.map(it => [it.name, it.records.filter(record => record.entered).length]))};
+      depths: Object.fromEntries(image.tasks.map(it => [it.name, it.records.filter(record => record.entered).length])), records: Math.max(...image.tasks.map(it => it.records.length))};
   }
 
   // The same without the changes. What was made lately is kept.
@@ -159,7 +161,7 @@ export class Machine {
     if (this.compares) this.compare(printed, dump);
     const task = nextTask(image), place = image.placeOf(task).join('@');
     const last = image.lastTask ? `${image.lastJob}.${image.lastTask}` : '';
-    return {count, lines, dump, last, ...stateOf(image, sectors, this.names),
+    return {count, lines, dump, last, ...putNames(stateOf(image, sectors, this.names), this.cellNames),
       next: {task: task.name, place, ...this.operatorAt(task.job, place)}};
   }
 

@@ -58,3 +58,8 @@ export class Program {
 export async function programOf(bytes) {
   return new Program(await WebAssembly.compile(bytes));
 }
+
+// The words of Run in a core of so many words.
+export function runWords(core) {
+  return ['run', '--core', String(core), '--backing', 'b'];
+}

@@ -1,48 +1,53 @@
-// What is done of the course, and what a state or a run has just done. Marks are kept in the browser, where it keeps things.
-import {TASKS} from './course.js';
+// What is done of the course and of sheets, with the work by which it was done, and whether a state or a run does a task. What is done is
+// kept in the browser, where it keeps things.
 import {keepValue, keptValue} from './keep.js';
 
-const MARKS = 'b67-done';
+const WORK = 'b67-work';
 
-// The deck of a task, by its address.
-export function deckOfTask({at = ''}) {
-  return at.split(',')[0];
+// The deck of a task, by its address or by the word `on` of a sheet; empty if the task has cards of its own or none.
+export function deckOfTask({at = '', on = ''}) {
+  return on || at.split(',')[0];
 }
 
 export class Progress {
   constructor(storage) {
-    Object.assign(this, {storage, done: new Set(keptValue(storage, MARKS) ?? [])});
+    Object.assign(this, {storage, work: new Map(Object.entries(keptValue(storage, WORK) ?? {}))});
   }
-  isDone(id) {
-    return this.done.has(id);
+  isDone({id}) {
+    return this.work.has(id);
   }
-  mark(id) {
-    if (this.done.has(id)) return false;
-    this.done.add(id);
-    keepValue(this.storage, MARKS, [...this.done]);
-    return true;
+  // Marks a task as done by a work: {deck, core} and for a moment {count}. A deck of the page is its name.
+  mark({id}, work) {
+    const is = !this.work.has(id);
+    this.work.set(id, work);
+    keepValue(this.storage, WORK, Object.fromEntries(this.work));
+    return is;
   }
   forget() {
-    this.done.clear();
-    keepValue(this.storage, MARKS, []);
+    this.work.clear();
+    keepValue(this.storage, WORK, {});
   }
 }
 
-// The tasks that a state fulfils: those to find in its deck. Of a task that wants the first such moment the worker tells whether it is.
-export function foundBy(name, state) {
-  return TASKS.filter(task => task.kind === 'find' && deckOfTask(task) === name && state.count > 0 && task.holds(state));
+// Whether a state of a deck is one that a task of finding wants; of a first one the worker tells whether it is the first.
+export function isFound(task, {name, text}, state) {
+  const its = task.deck ? text === task.deck : name === deckOfTask(task);
+  return task.kind === 'find' && its && state.count > 0 && task.holds(state);
 }
 
-// The tasks of writing that a command fulfils by itself; `least` is the least core in which its deck runs.
-export function writtenBy({words, text, status, printed, core, least}) {
-  const lines = printed.split('\n').slice(0, -1), same = wanted => JSON.stringify(lines) === JSON.stringify(wanted);
-  const halted = [...lines.slice(0, -1)], runs = words[0] === 'run';
-  return TASKS.filter(task => {
-    if (task.kind !== 'write' || task.has && !task.has.test(text)) return false;
-    if (task.refused) return status === 2 && task.refused.test(printed);
-    if (task.resumed) return words[0] === 'resume' && status === 0 && same(task.resumed);
-    if (task.leastCore) return runs && status === 0 && core === least && /^\?JOB TEN$/m.test(text);
-    if (task.halts) return runs && status === 3 && JSON.stringify(halted) === JSON.stringify(task.lines);
-    return runs && status === 0 && same(task.lines);
-  });
+// Whether a deck has what its task wants of it, and nothing that it must lack.
+function isOfTask({has = [], lacks = []}, text) {
+  const holds = it => (typeof it === 'string' ? text.includes(it) : it.test(text));
+  return [has].flat().every(holds) && ![lacks].flat().some(holds);
+}
+
+// Whether a command does a task of writing by itself; `least` is the least core in which its deck runs.
+export function isWritten(task, {words, text, status, printed, core, least}) {
+  const lines = printed.split('\n').slice(0, -1), same = (wanted, given = lines) => JSON.stringify(given) === JSON.stringify(wanted), runs = words[0] === 'run';
+  if (task.kind !== 'write' || !isOfTask(task, text)) return false;
+  if (task.refused) return status === 2 && task.refused.test(printed);
+  if (task.resumed) return words[0] === 'resume' && status === 0 && same(task.resumed);
+  if (task.leastCore) return runs && status === 0 && core === least;
+  if (task.halts) return runs && status === 3 && same(task.lines, lines.slice(0, -1));
+  return runs && status === 0 && same(task.lines);
 }

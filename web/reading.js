@@ -51,7 +51,7 @@ export function heldBy(cell) {
       const intrinsic = /^0,(\d+)$/.exec(cell.text);
       return intrinsic ? `the couple ${cell.text} of ${INTRINSICS[intrinsic[1]] ?? 'no intrinsic'}` : `the couple ${cell.text}`;
     }
-    case 'REF': return `a reference to ${placeOf(cell.to)}`;
+    case 'REF': return `a reference to ${placeOf(cell.to)}${cell.toName ? `, ${cell.toName}` : ''}`;
     case 'ARRAY': return `an ${cell.text}`;
     case 'ROW': return 'a copy of an array';
     case 'ELEMENT': return `a copy that names ${cell.text.replace(/^copy: /, '')}`;

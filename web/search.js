@@ -31,7 +31,7 @@ function progressText(many, count, milliseconds) {
 
 // A glance at a machine whose state is made.
 function glanceOf({next, tasks}) {
-  return {task: '', next, present: '', depths: Object.fromEntries(tasks.map(task => [task.name, task.records.filter(record => record.level >= 0).length]))};
+  return {task: '', next, present: '', records: Math.max(0, ...tasks.map(task => task.records.length)), depths: Object.fromEntries(tasks.map(task => [task.name, task.records.filter(record => record.level >= 0).length]))};
 }
 
 export class Search {
@@ -57,6 +57,7 @@ export class Search {
   find(kind, from, way, what) {
     if (kind === 'line') return way > 0 ? this.nextLine(from) : this.lineBefore(from);
     if (kind === 'fault') return way > 0 ? this.nextLine(from, line => endingOf(line)) : this.lineBefore(from, line => endingOf(line));
+    if (kind === 'deepest') return this.deepest();
     return this.walk({quick: this.quickOf(kind, from, what), test: this.testOf(kind, from, way, what)}, from, way, kind === 'over' || kind === 'out');
   }
 
@@ -76,6 +77,18 @@ export class Search {
   // The count of the first fault, or else of the end.
   firstFault() {
     return this.nextLine(0, line => endingOf(line)?.bad) ?? this.machine.end();
+  }
+
+  // The first count at which a stack has as many records as at no other; the whole run is looked through.
+  deepest() {
+    const begun = performance.now();
+    let [found, most] = [0, 0];
+    for (let count = 0; ; count++) {
+      if (performance.now() > this.told + 200) this.say(progressText(count, count, performance.now() - begun));
+      const {over, records} = this.glance(count);
+      if (over) return found;
+      if (records > most) [found, most] = [count, records];
+    }
   }
 
   // What must hold at a glance for the test of a kind to hold.

@@ -1,4 +1,4 @@
-// A deck in an address: `deck:` and its text, deflated, in the sixty-four signs that addresses may have.
+// A text in an address: deflated, in the sixty-four signs that addresses may have. A deck has its mark before it, `deck:`.
 const MARK = 'deck:';
 export const MOST_OF_ADDRESS = 30000; // characters; a longer deck has no address
 
@@ -11,19 +11,22 @@ export function isPacked(part) {
   return part.startsWith(MARK);
 }
 
-export async function packed(text) {
+export async function packedText(text) {
   const bytes = await through(new CompressionStream('deflate-raw'), new TextEncoder().encode(text));
   const signs = Array.from(bytes, byte => String.fromCharCode(byte)).join('');
-  return MARK + btoa(signs).replaceAll('+', '-').replaceAll('/', '_').replace(/=+$/, '');
+  return btoa(signs).replaceAll('+', '-').replaceAll('/', '_').replace(/=+$/, '');
+}
+export async function packed(deck) {
+  return MARK + await packedText(deck);
 }
 
-// The deck of such a part; fails if it is none, as when an address was cut.
+// The text of such a part; fails if it is none, as when an address was cut.
 export async function unpacked(part) {
   try {
-    const signs = atob(part.slice(MARK.length).replaceAll('-', '+').replaceAll('_', '/'));
+    const signs = atob(part.replace(/^deck:/, '').replaceAll('-', '+').replaceAll('_', '/'));
     const bytes = await through(new DecompressionStream('deflate-raw'), Uint8Array.from(signs, sign => sign.charCodeAt(0)));
     return new TextDecoder('utf-8', {fatal: true}).decode(bytes);
   } catch {
-    throw new Error('The deck in this address isn’t whole. Was the address cut? Ask for it anew, or for the deck as a file.');
+    throw new Error('What this address holds isn’t whole. Was the address cut? Ask for it anew, or for the deck as a file.');
   }
 }

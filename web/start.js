@@ -10,7 +10,8 @@ import {numbersForRead, withNumbers} from './deck-view.js';
 
 function onKey(page, event) {
   const {target, key, shiftKey} = event;
-  if (event.ctrlKey || event.metaKey || event.altKey || byId('help').open) return;
+  if (event.ctrlKey || event.metaKey || event.altKey || document.querySelector('dialog[open]')) return;
+  if (/^Arrow(Up|Down)$/.test(key) && target.closest?.('#cards,#right,#pair,#lessons,#printed,#results,#hand-view')) return;
   if (key !== 'Escape' && /^(INPUT|TEXTAREA|SELECT)$/.test(target.tagName)) return;
   if ((key === ' ' || key === 'Enter') && /^(BUTTON|A|SUMMARY)$/.test(target.tagName)) return;
   const found = actOf(key, shiftKey);
@@ -21,35 +22,35 @@ function onKey(page, event) {
 
 function listenToDeck(page) {
   const clicks = {
-    run: () => page.run(), check: () => page.check(), step: () => page.step(), edit: () => page.show('deck'),
-    image: () => page.image(), resume: () => page.resume(), exercise: () => page.exercise(), bind: () => page.bind(),
-    take: () => page.take(), two: () => perform(page, 'two'), 'help-button': () => perform(page, 'help'),
-    'lessons-button': () => toggleLessons(page), link: () => page.link(), save: () => page.editor.save(), 'delete': () => page.editor.remove(),
-    'new': () => page.guard(() => page.leaves(() => page.editor.begin())), 'link-copy': () => copyLink(), 'put-numbers': () => putNumbers(page), stop: () => perform(page, 'escape'),
+    ...Object.fromEntries(['run', 'check', 'image', 'resume', 'exercise', 'bind', 'take'].map(name => [name, () => page.commands[name]()])),
+    step: () => page.steps.step(), edit: () => page.show('deck'), two: () => perform(page, 'two'), 'help-button': () => perform(page, 'help'),
+    'lessons-button': () => toggleLessons(page), link: () => page.places.link(), save: () => page.editor.save(), 'delete': () => page.editor.remove(),
+    'new': () => page.guard(() => page.places.leaves(() => page.editor.begin())), 'link-copy': () => copyLink(), 'put-numbers': () => putNumbers(page), stop: () => perform(page, 'escape'),
+    'welcome-lesson': () => { location.hash = '#lesson:1'; }, 'welcome-step': () => page.steps.step(),
   };
   for (const [id, act] of Object.entries(clicks)) byId(id).onclick = act;
   byId('pick').onchange = () => {
     const name = byId('pick').value;
-    return page.guard(() => page.leaves(() => page.editor.choose(name)));
+    return page.guard(() => page.places.leaves(() => page.editor.choose(name)));
   };
-  byId('file').onchange = () => byId('file').files[0] && page.guard(() => page.open(byId('file').files[0]));
+  byId('file').onchange = () => byId('file').files[0] && page.guard(() => page.commands.open(byId('file').files[0]));
   byId('deck').oninput = () => page.editor.typed();
   document.addEventListener('selectionchange', () => showCardHelp(page));
   addEventListener('pagehide', () => page.editor.keepNow());
-  byId('deck').onscroll = () => { byId('gutter').scrollTop = byId('deck').scrollTop; };
-  byId('job').onchange = () => { byId('numbers').value = numbersForRead(byId('deck').value, Number(byId('job').value)); };
+  byId('deck').onscroll = () => page.editor.area.draw();
+  new ResizeObserver(() => page.editor.area.draw()).observe(byId('deck'));
+  byId('job').onchange = () => { byId('numbers').value = numbersForRead(page.editor.text, Number(byId('job').value)); };
 }
 
 function putNumbers(page) {
-  byId('deck').value = withNumbers(byId('deck').value, Number(byId('job').value), byId('numbers').value);
+  page.editor.area.put(withNumbers(page.editor.text, Number(byId('job').value), byId('numbers').value));
   page.editor.typed();
 }
 
 // Says what the operator of the card does in which the caret stands.
 function showCardHelp(page) {
-  const {value, selectionStart} = byId('deck');
-  if (document.activeElement !== byId('deck') || value.length > 200000) return;
-  const card = value.slice(0, selectionStart).split('\n').length, said = page.lexicon.ofCard(value.split('\n')[card - 1] ?? '');
+  if (document.activeElement !== byId('deck')) return;
+  const [card, text] = page.editor.area.cardAtCaret(), said = page.lexicon.ofCard(text);
   byId('card-help').textContent = said ? `Card ${card}. ${said}` : '';
 }
 
@@ -60,47 +61,52 @@ async function copyLink() {
   byId('link-copy').textContent = done ? 'Copied' : 'Copy it by hand';
 }
 
-function listenToSteps(page) {
-  for (const button of document.querySelectorAll('[data-act]')) button.onclick = () => perform(page, button.dataset.act, 1);
+// The numbers above the moment: its count, the words of core, and those of a second core.
+function listenToNumbers(page) {
+  const {steps} = page;
   byId('count').onchange = () => {
     byId('count').blur();
-    page.guard(() => page.goTo(Math.floor(Number(byId('count').value)) || 0));
+    page.guard(() => steps.goTo(Math.floor(Number(byId('count').value)) || 0));
   };
-  byId('core').onchange = () => {
-    page.editor.keepSoon();
-    page.addressSoon();
-    if (document.body.dataset.view === 'step') page.step(page.session.state.count, page.session.other);
-  };
+  byId('core').onchange = () => page.coreChanged();
   byId('other').onchange = () => page.guard(() => {
-    if (page.session?.other === null || document.body.dataset.view !== 'step') return;
-    page.session.other = page.core('other');
-    return page.goTo(page.session.state.count);
+    if (!steps.shown || steps.session.other === null) return;
+    steps.session.other = page.core('other');
+    return steps.goTo(steps.session.state.count);
   });
-  const goes = event => page.guard(() => page.goTo(countAt(byId('line'), page.session.window, event.clientX)));
+}
+
+function listenToSteps(page) {
+  const {steps} = page;
+  for (const button of document.querySelectorAll('[data-act]')) button.onclick = () => perform(page, button.dataset.act, 1);
+  const goes = event => page.guard(() => steps.goTo(countAt(byId('line'), steps.session.window, event.clientX)));
   byId('line').onpointerdown = event => { if (event.button === 0) { byId('line').setPointerCapture(event.pointerId); goes(event); } };
   byId('line').onpointermove = event => { if (event.buttons & 1) goes(event); };
   byId('leave-class').onclick = () => perform(page, 'present');
   byId('cards').addEventListener('keydown', moveInCards);
   byId('stacks').onclick = event => {
     const name = cellAt(byId('stacks'), event);
-    if (name && page.session?.state) page.follows(name);
+    if (name && steps.shown) steps.follows(name);
   };
   for (const id of ['right', 'pair']) byId(id).addEventListener('click', event => {
     const button = event.target.closest('[data-follow]');
-    if (button) page.follows(button.dataset.follow);
+    if (button) steps.follows(button.dataset.follow);
   });
-  byId('unfollow').onclick = () => page.follows('');
+  byId('unfollow').onclick = () => steps.follows('');
+}
+
+function listenToWindow(page) {
   document.addEventListener('keydown', event => onKey(page, event));
-  window.addEventListener('hashchange', event => page.follow(event.newURL ? new URL(event.newURL).hash : location.hash));
-  window.addEventListener('resize', () => page.redraw());
-  for (const [name, prints] of [['beforeprint', true], ['afterprint', false]]) window.addEventListener(name, () => { page.view.prints = prints; page.redraw(); });
+  window.addEventListener('hashchange', event => page.places.follow(event.newURL ? new URL(event.newURL).hash : location.hash));
+  window.addEventListener('resize', () => page.steps.redraw());
+  for (const [name, prints] of [['beforeprint', true], ['afterprint', false]]) window.addEventListener(name, () => { page.steps.view.prints = prints; page.steps.redraw(); });
 }
 
 // What tests ask of the page.
 function hooks(page, ready) {
   return {
     ready, keys: KEYS.map(({key, shift, what}) => ({key, shift: Boolean(shift), what})),
-    idle: () => page.idle(), state: () => page.told(), open: (deck, core, count) => page.openAt({deck, core, count, other: null}),
+    idle: () => page.idle(), state: () => page.steps.told(), under: () => ({working: page.working, asked: [...page.client.asked.keys()], desk: Boolean(page.client.desk), busy: !byId('busy').hidden, message: byId('message').textContent}),
   };
 }
 
@@ -117,7 +123,9 @@ async function start() {
   byId('dead').remove();
   const page = new Page();
   listenToDeck(page);
+  listenToNumbers(page);
   listenToSteps(page);
+  listenToWindow(page);
   const ready = page.begin();
   window.b67 = hooks(page, ready);
   await ready;

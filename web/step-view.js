@@ -9,6 +9,8 @@ import {changesList, showMemory} from './draw-memory.js';
 import {showTimeline, windowOf} from './timeline.js';
 import {followedText} from './follow.js';
 import {statusText} from './messages.js';
+import {cardsOf} from './cards.js';
+import {cellWords} from './walk.js';
 import {faultShown, showFaultNote} from './fault-note.js';
 
 // The operator's name and operands, without a label.
@@ -53,10 +55,15 @@ function endText(state, rows, ends) {
   return `the run stops here. ${means} ${advice}`;
 }
 
-function showOperator(state, rows) {
-  const {operator} = state;
+// The name that a card has in the place of a couple; empty if it has none.
+function nameOnCard({raw}, card) {
+  return /(?:VALC|NAMC)\s+([a-z][a-z0-9_]*)/.exec(card ? cardsOf(raw)[card - 1] ?? '' : '')?.[1] ?? '';
+}
+
+function showOperator(session, rows) {
+  const {state} = session, {operator} = state, name = operator ? nameOnCard(session, operator.card) : '';
   const place = operator && (operator.card ? `card ${operator.card}` : operator.place);
-  put(byId('what'), operator ? [element('span', {class: taskClass(operator.task)}, operator.task), ` ${place} `, element('strong', {}, operatorText(operator))]
+  put(byId('what'), operator ? [element('span', {class: taskClass(operator.task)}, operator.task), ` ${place} `, element('strong', {}, operatorText(operator)), name && ` ${name}`]
     : element('strong', {}, 'operator 0'));
   byId('what').className = state.status === 4 || state.status === 5 ? 'undone' : '';
   put(byId('why'), whatItDid(state, rows));
@@ -88,7 +95,7 @@ function depthText({tasks, last}, deepest) {
 }
 
 export function showDeck(session, toggle, help) {
-  showCards(byId('cards'), session.text, session.operators, toggle, help);
+  showCards(byId('cards'), session.raw, session.operators, toggle, help);
 }
 
 // What the boxes measure. It is asked once, before anything is drawn.
@@ -111,7 +118,7 @@ export function showMoment(session, view, rows, act) {
   byId('stacks').classList.toggle('past', shown !== state);
   showStacks(byId('stacks'), shown, session.operators, {...view, wrong: new Set(fault?.wrongs.flatMap(it => it.cells))}, stacks);
   showCount(session);
-  showOperator(state, rows);
+  showOperator(session, rows);
   if (session.otherState) showPair(session, view);
   else {
     putKept(byId('changed'), changesPart(state));
@@ -119,6 +126,7 @@ export function showMoment(session, view, rows, act) {
     byId('dump').textContent = state.dump || 'No task lives.';
   }
   showFollowed(state, view);
+  showWalked(state, view);
   showLine(session, line);
 }
 
@@ -131,6 +139,12 @@ function changesPart(state) {
 function showFollowed(state, {followed}) {
   byId('followed').hidden = !followed;
   if (followed) put(byId('followed-text'), followedText(state, followed));
+}
+
+// The words of the cell that the keys have come to.
+function showWalked(state, {walked}) {
+  byId('walked').hidden = !walked;
+  put(byId('walked'), cellWords(state, walked));
 }
 
 // One of two cores: what changed, core, and the lines.

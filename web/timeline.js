@@ -24,15 +24,22 @@ function titleOf({count, task, card, text, paging, lines, bad, depths}) {
 }
 
 // A column: as high as the stack of its task is deep; below it words that came in point up, words that left point down.
-function column(brief, x, width, stopped, deepest) {
+function column(brief, x, width, {stopped, deepest, begins}) {
   const middle = x + width / 2, inner = Math.max(width - (width > 4 ? 1 : 0), 0.6);
   const high = 4 + 14 * Math.min(1, Math.sqrt(Math.max(0, depthOf(brief) - 1) / Math.max(4, deepest - 1))), parts = [drawn('rect', {x, y: 28 - high, width: inner, height: high, class: brief.task ? taskClass(brief.task) : 'quiet'})];
   if (brief.bad) parts.push(drawn('text', {x: middle - 5, y: 10, class: 'fault'}, '✕'));
   else if (brief.lines) parts.push(drawn('circle', {cx: middle, cy: 6, r: 3, class: 'printed'}));
   if (brief.paging.includes('in')) parts.push(drawn('path', {d: `M${middle} 30l-4 6h8z`, class: 'in'}));
   if (brief.paging.includes('out')) parts.push(drawn('path', {d: `M${middle} 43l-4 -6h8z`, class: 'out'}));
+  if (begins && width > 5) parts.push(drawn('text', {x: x + 1, y: 26 - high, class: 'who'}, brief.task));
   if (stopped) parts.push(drawn('rect', {x, y: 10, width: Math.max(width, 2), height: 18, class: 'stopped'}));
   return drawn('g', {}, drawn('title', {}, titleOf(brief)), drawn('rect', {x, y: 0, width, height: 44, class: 'under'}), parts);
+}
+
+// Whether another task than before makes the operator at a count; of a run of one task none does.
+function beginsTurn(briefs, at) {
+  const before = briefs.get(at - 1);
+  return Boolean(before?.task) && Boolean(briefs.get(at).task) && before.task !== briefs.get(at).task;
 }
 
 // Draws the window in a picture of this width. While window and breakpoints stay, only new columns are added and the cursor moved.
@@ -49,7 +56,7 @@ export function showTimeline(picture, {count, window, briefs, stops, width}) {
     const brief = briefs.get(at);
     if (!brief || shown.counts.has(at)) continue;
     shown.counts.add(at);
-    shown.columns.append(column(brief, (at - window.from) * step, step, stops.has(brief.card), deepest));
+    shown.columns.append(column(brief, (at - window.from) * step, step, {stopped: stops.has(brief.card), deepest, begins: beginsTurn(briefs, at)}));
   }
   set(shown.cursor, 'd', `M${(count - window.from + 0.5) * step} 0v44`);
   return deepest;

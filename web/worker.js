@@ -4,6 +4,7 @@ import {programOf, textOf} from './program.js';
 import {operatorsOf} from './cards.js';
 import {Machine} from './machine.js';
 import {Search} from './search.js';
+import {allOf} from './conditions.js';
 import {TASKS} from './course.js';
 import {endingOf} from './changes.js';
 import {causeOf, wrongOf} from './faults.js';
@@ -77,10 +78,10 @@ export class Desk {
     return wrong ? {...wrong, count, operator: state.operator} : null;
   }
 
-  // Whether what a task wants holds of no state before this count.
-  isFirst({deck, core, id, count}) {
-    const {machine} = this.search(deck, core), task = TASKS.find(it => it.id === id);
-    for (let at = 1; at < Math.min(count, MOST_BEFORE); at++) if (task.holds(machine.state(at))) return false;
+  // Whether what a task wants holds of no state before this count: a task of the course, or conditions of a sheet.
+  isFirst({deck, core, id, find, count}) {
+    const {machine} = this.search(deck, core), {holds} = find ? {holds: allOf(find)} : TASKS.find(it => it.id === id);
+    for (let at = 1; at < Math.min(count, MOST_BEFORE); at++) if (holds(machine.state(at))) return false;
     return count <= MOST_BEFORE;
   }
 

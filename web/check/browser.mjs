@@ -1,81 +1,62 @@
-// Chromium without a window, spoken to by its DevTools protocol over a pipe: messages are JSON, ended by a byte of zero.
-import {spawn} from 'node:child_process';
+// A browser without a window, by the commands of WebDriver (W3C): Chromium by its own chromedriver, Firefox by Marionette, which has the
+// same commands over a socket. drivers.mjs carries them; what Chromium alone can (a script before a page's own, a size of a phone, the
+// eyes of another) goes by its DevTools.
 import fs from 'node:fs';
-import os from 'node:os';
 import path from 'node:path';
+import {Chromedriver, Marionette} from './drivers.mjs';
 
-const FLAGS = ['--headless=new', '--remote-debugging-pipe', '--disable-gpu', '--disable-dev-shm-usage', '--no-first-run',
-  '--disable-extensions', '--disable-background-networking', '--hide-scrollbars'];
-const SHIFT = 8;
-const CODES = {Enter: 13, Backspace: 8, Escape: 27, Home: 36, End: 35, PageUp: 33, PageDown: 34, ArrowLeft: 37, ArrowUp: 38,
-  ArrowRight: 39, ArrowDown: 40, Tab: 9, ' ': 32};
+const KEYS = {Enter: '\uE007', Backspace: '\uE003', Tab: '\uE004', Escape: '\uE00C', PageUp: '\uE00E', PageDown: '\uE00F', End: '\uE010', Home: '\uE011',
+  ArrowLeft: '\uE012', ArrowUp: '\uE013', ArrowRight: '\uE014', ArrowDown: '\uE015'};
+const SHIFT = '\uE008';
+// Firefox has no log of its console for a driver: what a page complains of is gathered in it.
+const WATCHES = `window.complaints = [];
+  for (const kind of ['error', 'unhandledrejection']) addEventListener(kind, it => complaints.push(String(it.message ?? it.reason)));
+  console.error = (...words) => complaints.push(words.join(' '));`;
 
 export class Browser {
-  // Starts it, and opens an empty page of this size.
+  // Starts a browser, by its program, and opens an empty page of this size. `errors` has what pages have complained of so far.
   static async started(program, width = 1400, height = 900) {
-    const it = new Browser();
-    it.folder = fs.mkdtempSync(path.join(os.tmpdir(), 'b67-browser-'));
-    const alone = process.getuid?.() === 0 ? ['--no-sandbox'] : []; // root has no sandbox
-    it.child = spawn(program, [...FLAGS, ...alone, `--user-data-dir=${it.folder}`, `--window-size=${width},${height}`, 'about:blank'],
-      {stdio: ['ignore', 'ignore', 'ignore', 'pipe', 'pipe']});
-    it.waiting = new Map();
-    it.calls = 0;
-    it.errors = []; // what the console and the page complained of
-    it.rest = '';
-    it.child.stdio[4].setEncoding('utf8').on('data', text => it.hears(text));
-    it.child.on('exit', () => it.waiting.forEach(([, fails]) => fails(new Error('the browser has ended'))));
-    const {targetInfos} = await it.call('Target.getTargets', {}, null);
-    const {targetId} = targetInfos.find(target => target.type === 'page');
-    it.session = (await it.call('Target.attachToTarget', {targetId, flatten: true}, null)).sessionId;
-    for (const domain of ['Page', 'Runtime', 'Log']) await it.call(`${domain}.enable`);
-    await it.call('Target.setAutoAttach', {autoAttach: true, waitForDebuggerOnStart: false, flatten: true});
+    const it = new Browser(), firefox = path.basename(program).startsWith('firefox');
+    Object.assign(it, {firefox, errors: [], driver: await (firefox ? Marionette : Chromedriver).started(program)});
+    await it.driver.call('SetTimeouts', {script: 300000});
+    await it.opens('about:blank');
     await it.size(width, height);
     return it;
   }
 
-  hears(text) {
-    const parts = (this.rest + text).split('\0');
-    this.rest = parts.pop();
-    for (const part of parts) this.takes(JSON.parse(part));
+  async opens(url) {
+    await this.hears();
+    await this.driver.call('Navigate', {url});
+    if (this.firefox) await this.value(`${WATCHES} 0`);
   }
-
-  takes({id, result, error, method, params}) {
-    if (id !== undefined) {
-      const [answers, fails] = this.waiting.get(id);
-      this.waiting.delete(id);
-      if (error) fails(new Error(error.message));
-      else answers(result);
-    } else if (method === 'Target.attachedToTarget') {
-      // a worker: its errors count, too
-      for (const domain of ['Runtime', 'Log']) this.call(`${domain}.enable`, {}, params.sessionId).catch(() => {});
-    } else if (method === 'Runtime.exceptionThrown') {
-      const {text, exception} = params.exceptionDetails;
-      this.errors.push(`${text} ${exception?.description ?? ''}`);
-    } else if (method === 'Runtime.consoleAPICalled' && ['error', 'assert'].includes(params.type)) {
-      this.errors.push(params.args.map(it => it.value ?? it.description).join(' '));
-    } else if (method === 'Log.entryAdded' && params.entry.level === 'error') this.errors.push(params.entry.text);
-  }
-
-  call(method, params = {}, sessionId = this.session) {
-    const id = ++this.calls;
-    this.child.stdio[3].write(`${JSON.stringify({id, method, params, ...(sessionId && {sessionId})})}\0`);
-    return new Promise((answers, fails) => this.waiting.set(id, [answers, fails]));
-  }
-
-  opens(url) {
-    return this.call('Page.navigate', {url});
+  async reloads() {
+    await this.hears();
+    await this.driver.call('Refresh');
+    if (this.firefox) await this.value(`${WATCHES} 0`);
   }
 
   // Lets a script run before those of each page.
   before(source) {
-    return this.call('Page.addScriptToEvaluateOnNewDocument', {source});
+    return this.driver.devtools('Page.addScriptToEvaluateOnNewDocument', {source});
+  }
+
+  // Takes in what the page has complained of. A complaint of the net counts if the page itself has asked for that address: a new Chromium
+  // complains of what it asks for by itself.
+  async hears() {
+    if (this.firefox) return void this.errors.push(...await this.value('(window.complaints ?? []).splice(0)').catch(() => []));
+    const asked = await this.value("[location.href, ...performance.getEntriesByType('resource').map(it => it.name)]").catch(() => []);
+    for (const {level, source, message} of await this.driver.log()) {
+      if (level === 'SEVERE' && (source !== 'network' || asked.includes(message.split(' ')[0]))) this.errors.push(message);
+    }
   }
 
   // The value of an expression in the page, waited for if it is a promise.
   async value(expression) {
-    const {result, exceptionDetails: wrong} = await this.call('Runtime.evaluate', {expression, awaitPromise: true, returnByValue: true});
-    if (wrong) throw new Error(`${expression.slice(0, 80)}: ${wrong.exception?.description ?? wrong.text}`);
-    return result.value;
+    const script = `const done = arguments[1];
+      Promise.resolve().then(() => (0, window.eval)(arguments[0])).then(value => done({value}), error => done({error: String(error)}));`;
+    const {value, error} = await this.driver.call('ExecuteAsyncScript', {script, args: [expression]});
+    if (error) throw new Error(`${expression.slice(0, 80)}: ${error}`);
+    return value;
   }
 
   // Waits until an expression in the page is true.
@@ -87,42 +68,43 @@ export class Browser {
     }
   }
 
-  size(width, height) {
-    return this.call('Emulation.setDeviceMetricsOverride', {width, height, deviceScaleFactor: 1, mobile: false});
+  // The size of the page. Of Firefox the window is set, as large as its page and what is around it.
+  async size(width, height) {
+    if (!this.firefox) return this.driver.devtools('Emulation.setDeviceMetricsOverride', {width, height, deviceScaleFactor: 1, mobile: false});
+    await this.driver.call('SetWindowRect', {width, height});
+    const [inner, high] = await this.value('[innerWidth, innerHeight]');
+    return this.driver.call('SetWindowRect', {width: 2 * width - inner, height: 2 * height - high});
   }
-
   dark(is_dark) {
-    return this.call('Emulation.setEmulatedMedia', {features: [{name: 'prefers-color-scheme', value: is_dark ? 'dark' : 'light'}]});
+    if (this.firefox) return this.driver.setting('layout.css.prefers-color-scheme.content-override', is_dark ? 0 : 1);
+    return this.driver.devtools('Emulation.setEmulatedMedia', {features: [{name: 'prefers-color-scheme', value: is_dark ? 'dark' : 'light'}]});
+  }
+  // How the page looks to other eyes: `deuteranopia`, `protanopia`, `achromatopsia`, `none`.
+  eyes(type) {
+    return this.driver.devtools('Emulation.setEmulatedVisionDeficiency', {type});
   }
 
+  acts(id, type, actions) {
+    return this.driver.call('PerformActions', {actions: [{id, type, actions, ...(type === 'pointer' && {parameters: {pointerType: 'mouse'}})}]});
+  }
   // A key as a hand presses it.
-  async press(key, shift = false) {
-    const letter = key.length === 1, code = CODES[key] ?? key.toUpperCase().charCodeAt(0);
-    const event = {key: letter && shift ? key.toUpperCase() : key, windowsVirtualKeyCode: code, modifiers: shift ? SHIFT : 0};
-    const text = letter ? event.key : key === 'Enter' ? '\r' : undefined;
-    await this.call('Input.dispatchKeyEvent', {type: text ? 'keyDown' : 'rawKeyDown', ...event, text});
-    await this.call('Input.dispatchKeyEvent', {type: 'keyUp', ...event});
+  press(key, shift = false) {
+    const value = KEYS[key] ?? (shift ? key.toUpperCase() : key), held = shift ? [{type: 'keyDown', value: SHIFT}] : [];
+    return this.acts('keys', 'key', [...held, {type: 'keyDown', value}, {type: 'keyUp', value}, ...held.map(() => ({type: 'keyUp', value: SHIFT}))]);
   }
-
   // A click on the middle of an element.
   async click(selector) {
-    const at = await this.value(`(() => { const it = document.querySelector(${JSON.stringify(selector)}); it.scrollIntoView({block: 'nearest'});
-      const r = it.getBoundingClientRect(); return [r.x + r.width / 2, r.y + r.height / 2]; })()`);
-    for (const type of ['mousePressed', 'mouseReleased'])
-      await this.call('Input.dispatchMouseEvent', {type, x: at[0], y: at[1], button: 'left', clickCount: 1});
+    const [x, y] = await this.value(`(() => { const it = document.querySelector(${JSON.stringify(selector)}); it.scrollIntoView({block: 'nearest'});
+      const r = it.getBoundingClientRect(); return [Math.round(r.x + r.width / 2), Math.round(r.y + r.height / 2)]; })()`);
+    return this.acts('mouse', 'pointer', [{type: 'pointerMove', x, y, duration: 0, origin: 'viewport'}, {type: 'pointerDown', button: 0}, {type: 'pointerUp', button: 0}]);
   }
 
   async picture(file) {
-    const {data} = await this.call('Page.captureScreenshot', {format: 'png'});
-    fs.writeFileSync(file, Buffer.from(data, 'base64'));
+    fs.writeFileSync(file, Buffer.from(await this.driver.call('TakeScreenshot', {full: false}), 'base64'));
   }
 
-  // Ends it, and removes what it has written.
   async ends() {
-    const ended = new Promise(goes => this.child.once('exit', goes));
-    await this.call('Browser.close', {}, null).catch(() => {});
-    await Promise.race([ended, new Promise(goes => setTimeout(goes, 5000))]);
-    this.child.kill('SIGKILL');
-    fs.rmSync(this.folder, {recursive: true, force: true, maxRetries: 5});
+    await this.hears();
+    await this.driver.ends();
   }
 }

@@ -6,7 +6,6 @@ import fs from 'node:fs';
 import path from 'node:path';
 import {pathToFileURL} from 'node:url';
 import {Browser} from './browser.mjs';
-import {Firefox} from './firefox.mjs';
 
 const [program, page, folder, ...only] = process.argv.slice(2);
 const [STEPS, PAUSE, PLACES] = [4, 100, [0, 0.3, 0.6, 0.95]];
@@ -66,7 +65,7 @@ async function measured(name, text, core) {
   return found;
 }
 
-const browser = await (path.basename(program).startsWith('firefox') ? Firefox : Browser).started(program);
+const browser = await Browser.started(program);
 await browser.opens(pathToFileURL(page).href);
 await browser.until('window.b67?.ready');
 await browser.value('b67.ready');

@@ -25,7 +25,7 @@ async function many(work) {
 }
 
 const browser = await Browser.started(chromium);
-await browser.call('Page.navigate', {url: pathToFileURL(page).href});
+await browser.opens(pathToFileURL(page).href);
 await browser.until('window.b67?.ready');
 await browser.value('b67.ready');
 await browser.value(`window.timed = async act => { const t = performance.now(); act(); await b67.idle(); return performance.now() - t; };

@@ -3,17 +3,19 @@ import assert from 'node:assert/strict';
 import {after, test} from 'node:test';
 import {setImmediate as turn} from 'node:timers/promises';
 import {Native, decks} from './native.js';
+import {FOUND, LEAST_OF_TEN, PREDICTED, WRITTEN} from './answers.js';
 import {Desk} from '../worker.js';
-import {courseOf, momentOf} from '../address.js';
+import {placeOf} from '../address.js';
 import {ALGOL_DECKS, algolOf} from '../algol.js';
 import {COURSE, TASKS} from '../course.js';
-import {deckOfTask, foundBy, Progress, writtenBy} from '../progress.js';
+import {START} from '../decks.js';
+import {deckOfTask, isFound, isWritten, Progress} from '../progress.js';
 import {isRight, questionOf} from '../predict.js';
-import {textOf} from '../program.js';
+import {runWords, textOf} from '../program.js';
 
 const native = new Native(process.env.B67 ?? 'b67');
 after(() => native.close());
-const texts = new Map(decks().map(deck => [deck.name, deck.text]));
+const texts = new Map([START, ...decks()].map(deck => [deck.name, deck.text]));
 
 function deskOf() {
   const desk = new Desk(() => {});
@@ -21,94 +23,69 @@ function deskOf() {
   return desk;
 }
 function stateAt(desk, address, count) {
-  const {deck, core} = momentOf(`#${address}`);
+  const {deck, core} = placeOf(`#${address}`);
   return desk.state({deck: texts.get(deck), core, count});
 }
-function asm(cards, head = '') {
-  return `${head}?JOB T\n?ASM\nSEGMENT MAIN 2\n${cards.replaceAll(' / ', '\n')}\n?END\n`;
-}
 
-test('addresses of lessons and tasks', () => {
-  assert.deepEqual(courseOf('#lesson:3'), {kind: 'lesson', id: '3'});
-  assert.deepEqual(courseOf('#task:3.2'), {kind: 'task', id: '3.2'});
-  for (const hash of ['#lesson:', '#two,630', '#task:a', '']) assert.equal(courseOf(hash), null);
+test('each task has a name of its lesson, and a deck of the page', () => {
   assert.equal(new Set(TASKS.map(task => task.id)).size, TASKS.length);
   for (const lesson of COURSE) for (const task of lesson.tasks) assert.ok(task.id.startsWith(`${lesson.id}.`));
-  for (const task of TASKS) if (task.at) assert.ok(texts.has(deckOfTask(task)) && momentOf(`#${task.at}`), task.id);
+  for (const task of TASKS) if (task.at) assert.ok(texts.has(deckOfTask(task)) && placeOf(`#${task.at}`), task.id);
 });
 
-// The moment at which each task to find is found, for the first time in its core.
-const FOUND = {'2.2': 30, '2.3': null, '3.2': 21, '3.3': null, '3.6': null, '4.2': 17, '4.4': null, '5.1': 20, '5.5': 26};
-
-for (const task of TASKS.filter(it => it.kind === 'find')) {
+for (const task of TASKS.filter(it => it.kind === 'find' && FOUND[it.id])) {
   test(`find ${task.id}: ${task.text}`, async () => {
-    const desk = deskOf(), {deck, core} = momentOf(`#${task.at}`), text = texts.get(deck);
-    if (task.id === '5.3') {
-      const end = desk.state({deck: text, core: 4096, count: 100});
-      assert.deepEqual(foundBy(deck, end).map(it => it.id), ['5.3']);
-      assert.ok(!task.holds(desk.state({deck: text, core: 630, count: 100})));
-      return;
-    }
-    const from = task.id === '3.6' ? 3380 : 1;
-    for (let count = from; ; count++) {
-      if (count % 20 === 0) await turn();
-      const state = desk.state({deck: text, core, count});
-      assert.ok(state.count === count, `${task.id} isn't found up to ${count}`);
-      if (!foundBy(deck, state).includes(task)) continue;
-      if (FOUND[task.id]) assert.equal(count, FOUND[task.id]);
-      if (task.first) assert.equal(desk.isFirst({deck: text, core, id: task.id, count}), true);
-      return;
-    }
+    await turn();
+    const desk = deskOf(), {deck, core} = placeOf(`#${task.at}`), text = texts.get(deck), [right, wrong] = FOUND[task.id];
+    const holds = count => isFound(task, {name: deck, text}, desk.state({deck: text, core, count})) && (!task.first || desk.isFirst({deck: text, core, id: task.id, count}));
+    assert.deepEqual([holds(right), holds(wrong)], [true, false]);
+    assert.equal(isFound(task, {name: 'sum', text}, desk.state({deck: text, core, count: right})), false);
   });
 }
+
+test('find 5.3: the end of two in a core with room for both arrays', () => {
+  const desk = deskOf(), task = TASKS.find(it => it.id === '5.3'), text = texts.get('two');
+  assert.deepEqual([4096, 630].map(core => task.holds(desk.state({deck: text, core, count: 100}))), [true, false]);
+});
 
 for (const task of TASKS.filter(it => it.kind === 'predict')) {
   test(`predict ${task.id}: ${task.text}`, async () => {
     await turn();
-    const desk = deskOf(), {count} = momentOf(`#${task.at}`), question = questionOf(stateAt(desk, task.at, count), stateAt(desk, task.at, count + 1));
+    const desk = deskOf(), {count} = placeOf(`#${task.at}`), question = questionOf(stateAt(desk, task.at, count), stateAt(desk, task.at, count + 1));
     assert.ok(question?.right.length, task.id);
     for (const answer of question.right) {
       assert.ok(isRight(question, ` ${answer} `));
       if (question.choices) assert.ok(question.choices.includes(answer));
     }
     if (question.choices) assert.ok(question.choices.some(it => !isRight(question, it)), 'a question with right answers only');
-    assert.ok(!isRight(question, 'x'));
+    assert.deepEqual(PREDICTED[task.id].map(answer => isRight(question, answer)), [true, false]);
+    if (question.choices) for (const answer of PREDICTED[task.id]) assert.ok(question.choices.includes(answer), answer);
   });
 }
-
-// A deck, or what is done, for each task of writing.
-const jensen = texts.get('jensen').replace('NAMC 2,4\nSTFF', 'ONE'), swap = texts.get('swap').replace('NAMC 2,5\nSTFF\nNAMC 2,6\nSTFF', 'NAMC 2,6\nSTFF\nNAMC 2,5\nSTFF');
-const squares = 'ONE / L: MKST / NAMC 0,9 / VALC 2,2 / VALC 2,2 / MULT / ENTR / VALC 2,2 / ONE / ADD / NAMC 2,2 / STON / LT8 5 / LSEQ / BRTR L / EXIT';
-const WRITTEN = {
-  '1.2': asm('NAMC 2,2 / ONE / ADD / EXIT'), '1.3': asm('MKST / NAMC 0,9 / LT48 549755813887 / ONE / ADD / ENTR / EXIT'), '1.4': asm('MKST / NAMC 0,9 / LT8 5 / LNOT / ENTR / EXIT'),
-  '1.5': asm('MKST / NAMC 0,9 / LT8 42 / ENTR / EXIT'), '2.4': texts.get('factorial').replace('SEGMENT FACT 3', 'SEGMENT FACT 4'), '2.5': asm('ONE / MKST / DLET / EXIT'),
-  '3.4': jensen, '3.5': swap, '4.3': texts.get('shared').split('\n').filter((_, k) => k < 17 || k > 20).join('\n'), '4.5': asm('ZERO / MKST / NAMC 0,15 / NAMC 2,2 / ENTR / EXIT'),
-  '5.4': texts.get('ten'), '6.2': asm('MKST / NAMC 0,9 / LT8 7 / ENTR / EXIT', '?HALT 4\n'), '6.3': asm(squares),
-};
 
 for (const task of TASKS.filter(it => it.kind === 'write' && !it.resumed)) {
   test(`write ${task.id}: ${task.text}`, async () => {
     await turn();
-    const text = WRITTEN[task.id], desk = deskOf(), core = task.leastCore ? 533 : 4096, words = task.refused ? ['check'] : ['run', '--core', String(core), '--backing', 'b'];
-    const {status, bytes} = native.call(words, text), printed = textOf(bytes), least = task.leastCore ? desk.coreFor({deck: text, core: 256}) : null;
-    const done = writtenBy({words, text, status, printed, core, least});
-    assert.ok(done.includes(task), `${status} ${printed}`);
-    assert.ok(!writtenBy({words, text, status: 9, printed: '', core, least}).includes(task));
-    if (task.leastCore) assert.ok(!writtenBy({words, text, status, printed, core: 534, least}).includes(task));
+    const desk = deskOf(), done = WRITTEN[task.id].map((text, k) => {
+      const core = task.leastCore ? LEAST_OF_TEN + k : 4096, words = task.refused ? ['check'] : runWords(core), {status, bytes} = native.call(words, text);
+      return isWritten(task, {words, text, status, printed: textOf(bytes), core, least: task.leastCore ? desk.coreFor({deck: text, core: 256}) : null});
+    });
+    assert.deepEqual(done, [true, false]);
   });
 }
 
 test('a run that is resumed', () => {
-  const printed = '1.1 23\n1.1 ENDED\n';
-  assert.deepEqual(writtenBy({words: ['resume'], text: '', status: 0, printed}).map(it => it.id), ['6.1']);
+  const printed = '1.1 23\n1.1 ENDED\n', task = TASKS.find(it => it.id === '6.1');
+  assert.deepEqual([['resume'], runWords(630)].map(words => isWritten(task, {words, text: '', status: 0, printed})), [true, false]);
 });
 
-test('marks are kept', () => {
-  const kept = new Map(), storage = {getItem: key => kept.get(key) ?? null, setItem: (key, value) => kept.set(key, value)};
-  assert.equal(new Progress(storage).mark('1.1'), true);
-  assert.equal(new Progress(storage).mark('1.1'), false);
-  assert.ok(new Progress(storage).isDone('1.1') && !new Progress(storage).isDone('1.2'));
-  assert.equal(new Progress(null).mark('1.1'), true);
+test('marks are kept, with the work', () => {
+  const kept = new Map(), storage = {getItem: key => kept.get(key) ?? null, setItem: (key, value) => kept.set(key, value)}, work = {deck: 'sum', core: 4096, count: 5};
+  assert.equal(new Progress(storage).mark({id: '1.1'}, work), true);
+  assert.equal(new Progress(storage).mark({id: '1.1'}, work), false);
+  assert.deepEqual(new Progress(storage).work.get('1.1'), work);
+  assert.ok(!new Progress(storage).isDone({id: '1.2'}));
+  assert.equal(new Progress(null).mark({id: '1.1'}, work), true);
 });
 
 test('each operator of a deck with a text in ALGOL has its line', () => {

@@ -23,7 +23,7 @@ const FAULTS = [
   ['STACK UNDERFLOW', 'ONE / MKST / DLET / EXIT', 6, /record 2 has no word\. The record is open/, /^Words below an open mark/],
   ['STACK OVERFLOW', 'L: ONE / BRUN L', 4, /^The stack of task 1\.1 has 64 words by now, in 1 record/, /^A loop that pushes in each turn: look at what a turn leaves on the stack\.$/, '?STACK 64\n'],
   ['STACK OVERFLOW', 'MPCW F / MKST / NAMC 2,2 / ENTR / EXIT / SEGMENT F 3 / MKST / NAMC 2,2 / ENTR / EXIT', 0, /in \d\d records/, /^Or a recursion that misses its end/, '?STACK 99\n'],
-  ['INVALID OPERAND', 'NAMC 2,2 / ONE / ADD / EXIT', 6, /the couple 2,2 is none\.$/, /^A reference where a number is wanted \(NAMC for VALC\)\.$/],
+  ['INVALID OPERAND', 'NAMC 2,2 / ONE / ADD / EXIT', 6, /the couple 2,2 is none\.$/, /^A reference where a number is wanted \(NAMC for VALC\)/],
   ['INVALID OPERAND', 'MKST / NAMC 0,9 / ONE / ONE / ENTR / EXIT', 8, /^PRINT wants 1 argument, and its record has 2 words: 1 and 1\.$/, /^An intrinsic with the wrong number of arguments/],
   ['INVALID OPERAND', 'ONE / ENTR / EXIT', 5, /entered already: no MKST/, /^ENTR without its MKST\.$/],
   ['INVALID OPERAND', 'MKST / LT8 7 / ENTR / EXIT', 6, /is to lead to a procedure: it is 7\.$/, /^ENTR of what is no procedure/],

@@ -4,12 +4,13 @@ import {readFileSync} from 'node:fs';
 import {spawnSync} from 'node:child_process';
 import {test} from 'node:test';
 import {fileURLToPath} from 'node:url';
-import {hashOf, momentOf} from '../address.js';
+import {hashOf, placeOf} from '../address.js';
 import {cardsOf} from '../cards.js';
 import {endingOf} from '../changes.js';
 import {followedText, nextChoice} from '../follow.js';
+import {partOf, startOf} from '../cards-area.js';
 import {numbersForRead, withNumbers} from '../deck-view.js';
-import {decksOf, GROUPS} from '../decks.js';
+import {decksOf, GROUPS, START} from '../decks.js';
 import {intrinsicsIn, Lexicon, operatorsIn} from '../lexicon.js';
 import {INTRINSICS, MEANINGS, OPERATORS, TAKES} from '../operators.js';
 import {OwnDecks} from '../keep.js';
@@ -25,10 +26,16 @@ import {decks} from './native.js';
 const rows = tablesOf(readFileSync(new URL('../../docs/MESSAGES.md', import.meta.url), 'utf8'));
 
 test('addresses', () => {
-  assert.deepEqual(momentOf('#two,630,20'), {deck: 'two', core: 630, count: 20, other: null});
-  assert.deepEqual(momentOf('#two,630,20,4096'), {deck: 'two', core: 630, count: 20, other: 4096});
-  assert.deepEqual(momentOf('#two'), {deck: 'two', core: undefined, count: null, other: null});
-  assert.equal(momentOf('#<b>'), null);
+  const moment = {kind: 'moment', deck: 'two', core: 630, count: 20, other: null};
+  assert.deepEqual(placeOf('#two,630,20'), moment);
+  assert.deepEqual(placeOf('#two,630,20,4096'), {...moment, other: 4096});
+  assert.deepEqual(placeOf('#two'), {...moment, core: undefined, count: null});
+  assert.deepEqual(placeOf('#lesson:3'), {kind: 'lesson', id: '3'});
+  assert.deepEqual(placeOf('#task:3.2'), {kind: 'task', id: '3.2'});
+  assert.deepEqual(placeOf('#sheet:ab-_9'), {kind: 'sheet', packed: 'ab-_9', number: 0});
+  assert.deepEqual(placeOf('#sheet:ab-_9,2'), {kind: 'sheet', packed: 'ab-_9', number: 2});
+  assert.deepEqual(placeOf('#hand:ab-_9'), {kind: 'hand', packed: 'ab-_9'});
+  for (const hash of ['', '#<b>', '#lesson:', '#task:a', '#sheet:', '#hand:a,1', '#two;630']) assert.equal(placeOf(hash), null);
   assert.equal(hashOf({deck: 'two', core: 630, count: 0, other: null}), '#two,630,0');
 });
 
@@ -36,7 +43,7 @@ test('a deck in an address', async () => {
   for (const text of ['', '?JOB A\n?ASM\nEXIT\n?END\n', 'é – “ÿ”\n', 'NOOP\n'.repeat(5000)]) {
     const part = await packed(text);
     assert.ok(isPacked(part));
-    assert.deepEqual(momentOf(`#${part},4096,7`), {deck: part, core: 4096, count: 7, other: null});
+    assert.deepEqual(placeOf(`#${part},4096,7`), {kind: 'moment', deck: part, core: 4096, count: 7, other: null});
     assert.equal(await unpacked(part), text);
     if (text) await assert.rejects(unpacked(part.slice(0, -3)), /isn’t whole/);
   }
@@ -104,6 +111,18 @@ test('numbers for READ are put on cards of 80 characters, before ?END', () => {
   assert.equal(numbersForRead(long, 2), Array(100).fill('1234567').join(' '));
 });
 
+test('the part of a long deck in the editor', () => {
+  const short = 'a\nb\n', long = Array.from({length: 5000}, (_, k) => `NOOP ; ${k + 1}\n`).join('');
+  assert.deepEqual(partOf(short, 1), {before: '', part: short, after: '', first: 0, cards: 2});
+  for (const [card, first] of [[1, 0], [200, 0], [2500, 2299], [5000, 4600], [9999, 4600]]) {
+    const {before, part, after, ...told} = partOf(long, card);
+    assert.equal(before + part + after, long);
+    assert.deepEqual(told, {first, cards: 5000});
+    assert.ok(part.startsWith(`NOOP ; ${first + 1}\n`) && part.trimEnd().split('\n').length === 400 && (after === '' || after.startsWith('\n')), `card ${card}`);
+  }
+  assert.deepEqual([0, 1, 2, 3].map(card => startOf('a\nbc\nd', card)), [0, 2, 5, 6]);
+});
+
 test('the words of MESSAGES', () => {
   assert.deepEqual(explained(rows, 'ASM 35 REASON 1').card, 35);
   assert.match(explained(rows, 'ASM 35 REASON 1').means, /^Card 35 has an unknown mnemonic/);
@@ -116,7 +135,7 @@ test('the words of MESSAGES', () => {
 test('decks in the page', () => {
   const found = decksOf('#DECK a 256\n#ABOUT It does nothing.\n?JOB A\n?ASM\nEXIT\n?END\n#DECK b 700\n#ABOUT Nor this.\n?JOB B\n');
   assert.deepEqual(found.get('a'), {name: 'a', core: 256, about: 'It does nothing.', text: '?JOB A\n?ASM\nEXIT\n?END\n'});
-  assert.deepEqual([...found.keys()], ['a', 'b']);
+  assert.deepEqual([...found.keys()], ['start', 'a', 'b']);
 });
 
 test('each key does one thing', () => {
@@ -160,7 +179,7 @@ test('what a card’s operator does', () => {
 
 test('each deck of the page is in one group', () => {
   const grouped = GROUPS.flatMap(([, names]) => names);
-  assert.deepEqual(grouped.toSorted(), decks().map(deck => deck.name).toSorted());
+  assert.deepEqual(grouped.toSorted(), [START, ...decks()].map(deck => deck.name).toSorted());
 });
 
 test('what is followed', () => {
@@ -177,9 +196,9 @@ test('what is followed', () => {
 });
 
 test('lessons lead to moments of decks that are there', () => {
-  const names = new Map(decks().map(deck => [deck.name, deck.core]));
+  const names = new Map([START, ...decks()].map(deck => [deck.name, deck.core]));
   for (const address of momentsOfLessons()) {
-    const moment = momentOf(address);
+    const moment = placeOf(address);
     assert.ok(names.has(moment.deck) && moment.count !== null, address);
     assert.ok(moment.core >= names.get(moment.deck), address);
   }

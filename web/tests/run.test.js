@@ -21,7 +21,7 @@ const FOUND = {
     ['task', 1, 1, null], ['paging', 24, 1, null], ['paging', 27, -1, 24], ['store', 0, 1, 20, '1.1 1 3array'], ['store', 20, 1, null, '1.1 1 3array']],
   switched: [['task', 1, 1, 8], ['task', 8, 1, 14], ['task', 14, -1, 8], ['fault', 0, 1, 13], ['store', 0, 1, 12, '1.1 1 2'],
     ['store', 12, 1, 17, '1.1 1 2'], ['store', 17, -1, 12, '1.1 1 2'], ['store', 17, 1, null, '1.1 1 2']],
-  jensen: [['out', 17, 1, 20], ['over', 16, 1, 20], ['out', 20, -1, 12]],
+  jensen: [['out', 17, 1, 20], ['over', 16, 1, 20], ['out', 20, -1, 12], ['deepest', 40, 1, 17]],
   fault: [['fault', 0, 1, 69], ['line', 69, -1, 59]],
 };
 

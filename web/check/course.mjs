@@ -1,0 +1,161 @@
+// The course in a browser: each task of each lesson is done wrongly and then rightly; a teacher's sheet; and what is handed in.
+import {TASKS} from '../course.js';
+import {packedText, unpacked} from '../share.js';
+import {FOUND, LEAST_OF_TEN, PREDICTED, SEARCHED, WRITTEN} from '../tests/answers.js';
+
+const DONE = "document.getElementById('task').className === 'done'";
+
+async function isDone(it, seconds = 0) {
+  if (seconds) await it.browser.until(DONE, seconds).catch(() => {});
+  return it.browser.value(DONE);
+}
+// Opens a task, and leaves the keyboard to the page.
+async function begins(it, hash) {
+  await it.opens(hash);
+  await it.browser.value('document.activeElement.blur(); 0');
+}
+
+async function answers(it, answer) {
+  await it.until("document.querySelector('#quiz form')", 20);
+  await it.browser.value(`{ const quiz = document.getElementById('quiz'), field = quiz.querySelector('input'), answer = ${JSON.stringify(answer)};
+    if (field) { field.value = answer; quiz.querySelector('form').requestSubmit(); }
+    else [...quiz.querySelectorAll('button')].find(it => it.textContent === answer).click(); } 0`);
+  await it.until("/Right:|No:/.test(document.getElementById('quiz').textContent)", 20);
+}
+async function predicts(it, {id}, hash) {
+  for (const [answer, right] of [[PREDICTED[id][1], false], [PREDICTED[id][0], true]]) {
+    await begins(it, hash);
+    await answers(it, answer);
+    it.wants(await isDone(it, right ? 20 : 0) === right, `task ${id}: ${answer} is marked ${right ? 'wrong' : 'right'}`);
+  }
+}
+
+async function finds(it, {id}, hash) {
+  await begins(it, hash);
+  if (SEARCHED[id]) {
+    await it.pressed(`task ${id}`, it.deck('two'), 'End');
+    it.wants(!await isDone(it), `task ${id} is done in the core with which it opens`);
+    await it.types(undefined, SEARCHED[id]);
+    await it.state();
+    await it.browser.value('document.activeElement.blur(); 0');
+    await it.browser.press('End');
+  } else {
+    await it.goes(FOUND[id][1]);
+    it.wants(!await isDone(it), `task ${id} is done at operator ${FOUND[id][1]}`);
+    await it.goes(FOUND[id][0]);
+  }
+  it.wants(await isDone(it, 30), `task ${id} isn't done: ${await it.shown('#task')}`);
+}
+
+async function runsOrChecks(it, task) {
+  await it.click(task.refused ? '#check' : '#run');
+}
+async function writes(it, task, hash) {
+  const {id} = task;
+  await begins(it, hash);
+  if (task.resumed) {
+    await it.click('#run');
+    it.wants(!await isDone(it), `task ${id} is done by Run`);
+    await it.browser.value("document.getElementById('more').open = true; 0");
+    for (const button of ['#image', '#resume']) await it.click(button);
+  } else for (const right of [false, true]) {
+    await it.types(WRITTEN[id][right ? 0 : 1], task.leastCore ? LEAST_OF_TEN + (right ? 0 : 1) : undefined);
+    await runsOrChecks(it, task);
+    if (!right) it.wants(!await isDone(it), `task ${id} is done by a deck that doesn't: ${await it.shown('#task')}`);
+  }
+  it.wants(await isDone(it, 30), `task ${id} isn't done: ${await it.shown('#task')} ${await it.shown('#outcome')}`);
+}
+
+// Each task of each lesson, wrongly and then rightly; marks are there after a reload.
+export async function course(it) {
+  await it.browser.value('localStorage.clear(); 0');
+  await it.opensPage('?compare');
+  for (const task of TASKS) await {predict: predicts, find: finds, write: writes}[task.kind](it, task, `task:${task.id}`);
+  await it.reloads();
+  it.wants(await it.shown('#lessons-button') === `Lessons ${TASKS.length}/${TASKS.length}`, `marks after a reload: ${await it.shown('#lessons-button')}`);
+  it.wants(/no task 9\.9/.test((await it.opens('task:9.9')).message), 'a task that isn’t there: no sentence');
+  await it.opens('jensen,4096,30');
+  const lines = await it.browser.value("['now', 'next'].map(kind => document.querySelector(`#algol .${kind}`)?.textContent.trim() ?? '').join('|')");
+  it.wants(lines === 'do total := total + term;|i × i))', `beside card 30 stand ${lines}`);
+  await handsIn(it);
+}
+
+// The one link of all that was done, as a teacher sees it.
+async function handsIn(it) {
+  const {browser} = it;
+  await browser.value("document.getElementById('lessons').hidden || 0, document.getElementById('pupil').value = 'Ada'; 0");
+  await it.opens('lesson:1');
+  await browser.value("[...document.querySelectorAll('#lessons button')].find(it => it.textContent === 'Hand in').click(); 0");
+  await it.until("document.getElementById('link-dialog').open");
+  const address = await browser.value("document.getElementById('link-text').value");
+  it.wants(address.length < 12000, `the link has ${address.length} characters`);
+  await browser.value("document.getElementById('link-dialog').close(); localStorage.clear(); 0");
+  await browser.opens('about:blank');
+  await browser.opens(address);
+  await it.ready();
+  it.wants(/^Handed in by Ada: 29 of 29/.test(await it.shown('#hand-view h2')), `what was handed in: ${await it.shown('#hand-view h2')}`);
+  await it.click('#again');
+  it.wants(/^Done again: 24\. Answers to questions.*: 5\. Not so: 0\.$/.test(await it.shown('#again-said')), `done again: ${await it.shown('#again-said')}`);
+  await browser.value(`document.getElementById('class-links').value = ${JSON.stringify(`Ada: ${address}\nBo: ${address.slice(0, -40)}`)}; 0`);
+  await it.click('#class-show');
+  it.wants(await browser.value("document.querySelectorAll('#class-table tr').length") === 2 && /1 of the links/.test(await it.shown('#class-table p')), 'the table of a class');
+  await browser.value("document.querySelector('[data-hand=\"1.5\"] a').click(); 0");
+  const state = await it.state();
+  it.wants(state.text === WRITTEN['1.5'][0], 'the deck of a task that was handed in');
+}
+
+const SHEET = `title: Check
+task: Thirty
+ask: Let it print 30.
+prints: 1.1 30
+prints: 1.1 ENDED
+deck:
+${WRITTEN['1.5'][0].trim()}
+
+task: The store
+ask: Go to the first store into 2,2.
+on: switched
+core: 685
+find: store 2,2
+first: yes
+
+task: The sum
+ask: What does ADD leave?
+on: sum
+predict: 4
+`;
+
+// A teacher's own tasks, sent as a link: each is done wrongly and then rightly.
+export async function sheets(it) {
+  const packed = await packedText(SHEET);
+  await begins(it, `sheet:${packed}`);
+  await it.click('#run');
+  it.wants(!await isDone(it), 'a sheet’s task is done by the deck with which it opens');
+  await it.types(WRITTEN['1.5'][0].replace('42', '30'));
+  await it.click('#run');
+  it.wants(await isDone(it, 30), `a sheet’s task isn’t done: ${await it.shown('#task')}`);
+  await begins(it, `sheet:${packed},2`);
+  await it.goes(17);
+  it.wants(!await isDone(it), 'a later moment is taken for the first one');
+  await it.goes(12);
+  it.wants(await isDone(it, 30), `a sheet’s moment isn’t found: ${await it.shown('#task')}`);
+  for (const [answer, right] of [['6', false], ['5', true]]) {
+    await begins(it, `sheet:${packed},3`);
+    await answers(it, answer);
+    it.wants(await isDone(it, right ? 20 : 0) === right, `a sheet’s question: ${answer}`);
+  }
+  await writesSheet(it);
+}
+
+// The editor of sheets: what is wrong is said with its line, and the link leads to the tasks.
+async function writesSheet(it) {
+  const {browser} = it, types = text => browser.value(`{ const it = document.getElementById('sheet-text'); it.value = ${JSON.stringify(text)}; it.dispatchEvent(new Event('input')); } document.getElementById('sheet-said').textContent`);
+  await browser.value("[...document.querySelectorAll('#lessons button')].find(it => /Write tasks/.test(it.textContent)).click(); 0");
+  it.wants(/^Line 2 of the sheet: print: is no word/.test(await types('task: A\nprint: 5\n')), 'a wrong line of a sheet');
+  it.wants(/^3 tasks: write 1, find 2, predict 3/.test(await types(SHEET)), 'a right sheet');
+  await browser.click('#sheet-link');
+  await it.until("document.getElementById('link-dialog').open");
+  const address = await browser.value("document.getElementById('link-text').value");
+  it.wants(await unpacked(address.split('#sheet:')[1] ?? '').catch(() => '') === SHEET, `the link of a sheet: ${address.slice(-60)}`);
+  await browser.value("document.getElementById('link-dialog').close(); 0");
+}

@@ -1,0 +1,99 @@
+// Decks in the page beside the native program: each is run and stepped through, each key is pressed, two cores are shown side by side.
+import {told} from './tried.mjs';
+
+const STEPS = 12; // of each deck
+const KEYED = ['two', 'dining']; // in these every key is pressed
+
+async function runs(it, {name, text, core}) {
+  await it.opens(`${name},${core}`);
+  const {ran} = await it.click('#run'), native = it.run(text, core);
+  it.wants(ran && ran.status === native.status && ran.text === native.text, `${name}: Run gives ${ran?.status} ${told(ran?.text)}`);
+}
+
+// Forth by keys, to the end at once, and back from there.
+async function steps(it, {name, text, core}) {
+  let state = await it.opens(`${name},${core},0`);
+  it.wants(state.view === 'step' && state.count === 0, `${name}: operator 0 isn't shown, but ${state.view} ${state.count}: ${state.message}`);
+  for (let k = 0; k < STEPS && state.end === null; k++) {
+    const {count} = state;
+    state = await it.pressed(name, text, 'ArrowRight');
+    it.wants(state.count === count + 1, `${name}: a step from ${count} leads to ${state.count}`);
+  }
+  const last = await it.pressed(name, text, 'End');
+  it.wants(last.end !== null, `${name}: End shows no end`);
+  const before = await it.pressed(name, text, 'ArrowLeft');
+  it.wants(before.count === last.count - 1, `${name}: a step back from ${last.count} leads to ${before.count}`);
+}
+
+// Every key of the list, there and with shift, from the middle; what opens a panel is pressed twice, and a way out is at hand.
+async function keys(it, {name, text, core}) {
+  for (const {key, shift} of await it.browser.value('b67.keys')) for (const with_shift of shift ? [false, true] : [false]) {
+    await it.opens(`${name},${core},9`);
+    const state = await it.pressed(name, text, key, with_shift);
+    if (state.count === 9) await it.pressed(name, text, key, with_shift);
+    await it.browser.press('Escape');
+  }
+}
+
+export async function each_deck(it) {
+  for (const deck of it.decks()) {
+    await runs(it, deck);
+    await steps(it, deck);
+    if (KEYED.includes(deck.name)) await keys(it, deck);
+  }
+}
+
+export async function two_cores(it) {
+  for (const [name, core, other] of [['two', 630, 4096], ['rivals', 505, 1048575], ['ten', 533, 4096]]) for (const count of [5, 20, 26]) {
+    const state = await it.opens(`${name},${core},${count},${other}`);
+    it.wants(state.other?.core === other, `${name}: no second core is shown`);
+    it.compares(`${name}, two cores`, state, it.deck(name));
+  }
+}
+
+// What is followed, and the next store into it; a search that finds nothing stays and says so.
+export async function follows(it) {
+  const {browser} = it, shown = () => browser.value("document.getElementById('followed').hidden ? '' : document.getElementById('followed').innerText");
+  await it.opens('switched,685,6');
+  await browser.press('v');
+  it.wants(/^follows cell 2,2, in record 1 of task 1\.1: 0/.test(await shown()), `v follows ${told(await shown())}`);
+  for (const [key, shift, count] of [['n', false, 12], ['n', false, 17], ['n', false, 17], ['n', true, 12]]) {
+    const from = (await it.state()).count, state = await it.pressed('switched', it.deck('switched'), key, shift);
+    it.wants(state.count === count && Boolean(state.message) === (from === count), `${key} from ${from} leads to ${state.count}: ${state.message}`);
+  }
+  await browser.click('#stacks .followed');
+  it.wants(await shown() === '', 'a click on the cell that is followed: it still is');
+  await browser.click('#stacks .tag-7');
+  it.wants(/^follows cell 2,3/.test(await shown()), `a click on cell 2,3 follows ${told(await shown())}`);
+  await it.opens('two,630,20');
+  await browser.click('#memory [data-follow]');
+  it.wants(/^follows array 2,2/.test(await shown()), `a click on an array follows ${told(await shown())}`);
+  await it.opens('two,630,24');
+  const last = await it.pressed('two', it.deck('two'), 'g');
+  it.wants(last.count === 24 && last.message, `with no paging left g leads to ${last.count}: ${last.message}`);
+}
+
+// By keys alone, and by ear: each step is one sentence, and up and down lead through the cells, whose words are said.
+export async function aloud(it) {
+  const {browser} = it, spoken = () => browser.value("document.getElementById('spoken').textContent");
+  const says = async (pattern, what) => {
+    await browser.until(`${pattern}.test(document.getElementById('spoken').textContent)`, 10).catch(() => {});
+    it.wants(pattern.test(await spoken()), `${what}: it says ${told(await spoken())}`);
+  };
+  await it.opens('two,630,19');
+  await browser.press('ArrowRight');
+  await says(/^Operator 20, card 25, STOD, of task 1\.1: .*leaves core array 2,2.*Next: card 26/, 'a step');
+  await it.opens('switched,685,6');
+  await browser.press('ArrowUp');
+  await says(/^Cell 2,4, in record 1 of task 1\.1: tag 0, 2\. It is the top/, 'up to the top of the stack');
+  for (let k = 0; k < 2; k++) await browser.press('ArrowDown');
+  await says(/^Cell 2,2, in record 1 of task 1\.1: tag 0, 0\.$/, 'down twice');
+  await browser.press('v');
+  it.wants(/^follows cell 2,2/.test(await browser.value("document.getElementById('followed').innerText")), 'v follows another cell than the one that was walked to');
+  it.wants(await browser.value("document.querySelectorAll('[aria-live]:not(#spoken):not(#outcome)').length") === 0, 'more than one part of the page speaks at a step');
+  await browser.value("document.activeElement.blur(); document.getElementById('cards').focus(); 0");
+  for (const key of ['ArrowDown', 'ArrowDown']) await browser.press(key);
+  await browser.press('Enter');
+  await it.state();
+  it.wants(await browser.value("document.querySelectorAll('#cards .stopped').length") === 1, 'a breakpoint by keys in the list of cards');
+}

@@ -1,0 +1,132 @@
+// What carries WebDriver's commands to a browser: chromedriver by HTTP, and Firefox's Marionette by a socket. Debian has no geckodriver,
+// so Marionette, under which geckodriver would work, is spoken to itself: a message is JSON after its length.
+import {spawn} from 'node:child_process';
+import fs from 'node:fs';
+import net from 'node:net';
+import os from 'node:os';
+import path from 'node:path';
+
+// Of each command that is used: chromedriver's method and address.
+const COMMANDS = {SetTimeouts: ['POST', 'timeouts'], Navigate: ['POST', 'url'], Refresh: ['POST', 'refresh'], ExecuteAsyncScript: ['POST', 'execute/async'],
+  PerformActions: ['POST', 'actions'], TakeScreenshot: ['GET', 'screenshot']};
+const FLAGS = ['--headless=new', '--disable-gpu', '--disable-dev-shm-usage', '--no-first-run', '--disable-extensions', '--disable-background-networking', '--hide-scrollbars'];
+
+function roomFor(name) {
+  return fs.mkdtempSync(path.join(os.tmpdir(), `b67-${name}-`));
+}
+
+// Waits for a child's end, then makes it end, and removes its room.
+async function ended(child, room) {
+  await Promise.race([new Promise(goes => (child.exitCode === null ? child.once('exit', goes) : goes())), new Promise(goes => setTimeout(goes, 8000))]);
+  child.kill('SIGKILL');
+  fs.rmSync(room, {recursive: true, force: true, maxRetries: 5});
+}
+
+export class Chromedriver {
+  static async started(program) {
+    const it = new Chromedriver(), alone = process.getuid?.() === 0 ? ['--no-sandbox'] : []; // root has no sandbox
+    it.room = roomFor('chromium');
+    it.child = spawn(process.env.CHROMEDRIVER ?? 'chromedriver', ['--port=0'], {stdio: ['ignore', 'pipe', 'ignore'], env: {...process.env, TMPDIR: it.room}});
+    it.address = `http://127.0.0.1:${await it.port()}/session`;
+    const options = {binary: program, args: [...FLAGS, ...alone, `--user-data-dir=${it.room}/profile`]};
+    const wanted = {browserName: 'chrome', 'goog:chromeOptions': options, 'goog:loggingPrefs': {browser: 'ALL'}};
+    const {sessionId} = await it.asks('POST', '', {capabilities: {alwaysMatch: wanted}});
+    it.address += `/${sessionId}`;
+    return it;
+  }
+  port() {
+    return new Promise((goes, fails) => {
+      let said = '';
+      this.child.stdout.setEncoding('utf8').on('data', text => { const found = /successfully on port (\d+)/.exec(said += text); if (found) goes(found[1]); });
+      this.child.once('error', () => fails(new Error('chromedriver isn’t there (Debian: chromium-driver)')));
+      this.child.once('exit', () => fails(new Error(`chromedriver has ended: ${said}`)));
+    });
+  }
+
+  async asks(method, name, data) {
+    const answer = await fetch(name ? `${this.address}/${name}` : this.address, {method, ...(data && {body: JSON.stringify(data)})}), {value} = await answer.json();
+    if (!answer.ok) throw new Error(value.message);
+    return value;
+  }
+  call(command, data = {}) {
+    const [method, name] = COMMANDS[command];
+    return this.asks(method, name, method === 'POST' ? data : undefined);
+  }
+  devtools(cmd, params) {
+    return this.asks('POST', 'goog/cdp/execute', {cmd, params});
+  }
+  log() {
+    return this.asks('POST', 'se/log', {type: 'browser'});
+  }
+  async ends() {
+    await this.asks('DELETE', '').catch(() => {});
+    this.child.kill();
+    await ended(this.child, this.room);
+  }
+}
+
+// A port that nobody uses.
+function freePort() {
+  return new Promise(goes => {
+    const server = net.createServer().listen(0, '127.0.0.1', () => {
+      const {port} = server.address();
+      server.close(() => goes(port));
+    });
+  });
+}
+
+async function connected(port) {
+  for (let k = 0; k < 300; k++) {
+    const socket = net.connect(port, '127.0.0.1');
+    if (await new Promise(goes => socket.once('connect', () => goes(true)).once('error', () => goes(false)))) return socket;
+    await new Promise(goes => setTimeout(goes, 200));
+  }
+  throw new Error('Firefox doesn’t answer');
+}
+
+export class Marionette {
+  static async started(program) {
+    const it = new Marionette(), port = await freePort();
+    Object.assign(it, {room: roomFor('firefox'), waiting: new Map(), calls: 0, rest: Buffer.alloc(0)});
+    fs.writeFileSync(path.join(it.room, 'user.js'), `user_pref('marionette.port', ${port});\nuser_pref('app.update.enabled', false);\n`);
+    it.child = spawn(program, ['--headless', '--marionette', '--remote-allow-system-access', '--profile', it.room, '--no-remote'], {stdio: 'ignore', env: {...process.env, HOME: it.room}});
+    it.socket = await connected(port);
+    it.socket.on('data', bytes => it.hears(bytes));
+    await it.call('NewSession');
+    return it;
+  }
+
+  hears(bytes) {
+    this.rest = Buffer.concat([this.rest, bytes]);
+    for (let colon = this.rest.indexOf(58); colon > 0; colon = this.rest.indexOf(58)) {
+      const end = colon + 1 + Number(this.rest.subarray(0, colon));
+      if (this.rest.length < end) return;
+      const message = JSON.parse(this.rest.subarray(colon + 1, end));
+      this.rest = this.rest.subarray(end);
+      if (Array.isArray(message)) this.takes(message);
+    }
+  }
+  takes([, id, error, result]) {
+    const [answers, fails] = this.waiting.get(id);
+    this.waiting.delete(id);
+    if (error) fails(new Error(error.message));
+    else answers(result && 'value' in result ? result.value : result);
+  }
+
+  call(command, data = {}, family = 'WebDriver') {
+    const id = ++this.calls, text = JSON.stringify([0, id, `${family}:${command}`, data]);
+    this.socket.write(`${Buffer.byteLength(text)}:${text}`);
+    return new Promise((answers, fails) => this.waiting.set(id, [answers, fails]));
+  }
+
+  // Sets one of Firefox's own settings.
+  async setting(name, value) {
+    await this.call('SetContext', {value: 'chrome'}, 'Marionette');
+    await this.call('ExecuteScript', {script: `Services.prefs.setIntPref('${name}', ${value})`, args: []});
+    await this.call('SetContext', {value: 'content'}, 'Marionette');
+  }
+  async ends() {
+    this.call('Quit', {flags: ['eForceQuit']}, 'Marionette').catch(() => {});
+    await ended(this.child, this.room);
+  }
+}

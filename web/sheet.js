@@ -1,0 +1,107 @@
+// A sheet: tasks of a teacher's own, written as a text. A line is a word, a colon and what it says; the cards of a deck stand below `deck:`,
+// up to the next `task:`. `title:` may stand before the first task. The words of a task:
+//
+//     task: a name              ask: the question; several lines are one text
+//     deck: the cards below     on: a deck of the page            core: words of core        at: the operator at which it opens
+//     prints: a line (all of them, in order)    refused: ASM 6 REASON 1      has: a text of the deck       lacks: another
+//     find: a condition (all must hold)         first: yes                   predict: the operator before the question
+import {allOf, conditionOf, CONDITIONS} from './conditions.js';
+
+const MANY = ['ask', 'prints', 'has', 'lacks', 'find'];
+const ONE = ['on', 'core', 'at', 'refused', 'first', 'predict'];
+export const EXAMPLE = `title: A sheet of my own
+
+task: Two and three
+ask: Change the deck so that it prints 7.
+prints: 1.1 7
+prints: 1.1 ENDED
+core: 4096
+deck:
+?JOB SUM
+?ASM
+SEGMENT MAIN 2
+MKST
+NAMC 0,9
+LT8 2
+LT8 3
+ADD
+ENTR
+EXIT
+?END
+
+task: Which array leaves?
+ask: Two arrays, and a core with room for one. Go to the operator at which an array leaves core for the first time.
+on: two
+core: 630
+find: leaves core
+find: operator STOD
+first: yes
+`;
+
+class SheetRefused extends Error {
+  constructor(line, sentence) {
+    super(`Line ${line} of the sheet: ${sentence}`);
+  }
+}
+
+// The lines of a task: a list of texts for each word that may stand more than once, else a text; the deck's cards; and where it begins.
+function newTask(name, line) {
+  return {name, line, ask: [], prints: [], has: [], lacks: [], find: [], cards: null};
+}
+
+function takeLine(task, word, text, line) {
+  if (MANY.includes(word)) task[word].push(text);
+  else if (ONE.includes(word) && task[word] === undefined) task[word] = text;
+  else throw new SheetRefused(line, ONE.includes(word) ? `${word}: stands twice in one task.` : `${word}: is no word of a sheet: they are task, ask, deck, on, core, at, prints, refused, has, lacks, find, first, predict.`);
+  if (word === 'find' && !conditionOf(text)) throw new SheetRefused(line, `“${text}” is no condition. Some are: ${CONDITIONS.join('; ')}.`);
+  if (['core', 'at', 'predict'].includes(word) && !/^\d+$/.test(text)) throw new SheetRefused(line, `${word}: wants a number.`);
+}
+
+// The parts of a text: its title, and its tasks as they are written.
+function partsOf(text) {
+  const tasks = [], lines = text.replaceAll('\r', '').split('\n');
+  let title = '';
+  lines.forEach((line, k) => {
+    const task = tasks.at(-1), begins = /^task:\s*(.*)$/.exec(line), found = /^([a-z]+):\s*(.*?)\s*$/.exec(line);
+    if (begins) tasks.push(newTask(begins[1].trim(), k + 1));
+    else if (task?.cards) task.cards.push(line);
+    else if (found?.[1] === 'title' && !task) title = found[2];
+    else if (found?.[1] === 'deck' && task) task.cards = found[2] ? [found[2]] : [];
+    else if (found && task) takeLine(task, found[1], found[2], k + 1);
+    else if (line.trim()) throw new SheetRefused(k + 1, task ? 'a line is a word, a colon, and a text, as in ask: What is printed?' : 'a sheet begins with title: or task:.');
+  });
+  if (!tasks.length) throw new SheetRefused(lines.length, 'it has no task: write task: and a name.');
+  return {title, tasks};
+}
+
+// The kind of a task, by what must hold.
+function kindOf({prints, refused, find, predict, line}) {
+  const kinds = [predict !== undefined && 'predict', find.length && 'find', (prints.length || refused) && 'write'].filter(Boolean);
+  if (kinds.length === 1) return kinds[0];
+  throw new SheetRefused(line, kinds.length ? `this task is of several kinds: ${kinds.join(', ')}. Make a task of each.` : 'nothing says when this task is done: prints:, refused:, find: or predict:.');
+}
+
+// A task of a sheet as the course has tasks.
+function taskOf(written, number, key, decks) {
+  const {name, ask, prints, refused, has, lacks, find, first, predict, on, at, core, line} = written, kind = kindOf(written);
+  if (!ask.length) throw new SheetRefused(line, 'this task asks nothing: write ask: and a question.');
+  if (on && !decks.has(on)) throw new SheetRefused(line, `the page has no deck ${on}.`);
+  const text = written.cards && `${written.cards.join('\n').trim()}\n`;
+  if (kind !== 'write' && !text && !on) throw new SheetRefused(line, 'this task wants a deck: deck: with cards below it, or on: and a name.');
+  return {id: `${key}/${number}`, sheet: key, number, kind, name, text: ask.join(' '), has, lacks, deck: text, on,
+    core: Number(core ?? (on ? decks.get(on).core : 4096)), count: at === undefined && kind === 'write' ? null : Number(predict ?? at ?? 0),
+    ...(kind === 'find' && {find, holds: allOf(find), first: /^y/.test(first ?? '')}), ...(prints.length && {lines: prints}), ...(refused && {refused: new RegExp(`^${refused.replace(/[^A-Z0-9 ]/g, '')}\\b`), refusal: refused})};
+}
+
+// A short name for a text, by which its marks are kept.
+function keyOf(text) {
+  let sum = 2166136261;
+  for (const sign of text) sum = Math.imul(sum ^ sign.codePointAt(0), 16777619);
+  return `s${(sum >>> 0).toString(36)}`;
+}
+
+// The sheet that a text is: {key, title, text, tasks}; fails with the line and a sentence. `decks` are those of the page.
+export function sheetOf(text, decks) {
+  const {title, tasks} = partsOf(text), key = keyOf(text);
+  return {key, title: title || 'Tasks of your teacher', text, tasks: tasks.map((task, k) => taskOf(task, k + 1, key, decks))};
+}

@@ -1,0 +1,118 @@
+// A teacher's sheets, what is handed in, names for cells, and what is said of a step. B67 names the native program.
+import assert from 'node:assert/strict';
+import {after, test} from 'node:test';
+import {setImmediate as turn} from 'node:timers/promises';
+import {Native, decks} from './native.js';
+import {FOUND, WRITTEN} from './answers.js';
+import {CONDITIONS, conditionOf} from '../conditions.js';
+import {TASKS} from '../course.js';
+import {doneAgain, handedIn, handsIn, packedHand} from '../handin.js';
+import {namesIn, NamesRefused, withoutNames} from '../names.js';
+import {isFound, isWritten} from '../progress.js';
+import {runWords, textOf} from '../program.js';
+import {EXAMPLE, sheetOf} from '../sheet.js';
+import {sentenceOf} from '../speech.js';
+import {cellWords, nextCell} from '../walk.js';
+import {Desk} from '../worker.js';
+
+const native = new Native(process.env.B67 ?? 'b67');
+after(() => native.close());
+const PAGE = new Map(decks().map(deck => [deck.name, deck]));
+
+function deskOf() {
+  const desk = new Desk(() => {});
+  desk.program = native;
+  return desk;
+}
+const asker = desk => async (name, data) => desk[name](data);
+
+test('the example of a sheet is done rightly and wrongly', async () => {
+  await turn();
+  const {title, tasks: [write, find]} = sheetOf(EXAMPLE, PAGE), desk = deskOf();
+  assert.equal(title, 'A sheet of my own');
+  const runs = text => {
+    const words = runWords(write.core), {status, bytes} = native.call(words, text);
+    return isWritten(write, {words, text, status, printed: textOf(bytes), core: write.core});
+  };
+  assert.deepEqual([runs(write.deck.replace('LT8 2', 'LT8 4')), runs(write.deck)], [true, false]);
+  const {text} = PAGE.get('two'), sees = count => isFound(find, {name: 'two', text}, desk.state({deck: text, core: 630, count}));
+  assert.deepEqual([20, 19, 23].map(sees), [true, false, false]);
+  assert.deepEqual([20, 23].map(count => desk.isFirst({deck: text, core: 630, find: find.find, count})), [true, false]);
+});
+
+test('a sheet that is none says which line is wrong', () => {
+  const wrong = [['', /Line 1 .* no task/], ['what', /Line 1 .* begins with title: or task:/], ['task: A\nask: B\n', /Line 1 .* nothing says when/], ['task: A\nask: B\nprint: 1\n', /Line 3 .* print: is no word/],
+    ['task: A\nprints: 1.1 5\n', /Line 1 .* asks nothing/], ['task: A\nask: B\nfind: the end\non: two\n', /Line 3 .*“the end” is no condition/], ['task: A\nask: B\nfind: card 3\n', /wants a deck/],
+    ['task: A\nask: B\nfind: card 3\non: none\n', /has no deck none/], ['task: A\nask: B\nfind: card 3\non: two\nprints: 1\n', /several kinds/], ['task: A\nask: B\ncore: many\n', /Line 3 .* wants a number/],
+    ['task: A\nask: B\ncore: 1\ncore: 2\n', /Line 4 .* twice/]];
+  for (const [text, sentence] of wrong) assert.throws(() => sheetOf(text, PAGE), {message: sentence}, text);
+});
+
+test('each form of a condition holds at one moment and not at another', async () => {
+  const held = [['operator STOD', 'two', 630, 20, 19], ['card 25', 'two', 630, 20, 19], ['task 1.2', 'switched', 685, 8, 7], ['cell 2,2 = 1', 'switched', 685, 12, 11], ['store 2,2', 'jensen', 4096, 21, 20],
+    ['records 4', 'factorial', 4096, 24, 6], ['waiting 4', 'dining', 3258, 154, 20], ['leaves core', 'two', 630, 20, 18], ['comes into core', 'two', 630, 17, 16], ['prints 1.1 23', 'two', 630, 26, 25],
+    ['fault CRITICAL BLOCK', 'critical', 4096, null, 1]];
+  for (const [condition, name, core, right, wrong] of held) {
+    await turn();
+    const desk = deskOf(), {text} = PAGE.get(name), at = count => conditionOf(condition)(desk.state({deck: text, core, count}));
+    assert.deepEqual([at(right ?? desk.firstFault({deck: text, core})), at(wrong)], [true, false], condition);
+  }
+  for (const form of CONDITIONS) assert.ok(conditionOf(form), form);
+  assert.equal(conditionOf('cell 2,2'), null);
+});
+
+test('what a pupil hands in is one address, and each work is done again', async () => {
+  const work = new Map([['1.5', {deck: WRITTEN['1.5'][0], core: 4096}], ['1.3', {deck: WRITTEN['1.3'][1], core: 4096}], ['5.1', {deck: 'two', core: 630, count: FOUND['5.1'][0]}],
+    ['4.2', {deck: 'switched', core: 685, count: FOUND['4.2'][1]}], ['6.1', {deck: 'two', core: 630, halt: 20}], ['1.1', {deck: 'sum', core: 4096, count: 4}], ['5.4', {deck: 'ten', core: 534}]]);
+  const packed = await packedHand({name: 'Ada Ü', version: '1.4.0', work}), hand = await handedIn(packed);
+  assert.match(packed, /^[\w-]+$/);
+  assert.deepEqual([hand.name, hand.version, [...hand.work.keys()]], ['Ada Ü', '1.4.0', [...work.keys()]]);
+  const desk = deskOf(), again = [];
+  for (const [id, its] of hand.work) {
+    await turn();
+    again.push(await doneAgain(asker(desk), TASKS.find(task => task.id === id), its, PAGE));
+  }
+  assert.deepEqual(again, [true, false, true, false, true, null, false]);
+  assert.deepEqual(handsIn(`Ada: b67.html#hand:${packed}\nBo <file:///b67.html#hand:abc-_1>, again #hand:abc-_1`), [packed, 'abc-_1']);
+  await assert.rejects(handedIn(packed.slice(0, -9)), /isn’t whole|no work/);
+});
+
+const NAMED = '?JOB A\n?ASM\n; the sum\nSEGMENT MAIN 2\nCELL total 2,2\nZERO\nL: VALC total  ; the sum\nNAMC total\nSTOD\nCELL total 2,3 ; another\nVALC total\nEXIT\n?END\n';
+
+test('names for cells become couples, and each card keeps its number', () => {
+  assert.equal(withoutNames(NAMED), '?JOB A\n?ASM\n; the sum\nSEGMENT MAIN 2\n; CELL total 2,2\nZERO\nL: VALC 2,2  ; the sum\nNAMC 2,2\nSTOD\n; CELL total 2,3 ; another\nVALC 2,3\nEXIT\n?END\n');
+  for (const {text} of PAGE.values()) assert.equal(withoutNames(text), text);
+  const long = `?ASM\nCELL a 2,2\nVALC a ${';'.padEnd(73, 'x')}\nCELL abcdefghijklmnop 2,2 ; ${'x'.repeat(51)}\n`;
+  assert.ok(withoutNames(long).split('\n').every(card => card.length <= 80));
+  for (const [cards, card, sentence] of [['VALC a', 3, /no CELL line before it says which cell a is/], ['CELL a 2,2\n?END\n?JOB B\n?ASM\nNAMC a', 7, /no CELL line/], ['CELL A 2,2', 3, /A is no name/],
+    ['CELL abcdefghijklmnopq 2,2', 3, /is no name/], ['CELL a 2', 3, /a CELL line is/], ['CELL', 3, /a CELL line is/], ['NAMC a-b', 3, /no CELL line/]]) {
+    assert.throws(() => withoutNames(`?JOB A\n?ASM\n${cards}\n`), error => error instanceof NamesRefused && error.card === card && sentence.test(error.message), cards);
+  }
+});
+
+test('a cell of the picture has its name: that of its own procedure', async () => {
+  await turn();
+  const deck = withoutNames('?JOB A\n?ASM\nSEGMENT MAIN 2\nCELL p 2,2\nCELL q 2,3\nMPCW P\nMPCW Q\nMKST\nNAMC p\nLT8 7\nENTR\nMKST\nNAMC q\nLT8 8\nENTR\nEXIT\n'
+    + 'SEGMENT P 3\nCELL left 3,2\nVALC left\nDLET\nEXIT\nSEGMENT Q 3\nCELL right 3,2\nVALC right\nDLET\nEXIT\n?END\n');
+  const desk = deskOf(), names = count => desk.state({deck, core: 4096, count}).tasks[0].records.flatMap(record => record.cells.map(cell => cell.name ?? '')).filter(Boolean);
+  assert.deepEqual(names(6), ['p', 'q', 'left']);
+  assert.deepEqual(names(13), ['p', 'q', 'right']);
+  assert.equal(namesIn(deck)[0].cells.length, 4);
+  const state = desk.state({deck, core: 4096, count: 7});
+  assert.ok(state.changes.some(it => /cell 3,2 left/.test(it.text)), JSON.stringify(state.changes));
+  assert.match(cellWords(state, '1.1 2 2'), /^Cell 3,2 left, in record 2 of task 1\.1: tag 0, 7\./);
+});
+
+test('a step is one sentence, and the cells can be walked through', async () => {
+  await turn();
+  const desk = deskOf(), at = (name, core, count) => desk.state({deck: PAGE.get(name).text, core, count});
+  assert.match(sentenceOf(at('two', 630, 20)), /^Operator 20, card 25, STOD, of task 1\.1: takes .*; leaves core array 2,2 .*; comes into core array 2,3 .*; store element 6 of array 2,3 .*: 0 becomes 12\. Next: card 26, MKST, of task 1\.1\.$/);
+  assert.match(sentenceOf(at('switched', 685, 0)), /^Before the first operator\. Next: card 8, ZERO/);
+  assert.match(sentenceOf(at('critical', 4096, desk.firstFault({deck: PAGE.get('critical').text, core: 4096}))), /fault: task 1\.2 PARENT, task 1\.1 CRITICAL BLOCK/);
+  const state = at('switched', 685, 6), first = nextCell(state, '', 1);
+  assert.equal(first, '1.1 1 4');
+  assert.deepEqual([nextCell(state, first, -1), nextCell(state, first, 1), nextCell(state, '1.1 1', -1), nextCell(state, '9.9 1', 1)], ['1.1 1 3', '1.2 1', '1.1 1', first]);
+  assert.match(cellWords(state, first), /^Cell 2,4, in record 1 of task 1\.1: tag 0, 2\. It is the top of the stack\.$/);
+  assert.match(cellWords(state, '1.2 1'), /^Record 1 of task 1\.2, level 3: its static link leads to record 1 of task 1\.1, 0 cells\.$/);
+  assert.equal(cellWords(state, '1.2 1 9'), 'No cell is there now.');
+});
