@@ -1,7 +1,7 @@
 #!/bin/sh
 # Names for cells. Prints a deck in which `VALC name` and `NAMC name` have become those of a couple:
 #
-#     sh scripts/cells.sh DECK > plain; b67 run --core 4096 --backing b < plain
+#     sh scripts/cells.sh DECK > plain && b67 run --core 4096 --backing b < plain
 #
 # DECK is a file of cards. A line `CELL name level,displacement` gives the cell a name, and comes out as a comment. The name is
 # a small letter and up to 15 small letters, digits or `_`. It holds up to the next CELL line of that name, or to the next ?JOB.
