@@ -1,7 +1,7 @@
 #!/bin/sh
 # Names for cells. Prints a deck in which `VALC name` and `NAMC name` have become those of a couple:
 #
-#     sh scripts/cells.sh DECK > plain; b67 run --core 4096 --backing b < plain
+#     sh scripts/cells.sh DECK > plain && b67 run --core 4096 --backing b < plain
 #
 # DECK is a file of cards. A line `CELL name level,displacement` gives the cell a name, and comes out as a comment. The name is
 # a small letter and up to 15 small letters, digits or `_`. It holds up to the next CELL line of that name, or to the next ?JOB.
@@ -16,6 +16,7 @@ usage() {
 [ $# = 1 ] || usage "one deck is wanted"
 [ -f "$1" ] && [ -r "$1" ] || usage "$1: not a file that can be read"
 LC_ALL=C awk '
+BEGIN { is_assembly = 1 }
 function wrong(why) { printf "cells.sh: card %d: %s\n", NR, why > "/dev/stderr"; is_wrong = 1 }
 # a number from 0 to `most`, written as the assembler wants it
 function within(text, most) { return text ~ /^(0|[1-9][0-9]*)$/ && length(text) <= 4 && text + 0 <= most }
@@ -35,6 +36,8 @@ function put(card,   code) {
     deck[NR] = $0
 }
 line ~ /^\?JOB/ { split("", couple) }
+line ~ /^\?/ { is_assembly = line ~ /^\?ASM/ }
+!is_assembly { next }
 line ~ /^ *([A-Z0-9]+: *)?CELL( |;|$)/ {
     text = line
     sub(/;.*/, "", text)
@@ -46,6 +49,8 @@ line ~ /^ *([A-Z0-9]+: *)?CELL( |;|$)/ {
         next
     }
     couple[word[first + 1]] = word[first + 2]
+    sub(/^ +/, "", line)
+    sub(/ +$/, "", line)
     put("; " line)
 }
 match(line, /^ *([A-Z0-9]+: +)?(VALC|NAMC) +[a-z][^ ;]*/) {

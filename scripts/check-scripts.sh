@@ -8,7 +8,8 @@
 # is called with no words, too many, an option that is none, a file that isn't there, a folder, binary bytes, a text that is cut
 # or of another kind, no temporary folder, a full disk, a full output, a program that is none, a folder of the program's name
 # beside it, and a signal: what of these it can meet, at least eight times. A disk of 64 kB is made with `mount`, as root; if that
-# can't be, the calls that need it are left out and counted. Some two minutes.
+# can't be, the calls that need it are left out and counted. A script that goes on without a temporary folder writes into /, so
+# the names there are compared too. Some 40 seconds of a processor.
 [ -n "${BASH_VERSION:-}" ] || { echo "usage: bash scripts/check-scripts.sh PROGRAM" >&2; exit 2; }
 set -u
 usage() {
@@ -122,8 +123,8 @@ done_with() {
 texts() {
     local kind=$1 file
     shift
-    for file in nothere folder binary "$kind.cut" "$kind.other" -- --nonsense ''; do
-        [ -n "$file" ] && [[ $file != *.* || -e $room/files/$file ]] || continue
+    for file in nothere folder binary "$kind.cut" "$kind.other" -- --nonsense; do
+        [[ $file != *.* || -e $room/files/$file ]] || continue
         note=''
         refused "${@//@/$file}"
     done

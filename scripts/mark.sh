@@ -45,7 +45,10 @@ while [ $# -gt 1 ]; do
     all=0
     failed=0
     why=
-    sh "$here/cells.sh" "$deck" >"$room/plain" 2>"$room/said" || why=$(sed -n '1s/^cells.sh: //p' "$room/said")
+    if ! sh "$here/cells.sh" "$deck" >"$room/plain" 2>"$room/said"; then
+        why=$(sed -n '1s/^cells.sh: //; 1p' "$room/said")
+        why=${why:-it could not be read}
+    fi
     [ -n "$why" ] || "$program" check <"$room/plain" >"$room/lines" || why="refused, $(tail -n 1 "$room/lines")"
     [ -n "$why" ] || [ -s "$room/lines" ] || why="no job is in it"
     if [ -n "$why" ]; then
