@@ -1,11 +1,11 @@
 #!/usr/bin/env python3
 """usage: names.py [DOCUMENT..]
 
-Looks at what the pages for whoever changes the repository name: ARCHITECTURE, CONTRIBUTING, PROVING and CHANGING, or the named
-documents. A name in backquotes that stands with a crate or a file must be declared there: `NAME` of `CRATE`, `NAME` (`CRATE`),
-`NAME`, `CRATE`, `FILE`: `NAME`, and in a table the names behind a crate. A file behind a crate must be that crate's. Each other
-name with a low line must be declared somewhere. A drawing, a block of code that begins with ```calls, is held against the code:
-each function is declared in its crate, and is called in the body of the one that it hangs on. Prints what isn't so.
+Looks at what documents name: README, CONTRIBUTING and those of docs, bench, reference and web, or the ones that are given. CHANGES
+tells of the past. A name in backquotes that stands with a crate or a file must be declared there: `NAME` of `CRATE`, `NAME`
+(`CRATE`), `NAME`, `CRATE`, `FILE`: `NAME`, and in a table the names behind a crate. A file behind a crate must be that crate's.
+Each other name with a low line must be declared somewhere. A drawing, a block of code that begins with ```calls, is held against
+the code: each function is declared in its crate, and is called in the body of the one that it hangs on. Prints what isn't so.
 """
 import glob
 import os
@@ -13,7 +13,7 @@ import re
 import sys
 
 TOP = os.path.normpath(os.path.join(os.path.dirname(os.path.abspath(__file__)), ".."))
-PAGES = ["docs/ARCHITECTURE.md", "CONTRIBUTING.md", "docs/PROVING.md", "docs/CHANGING.md"]
+PAGES = ["README.md", "CONTRIBUTING.md", "docs/*.md", "bench/README.md", "reference/README.md", "web/README.md"]
 CODE = re.compile(r"^\s*(?:pub(?:\([^)]*\))? )?(?:unsafe |extern \"C\" |const )*(?:fn|struct|enum|trait|type|const|static|mod|union) (?:mut )?(\w+)")
 MEMBER = re.compile(r"^\s+(?:pub(?:\([^)]*\))? )?(\w+)(?:: |,|\(| \{|$)")
 CLAUSE = re.compile(r"^\s*(?:ensures|requires) (\w+) \{")
@@ -184,7 +184,7 @@ def of_row(cells, house):
                         yield name, quoted[0]
     last = re.findall(r"`(b67\w*)` ([A-Z]\w*(?:, [A-Z]\w*)*)", cells[-1]) if cells else []
     names = re.findall(QUOTED, cells[-2]) if len(cells) > 1 else []
-    if last and names and is_name(names[0]):
+    if last and names and is_name(names[0]) and names[0] not in house.crates:
         yield names[0], [f"{crate}/specs/{file}" for crate, files in last for file in files.split(", ")] + [f"{crate}/proofs/{file}" for crate, files in last for file in files.split(", ")]
 
 
@@ -270,7 +270,8 @@ def main(arguments):
         return 2
     house = House()
     wrong = named = drawn = 0
-    for page in [os.path.realpath(page) for page in arguments] or [os.path.join(TOP, page) for page in PAGES]:
+    pages = [os.path.realpath(page) for page in arguments] or [found for page in PAGES for found in sorted(glob.glob(os.path.join(TOP, page)))]
+    for page in pages:
         plain, drawings = read(page)
         found = [(number, flaw) for number, line in plain for flaw in flaws_of_line(line, house, page.endswith("PROVING.md"))]
         named += sum(len(re.findall(QUOTED, line)) for _, line in plain)
