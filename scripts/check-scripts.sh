@@ -170,7 +170,7 @@ here=../clone/scripts
 refused sh $here/cells.sh
 for file in nothere folder named.cut -- --nonsense ''; do refused sh $here/cells.sh "$file"; done
 refused sh $here/cells.sh named deck
-for card in 'VALC n' 'L: NAMC i' 'CELL' 'CELL N 2,3' 'CELL n 2, 3' 'CELL n 2,4096' 'CELL abcdefghijklmnopq 2,3' 'L: CELL n 2,3' "$(printf 'CELL n 2,2\n?JOB B\nVALC n')"; do
+for card in 'VALC n' 'L: NAMC i' 'CELL' 'CELL N 2,3' 'CELL n 2, 3' 'CELL n 2,4096' 'CELL abcdefghijklmnopq 2,3' 'L: CELL n 2,3' "$(printf 'CELL n 2,2\n?END\n?JOB B\n?ASM\nVALC n')"; do
     printf '?JOB A\n?ASM\n%s\n' "$card" >"$room/files/card"
     refused sh $here/cells.sh card
 done
