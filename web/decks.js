@@ -5,9 +5,9 @@ export const START = {name: 'start', core: 4096, about: 'Two and three: a deck t
 // The decks in groups, each with what it is for.
 export const GROUPS = [
   ['first steps', ['start', 'sum', 'addup', 'squares', 'sort', 'fields', 'library', 'gears', 'lights', 'entry']],
-  ['calls and names', ['factorial', 'levels', 'jensen', 'swap', 'names', 'manboy', 'chain']],
-  ['arrays and paging', ['two', 'ten', 'leave', 'lengths', 'forty', 'full']],
-  ['tasks and jobs', ['shared', 'switched', 'family', 'event', 'producer', 'status', 'dining', 'bank', 'bank2', 'quantum', 'jobs', 'rivals', 'eight', 'crowd']],
+  ['calls and names', ['factorial', 'levels', 'jensen', 'swap', 'names', 'manboy', 'mapproc', 'chain']],
+  ['arrays and paging', ['two', 'ten', 'leave', 'lengths', 'turned', 'bst', 'forty', 'full']],
+  ['tasks and jobs', ['shared', 'switched', 'order', 'family', 'event', 'producer', 'generator', 'status', 'dining', 'bank', 'bank2', 'quantum', 'jobs', 'rivals', 'eight', 'crowd']],
   ['faults and ends', ['fault', 'protect', 'critical', 'limit', 'halt']],
 ];
 
