@@ -1,0 +1,265 @@
+#!/usr/bin/env python3
+"""usage: edits.py [--applies] [--jobs N] [--since FILE] [CRATE|CRATE/EDIT..]
+
+Tries the edits of crates/CRATE/more-edits, or one edit of these or of must-fail by its name, many in one check: edits of one crate
+that stand in different functions are applied together, and each function is judged by its own contract. Without a name, all are
+tried. It works where the libraries below a crate are built, as the gate or `rt lib` left them in crates/*/out, and changes nothing
+there: a crate's text is copied. The crate as it stands is checked first, over what an earlier check kept.
+
+Prints a line for each edit: refused, with the function and the first error; refused for a name, if only a proof file misses what
+the edit took away; accepted, if the function is still proved; doesn't apply, if an old text doesn't stand once in its file; or not
+tried, if its check told nothing. Then a line for each crate. Ends with status 1 if an edit was neither refused nor accepted as
+refused. --applies only looks whether each edit applies. --since FILE leaves out edits that FILE, an earlier output, says were refused.
+"""
+import collections
+import concurrent.futures
+import importlib.machinery
+import importlib.util
+import os
+import re
+import shutil
+import subprocess
+import sys
+import tempfile
+import time
+
+TOP = os.path.realpath(os.path.join(os.path.dirname(os.path.abspath(__file__)), ".."))
+FUNCTION = re.compile(r"^( *)(?:pub(?:\([^)]*\))? )?(?:const )?fn (\w+)", re.M)
+VERDICT = re.compile(r"^fn (b67_\w+(?:::\S+)*::\w+): (.*)$", re.M)
+ERROR = re.compile(r"^(?:note: )?(?:\./)?(\S+?):(\d+):\d+:(.*)$")
+MISSES = re.compile(r"has no field|is not in scope|has no `|was not admitted")
+
+
+class Edit:
+    """One edit: its pairs of texts, and the functions in which they stand, as module and name; none of a text outside functions."""
+
+    def __init__(self, path):
+        parts = path.split("/")
+        self.path, self.crate, self.name = path, parts[-3], parts[-1][: -len(".edit")]
+        self.pairs, self.functions, self.why, file, old = [], set(), "", "", None
+        with open(path, encoding="utf-8") as lines:
+            for line in lines.read().split("\n"):
+                if line.startswith("file: "):
+                    file = line[len("file: ") :].strip()
+                elif line.startswith("old: "):
+                    old = line[len("old: ") :]
+                elif line.startswith("new:") and old:
+                    self.pairs.append((file, old, line[len("new:") :].removeprefix(" ")))
+                    old = None
+        if not self.pairs:
+            self.why = "it has no pair of texts"
+
+    def apply(self, texts, folder):
+        """The texts with the edit in them, by file; None if an old text doesn't stand once in its file."""
+        texts = dict(texts)
+        for file, old, new in self.pairs:
+            if file not in texts:
+                with open(os.path.join(folder, file), encoding="utf-8") as text:
+                    texts[file] = text.read()
+            count = texts[file].count(old)
+            if count != 1:
+                self.why = self.why or f"a text stands {count} times in {file}"
+                return None
+            self.functions.add(function_at(file, texts[file], texts[file].index(old)))
+            texts[file] = texts[file].replace(old, new)
+        return texts
+
+    def paths(self):
+        """The functions, each as its name and the steps of its module."""
+        return [(name, [it for it in module.split("::") if it]) for module, name in self.functions]
+
+
+def function_at(file, text, place):
+    """The function in whose text a place stands, as module and name; None outside functions, and in a file that isn't code."""
+    found = [it for it in FUNCTION.finditer(text, 0, place)]
+    if not file.startswith("src/") or not found:
+        return None
+    last = found[-1]
+    if re.search(rf"^{last.group(1)}\}}$", text[last.end() : place], re.M):
+        return None
+    module = file[len("src/") : -len(".rt")].replace("/", "::")
+    return "" if module in ("lib", "main") else module, last.group(2)
+
+
+def edits_of(words):
+    """The edits that the words name, by crate."""
+    found = collections.OrderedDict()
+    if not words:
+        words = sorted(os.path.basename(os.path.dirname(it)) for it in (f"{TOP}/crates/{name}/more-edits" for name in os.listdir(f"{TOP}/crates")) if os.path.isdir(it))
+    for word in words:
+        crate, _, name = word.partition("/")
+        folders = [f"{TOP}/crates/{crate}/more-edits"] + ([f"{TOP}/crates/{crate}/must-fail"] if name else [])
+        paths = [f"{folder}/{it}" for folder in folders if os.path.isdir(folder) for it in sorted(os.listdir(folder)) if it.endswith(".edit") and name in ("", it[: -len(".edit")])]
+        if not paths:
+            sys.exit(print(f"{word}: no such edit\n{__doc__.splitlines()[0]}", file=sys.stderr) or 2)
+        found.setdefault(crate, []).extend(Edit(path) for path in paths)
+    return found
+
+
+def batches_of(edits):
+    """Edits that stand in different functions together; one outside functions alone."""
+    batches = []
+    for edit in edits:
+        alone = None in edit.functions
+        place = None if alone else next((it for it in batches if not it[1] & edit.functions and None not in it[1]), None)
+        if place is None:
+            batches.append(([edit], set(edit.functions)))
+        else:
+            place[0].append(edit)
+            place[1].update(edit.functions)
+    return [it[0] for it in batches]
+
+
+def kit():
+    """The kit's own module, which says how a crate is checked."""
+    sys.dont_write_bytecode = True
+    loader = importlib.machinery.SourceFileLoader("rtlib", os.path.join(os.path.dirname(os.path.realpath(shutil.which("rt"))), "rtlib.py"))
+    rtlib = importlib.util.module_from_spec(importlib.util.spec_from_loader("rtlib", loader))
+    sys.modules["rtlib"] = rtlib
+    loader.exec_module(rtlib)
+    return rtlib
+
+
+def newest(folder, endings):
+    return max((os.path.getmtime(f"{at}/{name}") for at, _, names in os.walk(folder) if "/out" not in at for name in names if name.endswith(endings)), default=0)
+
+
+class Bench:
+    """A crate that is checked with edits in it."""
+
+    def __init__(self, rtlib, name, room):
+        self.rtlib, self.name, self.folder, self.room = rtlib, name, f"{TOP}/crates/{name}", f"{room}/{name}"
+        self.crate = rtlib.Crate(self.folder, TOP, {})
+        self.lacks = [it.name for it in self.crate.below() if not os.path.isdir(it.rlib) or os.path.getmtime(it.rlib) + 1 < newest(it.folder, (".rt", ".antt"))]
+        os.makedirs(self.room)
+
+    def check(self, texts, number):
+        """What a check of the crate with these texts prints, and its status."""
+        at = f"{self.room}/{number}"
+        for part in self.rtlib.PARTS:
+            if os.path.isdir(f"{self.folder}/{part}"):
+                shutil.copytree(f"{self.folder}/{part}", f"{at}/{part}")
+        for file, text in texts.items():
+            with open(f"{at}/{file}", "w", encoding="utf-8") as out:
+                out.write(text)
+        seed = f"{self.room}/seed"
+        begin = seed if number != "first" else f"{self.folder}/out/incremental"
+        if os.path.isdir(begin):
+            shutil.copytree(begin, f"{at}/kept", symlinks=True)
+        else:
+            os.makedirs(f"{at}/kept")
+        words = [self.rtlib.RATTLE, "check", *self.crate.words(["--jobs", "1"], keeps=False), "--incremental", f"{at}/kept"]
+        ran = subprocess.run(words, cwd=at, stdin=subprocess.DEVNULL, stdout=subprocess.PIPE, stderr=subprocess.STDOUT, errors="replace")
+        if number == "first":
+            os.rename(f"{at}/kept", seed)
+        shutil.rmtree(at, ignore_errors=True)
+        return ran.stdout, ran.returncode
+
+    def judge(self, batch, said, status):
+        """What each edit of a batch came to; None of one of which the check told nothing."""
+        lines = said.rstrip("\n").split("\n")
+        told = [(name.split("::")[1:], verdict) for name, verdict in VERDICT.findall(said)]
+        reached = bool(told) and not any(re.search(r"\berror\[[\w-]+\]", it) for it in lines)
+        results = {}
+        for edit in batch:
+            if None in edit.functions:
+                results[edit] = ("accepted", "") if status == 0 else self.reason(lines, None) if reached and lines[-1].startswith("logic=not-proved") else None
+                continue
+            verdicts = [verdict for path, verdict in told if any(path[-1] == name and path[:-1][: len(steps)] == steps for name, steps in edit.paths())]
+            if not reached or not verdicts:
+                results[edit] = None
+            elif all(verdict == "proved" for verdict in verdicts):
+                results[edit] = "accepted", ""
+            else:
+                results[edit] = self.reason(lines, edit)
+        return results
+
+    def reason(self, lines, edit):
+        """Refused, with the first error in the files of the edit's functions, and whether each of these only misses a name."""
+        errors = [(found.group(1), found.group(3)) for found in map(ERROR.match, lines) if found and (": error" in found.group(0) or found.group(0).startswith("note: "))]
+        if edit:
+            own = [f"{module.replace('::', '/')}/{name}/".lstrip("/") for module, name in edit.functions]
+            files = {f"src/{module.replace('::', '/') or 'lib'}.rt" for module, _ in edit.functions}
+            errors = [it for it in errors if any(part in it[0] for part in own) or it[0] in files] or errors
+        says = [text for file, text in errors if not (file.startswith("proofs/") and MISSES.search(text))]
+        if errors and not says:
+            return "refused for a name", errors[0][1].strip()[:100]
+        return "refused", (says or [""])[0].strip()[:100]
+
+
+def tried(bench, edits, jobs, tell):
+    """Tries a crate's edits; those of which a batch told nothing are tried alone."""
+    said, status = bench.check({}, "first")
+    if status:
+        return {edit: ("not tried", f"the crate isn't proved as it stands: {said.rstrip().splitlines()[-1][:80]}") for edit in edits}
+    results = {}
+
+    def one(numbered):
+        number, batch = numbered
+        texts = {}
+        for edit in batch:
+            texts = edit.apply(texts, bench.folder)
+        found = bench.judge(batch, *bench.check(texts, number))
+        for edit in [it for it in batch if found[it] is None]:
+            if len(batch) > 1:
+                said, status = bench.check(edit.apply({}, bench.folder), f"{number}-{edit.name}")
+                found[edit] = bench.judge([edit], said, status)[edit]
+            found[edit] = found[edit] or ("not tried", "its check told nothing of the function")
+        return found
+
+    with concurrent.futures.ThreadPoolExecutor(jobs) as pool:
+        for found in pool.map(one, enumerate(batches_of(edits))):
+            results.update(found)
+            for edit, (result, why) in found.items():
+                tell(edit, result, why)
+    return results
+
+
+def main():
+    words, options = [], {"--jobs": "1", "--since": ""}
+    given = sys.argv[1:]
+    while given:
+        word = given.pop(0)
+        if word in options and given:
+            options[word] = given.pop(0)
+        elif word.startswith("-") and word != "--applies":
+            return print(__doc__.splitlines()[0], file=sys.stderr) or 2
+        else:
+            words.append(word)
+    applies = "--applies" in words
+    found = edits_of([it for it in words if it != "--applies"])
+    done = set()
+    if options["--since"]:
+        with open(options["--since"], encoding="utf-8") as earlier:
+            done = set(re.findall(r"^(b67_\w+/\w+) +refused(?: for a name)?(?:  |$)", earlier.read(), re.M))
+    table, bad = [], 0
+
+    def tell(edit, result, why):
+        print(f"{edit.crate + '/' + edit.name:<60} {result:<18}  {why}".rstrip(), flush=True)
+
+    rtlib = None if applies else kit()
+    with tempfile.TemporaryDirectory() as room:
+        for crate, edits in found.items():
+            began, count = time.time(), collections.Counter()
+            edits = [it for it in edits if f"{it.crate}/{it.name}" not in done]
+            fit = [it for it in edits if it.apply({}, f"{TOP}/crates/{crate}") is not None]
+            for edit in [it for it in edits if it not in fit]:
+                tell(edit, "doesn't apply", edit.why)
+            count["doesn't apply"] = len(edits) - len(fit)
+            if fit and not applies:
+                bench = Bench(rtlib, crate, room)
+                if bench.lacks:
+                    sys.exit(print(f"{crate}: the library of {bench.lacks[0]} isn't built, or is older than its text: call `rt lib` there, or run the gate", file=sys.stderr) or 2)
+                count.update(result for result, _ in tried(bench, fit, int(options["--jobs"]), tell).values())
+                shutil.rmtree(bench.room, ignore_errors=True)
+            bad += sum(count[it] for it in ("accepted", "doesn't apply", "not tried"))
+            table.append((crate, len(edits), count, time.time() - began))
+    kinds = ("refused", "refused for a name", "accepted", "doesn't apply", "not tried")
+    print(f"{'crate':<24} {'edits':>6}  " + "  ".join(f"{it:>{max(len(it), 7)}}" for it in kinds) + "  seconds")
+    for crate, number, count, seconds in table:
+        print(f"{crate:<24} {number:>6}  " + "  ".join(f"{count[it]:>{max(len(it), 7)}}" for it in kinds) + f"  {seconds:>7.0f}")
+    return 1 if bad else 0
+
+
+if __name__ == "__main__":
+    sys.exit(main())
