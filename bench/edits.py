@@ -2,7 +2,8 @@
 """usage: edits.py [--applies] [--jobs N] [--since FILE] [CRATE|CRATE/EDIT..]
 
 Tries the edits of crates/CRATE/more-edits, or one edit of these or of must-fail by its name, many in one check: edits of one crate
-that stand in different functions are applied together, and each function is judged by its own contract. Without a name, all are
+that stand in different functions, none of which calls another, are applied together, and each function is judged by its own
+contract. Without a name, all are
 tried. It works where the libraries below a crate are built, as the gate or `rt lib` left them in crates/*/out, and changes nothing
 there: a crate's text is copied. The crate as it stands is checked first, over what an earlier check kept.
 
@@ -96,12 +97,37 @@ def edits_of(words):
     return found
 
 
-def batches_of(edits):
-    """Edits that stand in different functions together; one outside functions alone."""
+def calls_of(folder):
+    """Of each function's name the names that its text may call, and those that these may call in turn."""
+    bodies = collections.defaultdict(str)
+    for at, _, names in os.walk(f"{folder}/src"):
+        for name in (it for it in names if it.endswith(".rt")):
+            with open(f"{at}/{name}", encoding="utf-8") as text:
+                text = text.read()
+            found = list(FUNCTION.finditer(text))
+            for one, after in zip(found, [it.start() for it in found[1:]] + [len(text)]):
+                bodies[one.group(2)] += text[one.end() : after]
+    direct = {name: {it for it in re.findall(r"\b(\w+)\b(?:::<[^(]*>)?\(", body) if it in bodies} - {name} for name, body in bodies.items()}
+    calls = {}
+    for name in direct:
+        seen, left = set(), [name]
+        while left:
+            more = direct[left.pop()] - seen
+            seen |= more
+            left += more
+        calls[name] = seen
+    return calls
+
+
+def batches_of(edits, calls):
+    """Edits together that stand in different functions, none of which calls another; one outside functions alone."""
     batches = []
+
+    def fits(functions, others):
+        return not any(a == b or a[1] in calls.get(b[1], ()) or b[1] in calls.get(a[1], ()) for a in functions for b in others)
+
     for edit in edits:
-        alone = None in edit.functions
-        place = None if alone else next((it for it in batches if not it[1] & edit.functions and None not in it[1]), None)
+        place = None if None in edit.functions else next((it for it in batches if None not in it[1] and fits(edit.functions, it[1])), None)
         if place is None:
             batches.append(([edit], set(edit.functions)))
         else:
@@ -166,7 +192,8 @@ class Bench:
                 results[edit] = ("accepted", "") if status == 0 else self.reason(lines, None) if reached and lines[-1].startswith("logic=not-proved") else None
                 continue
             verdicts = [verdict for path, verdict in told if any(path[-1] == name and path[:-1][: len(steps)] == steps for name, steps in edit.paths())]
-            if not reached or not verdicts:
+            if not reached or not verdicts or all(verdict == "proved" or "it calls `" in verdict for verdict in verdicts) and any(verdict != "proved" for verdict in verdicts):
+                # (what it says of a function that calls one that isn't proved is nothing of its own)
                 results[edit] = None
             elif all(verdict == "proved" for verdict in verdicts):
                 results[edit] = "accepted", ""
@@ -208,7 +235,7 @@ def tried(bench, edits, jobs, tell):
         return found
 
     with concurrent.futures.ThreadPoolExecutor(jobs) as pool:
-        for found in pool.map(one, enumerate(batches_of(edits))):
+        for found in pool.map(one, enumerate(batches_of(edits, calls_of(bench.folder)))):
             results.update(found)
             for edit, (result, why) in found.items():
                 tell(edit, result, why)
