@@ -14,6 +14,7 @@ refused. --applies only looks whether each edit applies. --since FILE leaves out
 """
 import collections
 import concurrent.futures
+import functools
 import importlib.machinery
 import importlib.util
 import os
@@ -82,6 +83,13 @@ def function_at(file, text, place):
     return "" if module in ("lib", "main") else module, last.group(2)
 
 
+def spans_of(text):
+    """Each function of a file with its first and its last line; attributes and comments before it belong to the one before."""
+    found = list(FUNCTION.finditer(text))
+    lines = [text.count("\n", 0, it.start()) + 1 for it in found]
+    return [(it.group(2), (first, last - 1)) for it, first, last in zip(found, lines, [*lines[1:], text.count("\n") + 2])]
+
+
 def edits_of(words):
     """The edits that the words name, by crate."""
     found = collections.OrderedDict()
@@ -143,11 +151,19 @@ def kit():
     rtlib = importlib.util.module_from_spec(importlib.util.spec_from_loader("rtlib", loader))
     sys.modules["rtlib"] = rtlib
     loader.exec_module(rtlib)
+    # (it sums a crate's files each time it is asked)
+    rtlib.Crate.stamp = functools.cache(rtlib.Crate.stamp)
     return rtlib
 
 
-def newest(folder, endings):
-    return max((os.path.getmtime(f"{at}/{name}") for at, _, names in os.walk(folder) if "/out" not in at for name in names if name.endswith(endings)), default=0)
+def is_built(crate):
+    """Whether a crate's library is there, and of its text: by its stamp, or, if a gate has left none, since it is newer."""
+    if not os.path.isdir(crate.rlib):
+        return False
+    if os.path.exists(os.path.join(os.path.dirname(crate.rlib), "stamp")):
+        return crate.is_built()
+    texts = [f"{at}/{name}" for at, _, names in os.walk(crate.folder) if "/out" not in at for name in names if name.endswith((".rt", ".antt"))]
+    return max(map(os.path.getmtime, texts)) <= os.path.getmtime(crate.rlib) + 1
 
 
 class Bench:
@@ -156,7 +172,7 @@ class Bench:
     def __init__(self, rtlib, name, room):
         self.rtlib, self.name, self.folder, self.room = rtlib, name, f"{TOP}/crates/{name}", f"{room}/{name}"
         self.crate = rtlib.Crate(self.folder, TOP, {})
-        self.lacks = [it.name for it in self.crate.below() if not os.path.isdir(it.rlib) or os.path.getmtime(it.rlib) + 1 < newest(it.folder, (".rt", ".antt"))]
+        self.lacks = [it.name for it in self.crate.below() if not is_built(it)]
         os.makedirs(self.room)
 
     def check(self, texts, number):
@@ -181,15 +197,15 @@ class Bench:
         shutil.rmtree(at, ignore_errors=True)
         return ran.stdout, ran.returncode
 
-    def judge(self, batch, said, status):
-        """What each edit of a batch came to; None of one of which the check told nothing."""
+    def judge(self, batch, texts, said, status):
+        """What each edit of a batch came to, of which these are the texts; None of one of which the check told nothing."""
         lines = said.rstrip("\n").split("\n")
         told = [(name.split("::")[1:], verdict) for name, verdict in VERDICT.findall(said)]
         reached = bool(told) and not any(re.search(r"\berror\[[\w-]+\]", it) for it in lines)
         results = {}
         for edit in batch:
             if None in edit.functions:
-                results[edit] = ("accepted", "") if status == 0 else self.reason(lines, None) if reached and lines[-1].startswith("logic=not-proved") else None
+                results[edit] = ("accepted", "") if status == 0 else self.reason(lines, texts, None) if reached and lines[-1].startswith("logic=not-proved") else None
                 continue
             verdicts = [verdict for path, verdict in told if any(path[-1] == name and path[:-1][: len(steps)] == steps for name, steps in edit.paths())]
             if not reached or not verdicts or all(verdict == "proved" or "it calls `" in verdict for verdict in verdicts) and any(verdict != "proved" for verdict in verdicts):
@@ -198,19 +214,19 @@ class Bench:
             elif all(verdict == "proved" for verdict in verdicts):
                 results[edit] = "accepted", ""
             else:
-                results[edit] = self.reason(lines, edit)
+                results[edit] = self.reason(lines, texts, edit)
         return results
 
-    def reason(self, lines, edit):
-        """Refused, with the first error in the files of the edit's functions, and whether each of these only misses a name."""
-        errors = [(found.group(1), found.group(3)) for found in map(ERROR.match, lines) if found and (": error" in found.group(0) or found.group(0).startswith("note: "))]
+    def reason(self, lines, texts, edit):
+        """Refused, with the first error of the edit's functions, and whether each of these only misses a name."""
+        errors = [(found.group(1), int(found.group(2)), found.group(3)) for found in map(ERROR.match, lines) if found and (": error" in found.group(0) or found.group(0).startswith("note: "))]
         if edit:
-            own = [f"{module.replace('::', '/')}/{name}/".lstrip("/") for module, name in edit.functions]
-            files = {f"src/{module.replace('::', '/') or 'lib'}.rt" for module, _ in edit.functions}
-            errors = [it for it in errors if any(part in it[0] for part in own) or it[0] in files] or errors
-        says = [text for file, text in errors if not (file.startswith("proofs/") and MISSES.search(text))]
+            proofs = [f"{module.replace('::', '/')}/{name}/".lstrip("/") for module, name in edit.functions]
+            spans = [(file, *span) for file, text in texts.items() for name, span in spans_of(text) if (file, name) in {(f"src/{module.replace('::', '/') or 'lib'}.rt", name) for module, name in edit.functions}]
+            errors = [it for it in errors if any(part in it[0] for part in proofs) or any(it[0] == file and first <= it[1] <= last for file, first, last in spans)] or errors
+        says = [text for file, _, text in errors if not (file.startswith("proofs/") and MISSES.search(text))]
         if errors and not says:
-            return "refused for a name", errors[0][1].strip()[:100]
+            return "refused for a name", errors[0][2].strip()[:100]
         return "refused", (says or [""])[0].strip()[:100]
 
 
@@ -226,11 +242,11 @@ def tried(bench, edits, jobs, tell):
         texts = {}
         for edit in batch:
             texts = edit.apply(texts, bench.folder)
-        found = bench.judge(batch, *bench.check(texts, number))
+        found = bench.judge(batch, texts, *bench.check(texts, number))
         for edit in [it for it in batch if found[it] is None]:
             if len(batch) > 1:
-                said, status = bench.check(edit.apply({}, bench.folder), f"{number}-{edit.name}")
-                found[edit] = bench.judge([edit], said, status)[edit]
+                alone = edit.apply({}, bench.folder)
+                found[edit] = bench.judge([edit], alone, *bench.check(alone, f"{number}-{edit.name}"))[edit]
             found[edit] = found[edit] or ("not tried", "its check told nothing of the function")
         return found
 
