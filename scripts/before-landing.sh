@@ -6,10 +6,11 @@
 #     bash scripts/before-landing.sh --list
 #
 # PROGRAM is a built program, as crates/b67/out/b67. COMMIT is what the change stands on, origin/main if it isn't named: the
-# edits outside the gate are those of the crates that changed since. Of a part that failed the last thirty lines are shown.
+# edits outside the gate are those of the crates that changed since, and of the crates that name one whose definitions or contracts
+# changed. Of a part that failed the last thirty lines are shown.
 [ -n "${BASH_VERSION:-}" ] || { echo "usage: bash scripts/before-landing.sh --list, or PROGRAM" >&2; exit 2; }
 set -u
-parts='gate rows decks tracer house links names scripts documents release edits'
+parts='gate rows decks tracer house signatures premises links names scripts documents release edits'
 usage() {
     printf '%s\nusage: bash scripts/before-landing.sh [--skip PART].. [--only PART].. [--since COMMIT] PROGRAM\nparts: %s\n' "$1" "$parts" >&2
     exit 2
@@ -21,12 +22,14 @@ means() {
     decks) echo 'the decks over the built program' ;;
     tracer) echo "the tracer's lines over the decks" ;;
     house) echo 'scripts/house.py: no count above its bound' ;;
+    signatures) echo 'the public calls against their list' ;;
+    premises) echo 'what meets the premises of each theorem' ;;
     links) echo 'each link and path of the documents' ;;
     names) echo 'what pages say of functions, calls and crates is in the code' ;;
     scripts) echo 'scripts/check-scripts.sh: each script, called carelessly' ;;
     documents) echo 'the commands of the documents' ;;
     release) echo 'scripts/release.sh twice: the same bytes' ;;
-    edits) echo 'the edits outside the gate, of the crates that changed' ;;
+    edits) echo 'the edits outside the gate, of the crates that changed and of those above' ;;
     esac
 }
 named() {
@@ -78,6 +81,8 @@ rows() { python3 reference/compare_rows.py reference crates/b67_rows/data; }
 decks() { sh decks/run.sh "$program"; }
 tracer() { sh scripts/check-trace.sh; }
 house() { python3 scripts/house.py; }
+signatures() { python3 scripts/signatures.py; }
+premises() { python3 scripts/premises.py; }
 links() { python3 scripts/links.py; }
 names() { python3 scripts/names.py && python3 scripts/heads.py --check; }
 scripts() { bash scripts/check-scripts.sh "$program"; }
@@ -85,6 +90,15 @@ documents() { bash scripts/check-docs.sh "$program"; }
 release() {
     bash scripts/release.sh "$program" "$room/one.tar.gz" && bash scripts/release.sh "$program" "$room/two.tar.gz" &&
         cmp "$room/one.tar.gz" "$room/two.tar.gz" && echo 'the same bytes twice'
+}
+# the crates that changed, and those that name one whose definitions or contracts changed: their edits are refused by these, too
+touched() {
+    local name said
+    git diff --name-only "$since" HEAD -- crates | cut -d/ -f2 | sort -u | while read -r name; do
+        echo "$name"
+        said=$(git diff -U0 "$since" HEAD -- "crates/$name/specs" "crates/$name/src" | grep -cE '^[-+].*(→|≡|ensures|requires|record |abbrev )' || true)
+        [ "$said" = 0 ] || sed -n "s/^\([a-z0-9_]*\)[^:]*:.* $name\( .*\)*\$/\1/p" crates.txt
+    done | sort -u
 }
 edits() {
     [ -n "$since" ] || {
@@ -94,7 +108,7 @@ edits() {
     local name names=()
     while read -r name; do
         if compgen -G "crates/$name/more-edits/*.edit" >/dev/null; then names+=("$name"); fi
-    done < <(git diff --name-only "$since" HEAD -- crates | cut -d/ -f2 | sort -u)
+    done < <(touched)
     if [ ${#names[@]} -eq 0 ]; then
         echo "no crate with edits outside the gate changed since $since"
     else

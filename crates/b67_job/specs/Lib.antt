@@ -1,3 +1,4 @@
+pub mod Passed
 pub mod Ranges
 pub mod Device
 pub mod Lines

@@ -1,5 +1,5 @@
 -- How the parts of the program's call fit.
-use Rattle.std.proofs.Common.{◌≡◌, ◌⊎◌, ℕ, List, [], true, false, Result, Ok, Err, Option, Some, None, refl, sym, subst, ap, ◌∙◌, append-nil, arith}
+use Rattle.std.proofs.Common.{◌≡◌, ◌≢◌, ◌⊎◌, ℕ, List, [], true, false, Result, Ok, Err, Option, Some, None, refl, sym, subst, ap, ◌∙◌, append-nil, arith}
 use Rattle.std.proofs.lemmas.Bool.{false≢true}
 use Rattle.std.proofs.lemmas.Option.{none-some}
 use denote.Ref.{Bor}
@@ -12,16 +12,17 @@ use Rattle.b67_session_lines.specs.Ends.{EndsPrinting, all_printed, cut_off}
 use Rattle.b67_job.specs.Command.{command_line_of}
 use Rattle.b67_job.specs.declared.command.CommandLine.{CommandLine}
 use Rattle.b67_job.specs.declared.command.CommandLine.TheVariants as lines
-use Rattle.b67_job.specs.Device.{Device, DeviceUnchanged}
-use Rattle.b67_job.specs.Due.{Answered, Supplies, IsAmple, reading_text}
+use Rattle.b67_job.specs.Device.{Device, device_of, DeviceUnchanged}
+use Rattle.b67_job.specs.Due.{Answered, Supplies, IsAmple, IsOpenedOrResumed, reading_text}
 use Rattle.b67_job.specs.Judgement.{asked, judged_status, reads_text, text_limit}
 use Rattle.b67_job.specs.Lines.{memory_text}
+use Rattle.b67_job.specs.Passed.{DeviceAfterCalls}
 use Rattle.b67_job.specs.Statuses.{StatusMeans}
 use Rattle.b67_program.specs.declared.reading.InputFault.{InputFault}
 use Rattle.b67_program.specs.declared.reading.InputFault.TheVariants.{SourceFault, Memory}
 use Rattle.b67_program.specs.Input.{IsTakenIn}
 use Rattle.b67_program.specs.Opening.{OpensPaths}
-use Rattle.b67_program.specs.Served.{IsAnswered, carried_out, reading_failed, text_wants_memory}
+use Rattle.b67_program.specs.Served.{OutlastsCalls, ImageIsTyped, IsAnswered, carried_out, reading_failed, text_wants_memory}
 
 -- a command has a limit where it reads a text
 limited : (o : Option CommandLine) (most : ℕ) → text_limit o ≡ Some most → reads_text o ≡ true
@@ -65,20 +66,23 @@ module _ {S B K : Type 0} {words : List (Bor (List ℕ))} {left : S → Option (
     {taken : K → Option (List ℕ)} {faults : K → ℕ} {old new : K} {answer : ℕ} where
   -- the command was carried out over what was read
   pub carried : (limit : Option ℕ) (bytes : List ℕ) (deck deck' : FreeTape) (machine : Option Machine) → limit ≡ text_limit (command_line_of words) → IsTakenIn limit left source_faults input input' (Ok bytes)
-      → free_left deck ≡ bytes → Answered words free_told free_faults deck deck' d machine taken faults old new answer
+      → free_left deck ≡ bytes → OutlastsCalls d → ((k : Machine) → machine ≡ Some k → IsOpenedOrResumed words free_told free_faults deck deck' d k) → ImageIsTyped (command_line_of words) machine → Answered words free_told free_faults deck deck' d machine taken faults old new answer
       → StatusMeans words free_told free_faults deck deck' d machine taken faults old new answer
       → ((command : CommandLine) → (text : List ℕ) → command_line_of words ≡ Some command
       → Supplies command free_told free_faults deck deck' text → IsAmple d command text
       → Stayed faults old new → Stayed (λ (count : ℕ). count) d.failed_before d.failed_now
       → (answer ≡ judged_status (asked command text)) ⊎ (answer ≡ 9))
       → IsAnswered words left source_faults input input' d taken faults old new answer
-  carried limit bytes deck deck' machine is t holds due means complete = carried_out (record {
+  carried limit bytes deck deck' machine is t holds kept opened typed due means complete = carried_out (record {
     bytes = bytes;
     given = subst (λ (most : Option ℕ). IsTakenIn most left source_faults input input' (Ok bytes)) is t;
     deck = deck;
     deck_after = deck';
     holds = holds;
     machine = machine;
+    kept = kept;
+    opened = opened;
+    typed = typed;
     due = due;
     means = means;
     complete = complete;
@@ -104,6 +108,18 @@ module _ {S B K : Type 0} {words : List (Bor (List ℕ))} {left : S → Option (
 pub not_seven : {K : Type 0} (taken : K → Option (List ℕ)) (faults : K → ℕ) (old new : K) (answer : ℕ) (P : Type 0) → EndsPrinting taken faults old new 9 memory_text answer → answer ≡ 7 → P
 not_seven taken faults old new answer P (all_printed a t) e = absurd (omega (arith, a, e))
 not_seven taken faults old new answer P (cut_off a f t) e = absurd (omega (arith, a, e))
+
+-- what calls of a device leave of it
+module _ {B : Type 0} (holds : B → Option (List (List ℕ))) (size calls faults : B → ℕ) (old new : B) (after : DeviceAfterCalls holds size calls faults old new) where
+  pub tells_on : holds old ≢ None → holds new ≢ None
+  tells_on tells = by_content (holds old) refl tells
+    where
+      by_content : (o : Option (List (List ℕ))) → holds old ≡ o → o ≢ None → holds new ≢ None
+      by_content None e t = absurd (t refl)
+      by_content (Some all) e t = let there = after.tells.told all e in λ none. none-some there.0 (sym none ∙ there.1)
+
+  pub outlasts : OutlastsCalls (device_of holds size faults old new)
+  outlasts = record { size = after.size; faults = after.faults; tells = tells_on }
 
 -- nothing was opened
 pub opens_none : {R : Type 0} (opened : R → Option (List (List ℕ))) (now : R) → OpensPaths opened now now []

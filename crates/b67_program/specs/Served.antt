@@ -1,5 +1,5 @@
 -- How the program's call ends.
-use Rattle.std.specs.Prelude.{◌≡◌, ◌⊎◌, ℕ, List, [], length, Option, Some, None, Ok, true}
+use Rattle.std.specs.Prelude.{◌≡◌, ◌≢◌, ◌≤◌, ◌⊎◌, ℕ, List, [], length, Option, Some, None, Ok, true}
 use denote.Ref.{Bor}
 use Rattle.b67_io.specs.Causes.{Rose, Stayed}
 use Rattle.b67_io.specs.Free.{free_left, free_told, free_faults}
@@ -11,12 +11,25 @@ use Rattle.b67_task_tables.specs.declared.tables.Machine.{Machine}
 use Rattle.b67_session_lines.specs.Ends.{EndsPrinting}
 use Rattle.b67_job.specs.Command.{command_line_of, backing_path}
 use Rattle.b67_job.specs.declared.command.CommandLine.{CommandLine}
-use Rattle.b67_job.specs.Device.{Device, device_of, DeviceUnchanged}
-use Rattle.b67_job.specs.Due.{Answered, Supplies, IsAmple, reading_text}
+use Rattle.b67_job.specs.declared.command.CommandLine.TheVariants as commands
+use Rattle.b67_job.specs.Device.{Device, DeviceTells, device_of, DeviceUnchanged}
+use Rattle.b67_job.specs.Due.{Answered, Supplies, IsAmple, IsOpenedOrResumed, reading_text}
 use Rattle.b67_job.specs.Judgement.{asked, judged_status, reads_text, text_limit}
 use Rattle.b67_job.specs.Lines.{memory_text}
+use Rattle.b67_job.specs.Passed.{AreTyped, parts_of}
 use Rattle.b67_job.specs.Statuses.{StatusMeans}
 use Rattle.b67_program.specs.Input.{IsTakenIn}
+
+-- The device has as many sectors as before, its count of failures didn't fall, and if it told what its sectors hold it still does.
+pub record OutlastsCalls {B : Type 0} (d : Device B) : Type 0 where
+  pub size : d.sectors_now ≡ d.sectors
+  pub faults : d.failed_before ≤ d.failed_now
+  pub tells : DeviceTells d → d.now ≢ None
+
+-- each number of a machine whose image was asked for is within its type: so it is known by that image
+abbrev pub ImageIsTyped : Option CommandLine → Option Machine → Type 0
+ImageIsTyped (Some (commands.Image core)) machine = (k : Machine) → machine ≡ Some k → AreTyped (parts_of k)
+ImageIsTyped _ machine = Unit {0}
 
 -- The command was carried out over the bytes that were read: a tape in memory has them, which tells them and can't fail. What
 -- `run` says of a deck is said of this tape.
@@ -28,6 +41,9 @@ pub record IsCarriedOut {S B K : Type 0} (words : List (Bor (List ℕ))) (left :
   pub deck_after : FreeTape
   pub holds : free_left deck ≡ bytes
   pub machine : Option Machine
+  pub kept : OutlastsCalls d
+  pub opened : (k : Machine) → machine ≡ Some k → IsOpenedOrResumed words free_told free_faults deck deck_after d k
+  pub typed : ImageIsTyped (command_line_of words) machine
   pub due : Answered words free_told free_faults deck deck_after d machine taken faults old new status
   pub means : StatusMeans words free_told free_faults deck deck_after d machine taken faults old new status
   -- If core and device suffice, and the printer and the device don't fail, the command and these bytes decide, or memory was

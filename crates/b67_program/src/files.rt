@@ -69,8 +69,20 @@ impl Backing for SystemFile {
     }
 }
 
-/// The system's files. It doesn't tell which were opened. If standard output is the file at a path, that isn't opened: no file has
-/// the empty name, so every call fails.
+/// The sectors in the file at a path, unless another path, into whose file lines are printed, leads to the same file: then every call
+/// fails, since no file has the empty name, and that file stays as it is.
+pub fn open_apart(rt: &HostRuntime, path: &str, printed: &str) -> SystemFile {
+    let path = if lead_to_one_file(rt, printed, path) {
+        ""
+    } else {
+        path
+    };
+    SystemFile {
+        sectors: FileBacking::at(rt, path),
+    }
+}
+
+/// The system's files. It doesn't tell which were opened. If standard output is the file at a path, that isn't opened.
 impl Devices for HostRuntime {
     type File = SystemFile;
 
@@ -79,14 +91,7 @@ impl Devices for HostRuntime {
     ghost kept = { λ _ _. None };
 
     fn open(&mut self, path: &str) -> SystemFile {
-        let path = if lead_to_one_file(self, PRINTED, path) {
-            ""
-        } else {
-            path
-        };
-        SystemFile {
-            sectors: FileBacking::at(self, path),
-        }
+        open_apart(self, path, PRINTED)
     }
 
     fn close(&mut self, _path: &str, _file: SystemFile) {}

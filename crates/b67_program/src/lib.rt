@@ -12,7 +12,7 @@ mod starting;
 mod words;
 
 pub use b67_job::{backing_path, command_of, run};
-pub use files::{Devices, SystemFile, lead_to_one_file};
+pub use files::{Devices, SystemFile, lead_to_one_file, open_apart};
 pub use in_memory::{calm_paper, print_into, serve_in_memory, tape_of};
 pub use lent::LentSectors;
 pub use reading::{InputFault, read_input};

@@ -12,13 +12,15 @@ ghost use Rattle.b67_job.specs.Judgement.{reads_text, text_limit};
 ghost use Rattle.b67_session_lines.specs.Ends.{EndsPrinting};
 ghost use Rattle.b67_program.specs.Opening.{OpensPaths, Finds, Leaves, paths_of};
 ghost use Rattle.b67_program.specs.Input.{IsTakenIn};
-ghost use Rattle.b67_program.specs.Served.{IsAnswered, IsServed};
+ghost use Rattle.b67_program.specs.Served.{ImageIsTyped, IsAnswered, IsServed};
 
 use crate::files::Devices;
 use crate::reading::{InputFault, PIECE, read_input};
 use b67_backing::{Backing, MemoryBacking};
 use b67_io::{FreeTape, Sink, Source};
-use b67_job::{CommandLine, backing_path, command_of, refuse_memory, run};
+use b67_job::{
+    CommandLine, Outcome, backing_path, command_of, outcome_is_typed, refuse_memory, run,
+};
 use b67_model::{DECK_BYTES, IMAGE_BYTES};
 use b67_session_lines::{line_of, say};
 use b67_word::{Bytes, Numbers};
@@ -69,6 +71,17 @@ fn say_reading_fault<K: Sink>(printer: &mut K) -> u8
     say(printer, 7, &line_of("READING FAULT"))
 }
 
+// Looks at each number of the machine whose image the words asked for, if a call left one: its type bounds it. Changes nothing.
+fn image_is_typed(words: &[&str], outcome: &Outcome)
+    ensures { ImageIsTyped (command_line_of words.now) outcome.now.machine }
+{
+    match command_of(words) {
+        None => {}
+        Some(CommandLine::Image { .. }) => outcome_is_typed(outcome),
+        Some(_) => {}
+    }
+}
+
 // Carries out the command of the words over a backing.
 fn answer<S: Source, K: Sink, B: Backing>(
     alloc: Global,
@@ -85,7 +98,9 @@ fn answer<S: Source, K: Sink, B: Backing>(
     match take_in(alloc, text_limit(words), input) {
         Ok(bytes) => {
             let mut deck = FreeTape::new(bytes, PIECE);
-            run(alloc, words, &mut deck, printer, backing).status
+            let outcome = run(alloc, words, &mut deck, printer, backing);
+            image_is_typed(words, &outcome);
+            outcome.status
         }
         Err(InputFault::SourceFault) => say_reading_fault(printer),
         Err(InputFault::Memory) => refuse_memory(printer).status,

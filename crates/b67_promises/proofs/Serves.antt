@@ -10,7 +10,7 @@ use Rattle.b67_model_text.specs.Deck.{limit}
 use Rattle.b67_session_lines.specs.Ends.{EndsPrinting, all_printed, cut_off}
 use Rattle.b67_job.specs.declared.command.CommandLine.{CommandLine}
 use Rattle.b67_job.specs.declared.command.CommandLine.TheVariants as commands
-use Rattle.b67_job.specs.Command.{command_line_of}
+use Rattle.b67_job.specs.Command.{command_line_of, backing_path}
 use Rattle.b67_job.specs.Device.{Device, DeviceTells, device_of}
 use Rattle.b67_job.specs.Due.{usage_due, refusal_due, print_due, image_due, dump_due, run_due, reading_due, memory_due, Answered, answered, cut_in_step, goes_on, usage_text, reading_text}
 use Rattle.b67_job.specs.Judgement.{judgement, reads_text, text_limit}
@@ -21,22 +21,36 @@ use Rattle.b67_task_tables.specs.declared.tables.Machine.{Machine}
 use Rattle.b67_program.specs.Input.{IsTakenIn}
 use Rattle.b67_program.specs.Opening.{Finds}
 use Rattle.b67_program.specs.Served.{IsCarriedOut, IsAnswered, carried_out, reading_failed, text_wants_memory, IsServed, over_file, over_memory, sectors_want_memory}
-use Rattle.b67_promises.specs.Paging.{AsksForRun}
+use Rattle.b67_promises.specs.Paging.{AsksForRun, FileIsTold}
 use Rattle.b67_promises.proofs.Calls.{Prints_so, call_prints, short_call, short_at, lone}
 use Rattle.b67_promises.proofs.OneLines.{usage_is_one, reading_is_one, memory_is_one}
 use Rattle.b67_promises.proofs.Words.{asks_run, run_words}
 
 -- a file tells its sectors if it is told what its path's file holds
-pub found_tells : {R B : Type 0} (kept : R → List ℕ → Option (List (List ℕ))) (holds : B → Option (List (List ℕ))) (now : R) → ((path : List ℕ) → kept now path ≢ None) → (path : List ℕ) (file : B) → Finds kept holds now path file → holds file ≢ None
-found_tells kept holds now known path file f none = by_kept (kept now path) refl
+pub found_tells : {R B : Type 0} (kept : R → List ℕ → Option (List (List ℕ))) (holds : B → Option (List (List ℕ))) (now : R) (path : List ℕ) (file : B) → kept now path ≢ None → Finds kept holds now path file → holds file ≢ None
+found_tells kept holds now path file known f none = by_kept (kept now path) refl
   where
     by_kept : (o : Option (List (List ℕ))) → kept now path ≡ o → ⊥
-    by_kept None e = known path e
+    by_kept None e = known e
     by_kept (Some all) e = none-some all (sym none ∙ f.told all e)
+
+-- so does one at the path that is named
+pub named_tells : {R B : Type 0} (kept : R → List ℕ → Option (List (List ℕ))) (holds : B → Option (List (List ℕ))) (now : R) (named : Option (List ℕ)) → FileIsTold kept now named
+    → (path : List ℕ) (file : B) → named ≡ Some path → Finds kept holds now path file → holds file ≢ None
+named_tells kept holds now named known path file e f = found_tells kept holds now path file (subst (FileIsTold kept now) e known) f
 
 answers_so : {K : Type 0} (taken : K → Option (List ℕ)) (faults : K → ℕ) (old new : K) (status : ℕ) (text : List ℕ) (answer : ℕ) → EndsPrinting taken faults old new status text answer → PrintsAndAnswers taken faults old new status (only text) answer
 answers_so taken faults old new status text answer (all_printed a took) = all_taken a took
 answers_so taken faults old new status text answer (cut_off a rose part) = cut_short part.count a rose (record { proper = part.proper; took = part.first })
+
+-- a text no longer than what may be read was read to its end
+pub taken_whole : {S : Type 0} (left : S → Option (List ℕ)) (faults : S → ℕ) (input input' : S) (most : ℕ) (bytes : List ℕ) → left input ≡ Some bytes → length bytes ≤ most
+    → (read : List ℕ) → IsTakenIn (Some most) left faults input input' (Ok read) → bytes ≡ read
+taken_whole left faults input input' most bytes told few read t =
+    let g = t.gave.told bytes told in
+    let size : length bytes ≡ length read + length g.0 = ap length g.1 ∙ length-append read g.0 in
+    let end : g.0 ≡ [] = (t.all (omega (arith, few, size))).told g.0 g.2 in
+    g.1 ∙ ap (λ (rest : List ℕ). read ++ rest) end ∙ append-nil read
 
 module _ {S K : Type 0} (words : List (Bor (List ℕ))) (w : AsksForRun words) (left : S → Option (List ℕ)) (source_faults : S → ℕ) (input input' : S) (taken : K → Option (List ℕ)) (faults : K → ℕ) (old new : K) (answer : ℕ)
     (bytes : List ℕ) (told : left input ≡ Some bytes) (few : length bytes ≤ limit) where
@@ -58,11 +72,7 @@ module _ {S K : Type 0} (words : List (Bor (List ℕ))) (w : AsksForRun words) (
 
   -- a run: all bytes were read
   pub all_read : (read : List ℕ) → IsTakenIn (Some limit) left source_faults input input' (Ok read) → bytes ≡ read
-  all_read read t =
-      let g = t.gave.told bytes told in
-      let size : length bytes ≡ length read + length g.0 = ap length g.1 ∙ length-append read g.0 in
-      let end : g.0 ≡ [] = (t.all (omega (arith, few, size))).told g.0 g.2 in
-      g.1 ∙ ap (λ (rest : List ℕ). read ++ rest) end ∙ append-nil read
+  all_read read t = taken_whole left source_faults input input' limit bytes told few read t
 
   carried : {B : Type 0} (d : Device B) → DeviceTells d → IsCarriedOut words left source_faults input input' d taken faults old new answer → So
   carried d tells r = by_command (command_line_of words) refl
@@ -82,8 +92,8 @@ module _ {S K : Type 0} (words : List (Bor (List ℕ))) (w : AsksForRun words) (
   by_answer d tells (text_wants_memory reads kept ends) =
       short_call taken faults old new (judgement bytes) None 9 (only memory_text) answer (short_at 9 9 refl (inl (omega arith))) (λ r. lone r (only memory_text) memory_text memory_is_one refl) (answers_so taken faults old new 9 memory_text answer ends)
 
-  pub serve_prints : {B : Type 0} (holds : B → Option (List (List ℕ))) (size broken : B → ℕ) (finds leaves : List ℕ → B → Type 0) → ((path : List ℕ) (file : B) → finds path file → holds file ≢ None) → IsServed words left source_faults input input' finds leaves (device_of holds size broken) taken faults old new answer → So
-  serve_prints holds size broken finds leaves tells (over_file path file file' is found left_so a) = by_answer (device_of holds size broken file file') (tells path file found) a
+  pub serve_prints : {B : Type 0} (holds : B → Option (List (List ℕ))) (size broken : B → ℕ) (finds leaves : List ℕ → B → Type 0) → ((path : List ℕ) (file : B) → backing_path words ≡ Some path → finds path file → holds file ≢ None) → IsServed words left source_faults input input' finds leaves (device_of holds size broken) taken faults old new answer → So
+  serve_prints holds size broken finds leaves tells (over_file path file file' is found left_so a) = by_answer (device_of holds size broken file file') (tells path file is found) a
   serve_prints holds size broken finds leaves tells (over_memory held held' none zeros reads writes calm a) =
       by_answer (device_of memory_told (λ b. length (memory_sectors b)) memory_faults held held') (λ e. none-some (memory_sectors held) (sym e)) a
   serve_prints holds size broken finds leaves tells (sectors_want_memory none ends) =

@@ -1,6 +1,6 @@
 -- What a call of the program prints and answers, as the machine of the model has it.
 use Rattle.std.proofs.Common.{◌≡◌, ◌≢◌, ◌≤◌, ℕ, List, [], length, take, refl, sym, ap, subst, ◌∙◌, Option, Some, None, Ok}
-use Rattle.std.proofs.lemmas.Option.{none-some}
+use Rattle.std.proofs.lemmas.Option.{same_Some, none-some}
 use denote.Ref.{Bor}
 use Rattle.b67_io.specs.Told.{Took}
 use Rattle.b67_io.specs.Free.{free_told, free_faults}
@@ -12,37 +12,42 @@ use Rattle.b67_job.specs.Due.{reading_text}
 use Rattle.b67_job.specs.Judgement.{text_limit}
 use Rattle.b67_job.specs.Lines.{memory_text}
 use Rattle.b67_program.specs.Input.{IsTakenIn}
+use Rattle.b67_program.specs.Opening.{Finds}
 use Rattle.b67_program.specs.Served.{IsCarriedOut, IsAnswered, carried_out, reading_failed, text_wants_memory, IsServed, over_file, over_memory, sectors_want_memory}
 use Rattle.b67_promises.specs.Described as described
-use Rattle.b67_promises.specs.Described.{IsRunCommand, IsAnsweredSo, IsDueOf}
+use Rattle.b67_promises.specs.Described.{IsRunCommand, IsAnsweredSo, IsDueOf, PrintsOverFile}
 use Rattle.b67_promises.proofs.CallsDescribed.{run_asks, call_is, longer}
 use Rattle.b67_promises.proofs.RunWords.{run_command, run_path, first_is_run}
-use Rattle.b67_promises.proofs.Serves.{all_read}
+use Rattle.b67_promises.proofs.Serves.{all_read, found_tells}
 
 module _ {S K : Type 0} (words : List (Bor (List ℕ))) (core : ℕ) (w : IsRunCommand core words) (left : S → Option (List ℕ)) (source_faults : S → ℕ) (input input' : S) (taken : K → Option (List ℕ)) (faults : K → ℕ) (old new : K) (answer : ℕ)
-    (bytes : List ℕ) (told : left input ≡ Some bytes) (few : length bytes ≤ limit) (sectors : ℕ) where
+    (bytes : List ℕ) (told : left input ≡ Some bytes) (few : length bytes ≤ limit) where
   abbrev So : ℕ → Type 0
   So n = (text : List ℕ) × Took taken old new text × IsAnsweredSo None core n bytes answer text
 
-  lone_due : (status : ℕ) (text : List ℕ) → IsDueOf None core sectors bytes status text → EndsPrinting taken faults old new status text answer → So sectors
-  lone_due status text due (all_printed a took) = (text, took, described.as_due (subst (λ (n : ℕ). IsDueOf None core sectors bytes n text) (sym a) due))
-  lone_due status text due (cut_off a rose part) = (take part.count text, part.first, described.cut_in_due status text a due (longer [] text part.count part.proper))
+  lone_due : (sectors status : ℕ) (text : List ℕ) → IsDueOf None core sectors bytes status text → EndsPrinting taken faults old new status text answer → So sectors
+  lone_due sectors status text due (all_printed a took) = (text, took, described.as_due (subst (λ (n : ℕ). IsDueOf None core sectors bytes n text) (sym a) due))
+  lone_due sectors status text due (cut_off a rose part) = (take part.count text, part.first, described.cut_in_due status text a due (longer [] text part.count part.proper))
 
-  carried : {B : Type 0} (d : Device B) → DeviceTells d → d.sectors ≡ sectors → IsCarriedOut words left source_faults input input' d taken faults old new answer → So sectors
-  carried d tells size r =
+  carried : {B : Type 0} (d : Device B) → DeviceTells d → IsCarriedOut words left source_faults input input' d taken faults old new answer → So d.sectors
+  carried d tells r =
       let is = run_command core words w in
       let most : text_limit (command_line_of words) ≡ Some limit = ap text_limit is in
       let same : bytes ≡ r.bytes = all_read words (first_is_run core words w) left source_faults input input' taken faults old new answer bytes told few r.bytes (subst (λ (o : Option ℕ). IsTakenIn o left source_faults input input' (Ok r.bytes)) most r.given) in
       let asks = run_asks words free_told r.deck r.deck_after core bytes w (ap Some (r.holds ∙ sym same)) in
-      subst So size (call_is words free_told free_faults r.deck r.deck_after d r.machine None core bytes asks tells r.due)
+      call_is words free_told free_faults r.deck r.deck_after d r.machine None core bytes asks tells r.due
 
-  by_answer : {B : Type 0} (d : Device B) → DeviceTells d → d.sectors ≡ sectors → IsAnswered words left source_faults input input' d taken faults old new answer → So sectors
-  by_answer d tells size (carried_out r) = carried d tells size r
-  by_answer d tells size (reading_failed reads rose kept ends) = lone_due 7 reading_text (described.source_fails refl refl) ends
-  by_answer d tells size (text_wants_memory reads kept ends) = lone_due 9 memory_text (described.memory_is_refused refl refl) ends
+  by_answer : {B : Type 0} (d : Device B) → DeviceTells d → IsAnswered words left source_faults input input' d taken faults old new answer → So d.sectors
+  by_answer d tells (carried_out r) = carried d tells r
+  by_answer d tells (reading_failed reads rose kept ends) = lone_due d.sectors 7 reading_text (described.source_fails refl refl) ends
+  by_answer d tells (text_wants_memory reads kept ends) = lone_due d.sectors 9 memory_text (described.memory_is_refused refl refl) ends
 
-  pub serve_is : {B : Type 0} (holds : B → Option (List (List ℕ))) (size broken : B → ℕ) (finds leaves : List ℕ → B → Type 0) → ((path : List ℕ) (file : B) → finds path file → holds file ≢ None) → ((file : B) → size file ≡ sectors)
-      → IsServed words left source_faults input input' finds leaves (device_of holds size broken) taken faults old new answer → So sectors
-  serve_is holds size broken finds leaves tells many (over_file path file file' is found left_so a) = by_answer (device_of holds size broken file file') (tells path file found) (many file) a
-  serve_is holds size broken finds leaves tells many (over_memory held held' none zeros reads writes calm a) = absurd (none-some w.path (sym none ∙ run_path core words w))
-  serve_is holds size broken finds leaves tells many (sectors_want_memory none ends) = lone_due 9 memory_text (described.memory_is_refused refl refl) ends
+  pub serve_is : {R B : Type 0} (kept : R → List ℕ → Option (List (List ℕ))) (holds : B → Option (List (List ℕ))) (size broken : B → ℕ) (now : R) (leaves : List ℕ → B → Type 0) → kept now w.path ≢ None
+      → IsServed words left source_faults input input' (Finds kept holds now) leaves (device_of holds size broken) taken faults old new answer
+      → PrintsOverFile kept holds size now w.path core bytes taken old new answer
+  serve_is kept holds size broken now leaves known (over_file path file file' is found left_so a) =
+      let found' = subst (λ (q : List ℕ). Finds kept holds now q file) (same_Some path w.path (sym is ∙ run_path core words w)) found in
+      let printed = by_answer (device_of holds size broken file file') (found_tells kept holds now w.path file known found') a in
+      record { file = file; found = found'; text = printed.0; printed = printed.1; so = printed.2 }
+  serve_is kept holds size broken now leaves known (over_memory held held' none zeros reads writes calm a) = absurd (none-some w.path (sym none ∙ run_path core words w))
+  serve_is kept holds size broken now leaves known (sectors_want_memory none ends) = absurd (none-some w.path (sym none ∙ run_path core words w))

@@ -6,7 +6,8 @@ use Rattle.b67_io.specs.Line.{ended}
 use Rattle.b67_io.specs.Told.{Took}
 use Rattle.b67_promises.specs.Paging.{texts, IsCutFrom}
 use Rattle.std.specs.List.{flat_map, AllByRecursion}
-use Rattle.b67_model.specs.Common.{RunLine, run_text}
+use Rattle.b67_model.specs.Common.{RunLine, lines as lines_of, live_after, run_text}
+use Rattle.b67_job_admit.specs.Admitting.{Prepared, deck_prepared, run_of}
 use Rattle.b67_task_tables.specs.declared.tables.Machine.{Machine}
 use Rattle.b67_layout_shown.specs.Machines.{RepresentsOne}
 use Rattle.b67_session_lines.specs.Stops.{halted_line}
@@ -112,3 +113,14 @@ pub record ResumeBegins {L M : Type 0} (halted : List ℕ) (taken : L → Option
   pub halts : halted ≡ front ++ (ended (codes "?IMAGE") ++ rest)
   pub other : AreOtherLines front
   pub begins : IsCutFrom whole (front ++ resumed)
+
+-- A halted run of this deck printed this text, and now a printer took the rest. The steps of the deck's session, which its halt
+-- doesn't change, come to the end of all tasks, and their lines are those of the halted run and the rest together.
+pub record PrintsTheRest {L : Type 0} (bytes halted : List ℕ) (taken : L → Option (List ℕ)) (old new : L) : Type 0 where
+  pub p : Prepared
+  pub deck : deck_prepared bytes ≡ Ok p
+  pub steps : ℕ
+  pub over : live_after steps (run_of p).session ≡ 0
+  pub resumed : List ℕ
+  pub printed : Took taken old new resumed
+  pub parts : PrintTogether halted resumed (run_text (lines_of steps (run_of p).session))

@@ -3,28 +3,24 @@
 ghost use Rattle.std.specs.Prelude.{◌≡◌, ◌≢◌, ◌≤◌, ◌<◌, ◌^◌, ◌++◌, ℕ, List, length, Option, Some, None};
 ghost use Rattle.b67_io.specs.Causes.{Stayed};
 ghost use Rattle.b67_task_tables.specs.declared.tables.Machine.{Machine};
+ghost use Rattle.std.specs.Process.{exit_status};
+ghost use Rattle.b67_model_text.specs.Deck as deck;
 ghost use Rattle.b67_image.specs.Text.{limit};
-ghost use Rattle.b67_image.specs.Parts.{parts_of};
-ghost use Rattle.b67_image.specs.Typed.{AreTyped};
+ghost use Rattle.b67_job.specs.Command.{backing_path};
 ghost use Rattle.b67_job.specs.Device.{device_of};
 ghost use Rattle.b67_job.specs.Due.{Answered};
 ghost use Rattle.b67_promises.specs.Paging.{AsksForRun, AsksForRunIn, EndsToo};
-ghost use Rattle.b67_promises.specs.Halts.{AsksForImage, AsksForImageIn, AsksForResume, DifferInHalt, ResumePrints, ResumeBegins, ImagesOfRunsAreRead, IsReadBack};
+ghost use Rattle.b67_program.specs.Opening.{Finds, Leaves};
+ghost use Rattle.b67_program.specs.Served.{IsServed};
+ghost use Rattle.b67_promises.specs.Halts.{AsksForImage, AsksForImageIn, AsksForResume, DifferInHalt, ResumePrints, ResumeBegins, PrintsTheRest, ImagesOfRunsAreRead, IsReadBack};
 
 use b67_backing::Backing;
-use b67_image::{machine_is_typed, parts_tell_sessions};
+use b67_image::parts_tell_sessions;
 use b67_io::{Sink, Source};
-use b67_job::{Outcome, run};
+use b67_job::{Outcome, outcome_is_typed, run};
+use b67_program::{Devices, serve};
 use std::alloc::Global;
-
-/// Looks at each number of the machine that a call has left, if it left one: its type bounds it. Changes nothing.
-pub(crate) fn outcome_is_typed(outcome: &Outcome)
-    ensures { (k : Machine) → outcome.now.machine ≡ Some k → AreTyped (parts_of k) }
-{
-    if let Some(machine) = &outcome.machine {
-        machine_is_typed(machine);
-    }
-}
+use std::process::ExitCode;
 
 /// Runs a deck to its halt by `image`; goes on from what was printed by `resume`, over the same backing; and runs the same deck
 /// without its halt by `run`, over a backing of its own. Answers the three statuses.
@@ -100,6 +96,43 @@ pub fn run_halted_then_resumed<
     let resumed = run(alloc, resume_words, image, resume_printer, backing);
     let whole = run(alloc, whole_words, whole_deck, whole_printer, whole_backing);
     (halted.status, resumed.status, whole.status)
+}
+
+/// Serves a deck by `image`, which halts, and serves `resume` on what was printed, over the file of the same path, as the program
+/// does. Answers what each call is to end with.
+///
+/// If the first ends with 3 and the second with 0, the lines of the halted run and those of the resumed one are together what the
+/// machine of the model prints of the deck, to the end of all its tasks.
+pub fn serve_halted_then_resumed<R: Devices, S: Source, K: Sink, I: Source, L: Sink>(
+    alloc: Global,
+    words: &[&str],
+    devices: &mut R,
+    input: &mut S,
+    printer: &mut K,
+    resume_words: &[&str],
+    image: &mut I,
+    resume_printer: &mut L,
+) -> (ExitCode, ExitCode)
+    // What the second input gives is what the first printer took. It is told what the file of the path holds, and neither text is
+    // longer than a command reads.
+    ensures together { (path bytes before text : List ℕ) → AsksForImage words.now → AsksForResume resume_words.now
+        → backing_path words.now ≡ Some path → backing_path resume_words.now ≡ Some path → R.kept devices.old path ≢ None
+        → S.left input.old ≡ Some bytes → length bytes ≤ deck.limit
+        → K.taken printer.old ≡ Some before → K.taken printer.new ≡ Some (before ++ text) → I.left image.old ≡ Some text → length text ≤ limit
+        → exit_status result.0 ≡ 3 → exit_status result.1 ≡ 0
+        → PrintsTheRest bytes text L.taken resume_printer.old resume_printer.new }
+
+    // The answers are those of two calls of `serve`, the second over the files as the first has left them.
+    ensures calls { (middle : R)
+        × IsServed words.now S.left S.faults input.old input.new (Finds R.kept R.File.holds devices.old) (Leaves R.kept R.File.holds middle) (device_of R.File.holds R.File.size R.File.faults)
+        K.taken K.faults printer.old printer.new (exit_status result.0)
+        × IsServed resume_words.now I.left I.faults image.old image.new (Finds R.kept R.File.holds middle) (Leaves R.kept R.File.holds devices.new) (device_of R.File.holds R.File.size R.File.faults)
+        L.taken L.faults resume_printer.old resume_printer.new (exit_status result.1) }
+{
+    parts_tell_sessions();
+    let halted = serve(alloc, words, devices, input, printer);
+    let resumed = serve(alloc, resume_words, devices, image, resume_printer);
+    (halted, resumed)
 }
 
 /// What `image` prints of a run that halts is read as the image of its machine, if the machine's numbers are within their ranges,

@@ -1,7 +1,11 @@
 //! The program's call over memory alone, and which paths lead to one file. Over the system's files it is rows of `b67_rows`.
 
-use b67_program::{lead_to_one_file, serve_in_memory};
-use std::alloc::Global;
+ghost use Rattle.std.specs.Prelude.{◌≡◌, ◌≤◌, ◌<◌, ◌^◌, length};
+
+use crate::run_in_memory_twice;
+use b67_backing::Backing;
+use b67_program::{lead_to_one_file, open_apart, serve_in_memory};
+use std::alloc::{AllocError, Global};
 use std::fs;
 use std::process::Abort;
 use std::test::Fail;
@@ -20,6 +24,23 @@ fn paths_lead_to_one_file(rt: HostRuntime) -> Result<(), Fail> {
     assert!(rt; !lead_to_one_file(&rt, PATH, "/dev/stdout"));
     fs::remove_file(&rt, PATH)?;
     assert!(rt; !lead_to_one_file(&rt, PATH, PATH));
+    Ok(())
+}
+
+/// A file of this name isn't there either.
+const PRINTED: &str = "b67_program_lines";
+
+// A file that lines are printed into is no backing, and stays as it is; another one is.
+#[test]
+fn prints_into_no_backing(rt: HostRuntime) -> Result<(), Fail> {
+    fs::write(&rt, PRINTED, b"".as_slice())?;
+    let mut sector = [0u64; 30];
+    let mut same = open_apart(&rt, PRINTED, PRINTED);
+    assert!(rt; same.read(1, &mut sector).is_err());
+    assert!(rt; fs::metadata(&rt, PRINTED)?.len() == 0);
+    let mut other = open_apart(&rt, PRINTED, "/dev/null");
+    assert!(rt; other.read(1, &mut sector).is_ok());
+    fs::remove_file(&rt, PRINTED)?;
     Ok(())
 }
 
@@ -92,4 +113,44 @@ fn serves_in_memory(rt: HostRuntime) -> Result<(), Fail> {
     serves_so(&rt, alloc, &RUN, "?JOB a\n", 9, 99, 2, REFUSED)?;
     serves_so(&rt, alloc, &CHECK, SUM, 1, 99, 0, ADMITTED)?;
     serves_so(&rt, alloc, &NO_COMMAND, SUM, 1, 99, 1, USAGE)
+}
+
+const MORE: [&str; 5] = ["run", "--core", "5000", "--backing", "b"];
+
+// The premises of two runs over memory: sectors, some of which are taken, and equal room.
+fn runs_twice(
+    alloc: Global,
+    sectors: &[[u64; 30]],
+    lines: &mut [u8],
+    other_lines: &mut [u8],
+) -> Result<(u8, u8), AllocError>
+    requires low { 1 ≤ length sectors.now }
+    requires high { length sectors.now < 2 ^ 20 }
+    requires room { length lines.old ≡ length other_lines.old }
+{
+    let (mut printed, mut other_printed) = (0, 0);
+    run_in_memory_twice(
+        alloc,
+        SUM.as_bytes(),
+        &RUN,
+        sectors,
+        lines,
+        &mut printed,
+        &MORE,
+        sectors,
+        other_lines,
+        &mut other_printed,
+    )
+}
+
+#[test]
+fn runs_in_memory_twice(rt: HostRuntime) -> Result<(), Fail> {
+    let sectors = [[0u64; 30]; 9];
+    let (mut lines, mut other_lines) = ([0u8; 99], [0u8; 99]);
+    let statuses = runs_twice(rt.alloc(), &sectors, &mut lines, &mut other_lines)?;
+    assert_eq!(rt; statuses.0, 0);
+    assert_eq!(rt; statuses.1, 0);
+    assert!(rt; lines.starts_with(LINES.as_bytes()));
+    assert!(rt; other_lines.starts_with(LINES.as_bytes()));
+    Ok(())
 }

@@ -1,7 +1,7 @@
 //! One file of 64 sectors in memory, whatever the path: devices of which it is told what their files hold. The premises of the theorems
 //! on the program's call are met here, over a tape and a paper in memory.
 
-ghost use Rattle.std.specs.Prelude.{◌≡◌, ◌≤◌, ℕ, List, Some, None, length};
+ghost use Rattle.std.specs.Prelude.{◌≡◌, ◌≤◌, ℕ, List, [], ◌∷◌, Some, None, codes, length};
 ghost use Rattle.std.specs.Process.{exit_status};
 ghost use Rattle.b67_io.specs.Told.{Took};
 ghost use Rattle.b67_io.specs.Free.{free_left};
@@ -14,9 +14,9 @@ use crate::described::serve_described;
 use crate::paging::serve_twice;
 use b67_backing::Backing;
 use b67_io::{FreeTape, Paper};
-use b67_program::Devices;
+use b67_program::{Devices, Words};
 use b67_word::Failed;
-use std::alloc::Global;
+use std::alloc::{AllocError, Global};
 use std::process::ExitCode;
 
 /// The sectors of the file, while they are used.
@@ -86,6 +86,17 @@ impl Devices for Shelf {
     fn close(&mut self, _path: &str, file: ShelfFile) {
         let held = file.held;
         self.held = held;
+    }
+}
+
+/// A shelf stands in for a process, too: its words are `check`, and it tells them.
+impl Words for Shelf {
+    ghost given = { λ _. Some (codes "check" ∷ []) };
+
+    fn words(&self, alloc: Global) -> Result<Vec<String>, AllocError> {
+        let mut words = Vec::new(alloc);
+        words.push(String::from_str(alloc, "check")?)?;
+        Ok(words)
     }
 }
 

@@ -1,7 +1,8 @@
 //! A deck whose two arrays evict each other, served on one shelf and on another, in the least core and in a larger one.
 
+use crate::halts::serve_halted_then_resumed;
 use crate::shelf::{Shelf, serve_on_shelf, serve_on_shelves};
-use b67_program::{calm_paper, serve, tape_of};
+use b67_program::{calm_paper, serve, serve_process, tape_of};
 use std::process::ExitCode;
 use std::test::Fail;
 
@@ -53,25 +54,46 @@ fn serves_on_two_shelves(rt: HostRuntime) -> Result<(), Fail> {
     Ok(())
 }
 
+#[test]
+fn serves_a_process(rt: HostRuntime) -> Result<(), Fail> {
+    let alloc = rt.alloc();
+    let mut shelf = Shelf::new();
+    let mut input = tape_of(alloc, TWO.as_bytes())?;
+    let mut paper = calm_paper(alloc, 99)?;
+    let code = serve_process(alloc, &mut shelf, &mut input, &mut paper);
+    assert!(rt; code == ExitCode::SUCCESS);
+    assert!(rt; paper.bytes() == b"TWO ADMITTED 1 0\n".as_slice());
+    Ok(())
+}
+
 const IMAGE: [&str; 5] = ["image", "--core", "630", "--backing", "b"];
 
 const RESUME: [&str; 3] = ["resume", "--backing", "b"];
 
-// What the file holds when the first call has ended is what the second one goes on with.
+const HALTING: &str =
+    "?HALT 20\n?STACK 256\n?JOB TWO\n?ASM\nSEGMENT MAIN 2\nMKST\nNAMC 0,8\nLT8 200\nENTR\nMKST\nNAMC 0,8\nLT8 200\nENTR\nNAMC 2,2\nLT8 5\nINDX\nNAMC 2,3\nLT8 6\nINDX\nLT8 11\nNAMC 2,4\nSTOD\nLT8 12\nNAMC 2,5\nSTOD\nMKST\nNAMC 0,9\nVALC 2,4\nVALC 2,5\nADD\nENTR\nEXIT\n?END\n";
+
+// What `image` prints is known from a call of its own. What the file holds when the first call has ended is what the second one goes
+// on with.
 #[test]
 fn goes_on_from_an_image(rt: HostRuntime) -> Result<(), Fail> {
     let alloc = rt.alloc();
-    let mut shelf = Shelf::new();
-    let mut text = String::from_str(alloc, "?HALT 20\n")?;
-    text.push_str(TWO)?;
-    let mut input = tape_of(alloc, text.as_str().as_bytes())?;
-    let mut paper = calm_paper(alloc, 100_000)?;
-    let code = serve(alloc, &IMAGE, &mut shelf, &mut input, &mut paper);
+    let mut alone = Shelf::new();
+    let mut input = tape_of(alloc, HALTING.as_bytes())?;
+    let mut known = calm_paper(alloc, 100_000)?;
+    let code = serve(alloc, &IMAGE, &mut alone, &mut input, &mut known);
     assert!(rt; code == ExitCode::from(3));
-    let mut image = tape_of(alloc, paper.bytes())?;
+    let mut shelf = Shelf::new();
+    let mut input = tape_of(alloc, HALTING.as_bytes())?;
+    let mut paper = calm_paper(alloc, 100_000)?;
+    let mut image = tape_of(alloc, known.bytes())?;
     let mut rest = calm_paper(alloc, 99)?;
-    let code = serve(alloc, &RESUME, &mut shelf, &mut image, &mut rest);
-    assert!(rt; code == ExitCode::SUCCESS);
+    let codes = serve_halted_then_resumed(
+        alloc, &IMAGE, &mut shelf, &mut input, &mut paper, &RESUME, &mut image, &mut rest,
+    );
+    assert!(rt; codes.0 == ExitCode::from(3));
+    assert!(rt; codes.1 == ExitCode::SUCCESS);
+    assert!(rt; paper.bytes() == known.bytes());
     assert!(rt; rest.bytes() == LINES.as_bytes());
     Ok(())
 }

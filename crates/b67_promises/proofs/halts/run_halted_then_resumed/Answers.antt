@@ -6,6 +6,7 @@ use Rattle.b67_job.specs.Statuses.{StatusMeans}
 use Rattle.b67_job.specs.Runs.{run_of, WasOpened}
 use Rattle.b67_job.specs.Judgement.{judgement}
 use Rattle.b67_image.specs.Meaning.{told_in}
+use Rattle.b67_program.proofs.Answering.{tells_on}
 use Rattle.b67_promises.proofs.TurnCalls.{prepared_is}
 use Rattle.b67_promises.proofs.Words.{asks_run}
 use Rattle.b67_promises.proofs.Cores.{is_run, run_opens}
@@ -30,7 +31,7 @@ returns-clause-together g c = λ bytes other before text w w' w'' told told' dif
     let made : ℕ = h.k.tasks.made in
     let s : Session = after made s0 in
     let stands = subst (λ (t : Option (List (List ℕ))). StandsAt t h.k s) (halves.known_is (g.B.Backing.holds c.args.backing.now) (g.B.Backing.holds c.run-halted.new.backing) tells) h.stands in
-    let still = halves.tells_on g.B.Backing.holds g.B.Backing.size g.B.Backing.calls g.B.Backing.faults c.args.backing.now c.run-halted.new.backing c.run-halted.ensures.device tells in
+    let still = tells_on g.B.Backing.holds g.B.Backing.size g.B.Backing.calls g.B.Backing.faults c.args.backing.now c.run-halted.new.backing c.run-halted.ensures.device tells in
     let means' = subst (λ (n : ℕ). StatusMeans c.args.resume_words.now g.I.Source.left g.I.Source.faults c.args.image.now c.run-resumed.new.deck two c.run-resumed.result.machine g.L.Sink.taken g.L.Sink.faults c.args.resume_printer.now c.run-resumed.new.printer n) zero c.run-resumed.ensures.status in
     let rest = halves.rest_of_run c.args.resume_words.now g.I.Source.left g.I.Source.faults c.args.image.now c.run-resumed.new.deck two c.run-resumed.result.machine g.L.Sink.taken g.L.Sink.faults c.args.resume_printer.now c.run-resumed.new.printer
     w' still s h.k stands text given c.parts_tell_sessions.ensures
@@ -71,7 +72,7 @@ returns-clause-begins g c = λ bytes other before text w w' w'' told told' diffe
     let made : ℕ = h.k.tasks.made in
     let s : Session = after made s0 in
     let stands = subst (λ (t : Option (List (List ℕ))). StandsAt t h.k s) (halves.known_is (g.B.Backing.holds c.args.backing.now) (g.B.Backing.holds c.run-halted.new.backing) tells) h.stands in
-    let still = halves.tells_on g.B.Backing.holds g.B.Backing.size g.B.Backing.calls g.B.Backing.faults c.args.backing.now c.run-halted.new.backing c.run-halted.ensures.device tells in
+    let still = tells_on g.B.Backing.holds g.B.Backing.size g.B.Backing.calls g.B.Backing.faults c.args.backing.now c.run-halted.new.backing c.run-halted.ensures.device tells in
     let rested = begins.rest_printed c.args.resume_words.now g.I.Source.left g.I.Source.faults c.args.image.now c.run-resumed.new.deck two c.run-resumed.result.machine g.L.Sink.taken g.L.Sink.faults c.args.resume_printer.now c.run-resumed.new.printer
     w' still s h.k stands text given c.parts_tell_sessions.ensures
     (λ card p few is. parts_are (lines made s0) made h.k _ card p (subst (λ (t : List ℕ). halves.IsShort t) h.printed few) typed names (ap (told_in _) (sym h.printed) ∙ is)) c.run-resumed.result.status c.run-resumed.ensures.due in
@@ -99,7 +100,7 @@ returns-clause-ends_too g c = λ bytes other before text core less w w' w'' le s
     let made : ℕ = h.k.tasks.made in
     let s : Session = after made s0 in
     let stands = subst (λ (t : Option (List (List ℕ))). StandsAt t h.k s) (halves.known_is (g.B.Backing.holds c.args.backing.now) (g.B.Backing.holds c.run-halted.new.backing) tells) h.stands in
-    let still = halves.tells_on g.B.Backing.holds g.B.Backing.size g.B.Backing.calls g.B.Backing.faults c.args.backing.now c.run-halted.new.backing c.run-halted.ensures.device tells in
+    let still = tells_on g.B.Backing.holds g.B.Backing.size g.B.Backing.calls g.B.Backing.faults c.args.backing.now c.run-halted.new.backing c.run-halted.ensures.device tells in
     let j = judgement other in
     let asks = asks_run c.args.whole_words.now g.T.Source.left c.args.whole_deck.now c.run-whole.new.deck other (is_run less c.args.whole_words.now w'') told' in
     let run = whole_run tells' j None c.run-whole.result.status asks (inl zero) c.run-whole.ensures.due in

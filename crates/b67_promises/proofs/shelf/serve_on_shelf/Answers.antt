@@ -4,4 +4,4 @@ use Rattle.b67_io.specs.Free.{free_left}
 use Rattle.b67_promises.proofs.shelf.serve_on_shelf.Goals as goal
 
 pub returns : goal.returns
-returns c = λ core w few. c.serve_described.ensures.ends core 64 (free_left c.args.input.now) w refl few (λ path e. none-some _ (sym e)) (λ file. refl)
+returns c = λ core w few. let s = c.serve_described.ensures.ends core (free_left c.args.input.now) w refl few (λ e. none-some _ (sym e)) in (s.text, s.printed, s.so)
