@@ -95,6 +95,6 @@ export async function aloud(it) {
   for (const key of ['ArrowDown', 'ArrowDown']) await browser.press(key);
   await browser.press('Enter');
   const one = "document.querySelectorAll('#cards .stopped').length === 1";
-  await browser.until(one, 10).catch(() => {}); // Firefox may take a key after its driver has answered
+  await browser.until(one, 10).catch(() => {});
   it.wants(await browser.value(one), `a breakpoint by keys in the list of cards; the focus is on ${await browser.value("document.activeElement.outerHTML.slice(0, 120)")}`);
 }

@@ -88,7 +88,9 @@ export class Marionette {
   static async started(program) {
     const it = new Marionette(), port = await freePort();
     Object.assign(it, {room: roomFor('firefox'), waiting: new Map(), calls: 0, rest: Buffer.alloc(0)});
-    fs.writeFileSync(path.join(it.room, 'user.js'), `user_pref('marionette.port', ${port});\nuser_pref('app.update.enabled', false);\n`);
+    const settings = {'marionette.port': port, 'app.update.enabled': false, 'browser.download.folderList': 2, 'browser.download.dir': it.room,
+      'browser.download.alwaysOpenPanel': false}; // the panel of a file that was saved would take the key Enter
+    fs.writeFileSync(path.join(it.room, 'user.js'), Object.entries(settings).map(([name, value]) => `user_pref('${name}', ${JSON.stringify(value)});\n`).join(''));
     it.child = spawn(program, ['--headless', '--marionette', '--remote-allow-system-access', '--profile', it.room, '--no-remote'], {stdio: 'ignore', env: {...process.env, HOME: it.room}});
     it.socket = await connected(port);
     it.socket.on('data', bytes => it.hears(bytes));
