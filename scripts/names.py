@@ -28,7 +28,7 @@ FOLDERS = ("src", "specs", "proofs", "must-fail", "more-edits")
 
 
 class Crate:
-    """The names that a crate declares and passes on, those of each of its files, and the bodies of its functions."""
+    """The names that a crate declares and passes on, those of each of its files and of its edits, and the bodies of its functions."""
 
     def __init__(self, folder):
         self.files, self.words, self.passed, self.bodies = {}, set(), set(), {}
@@ -37,6 +37,9 @@ class Crate:
                 if path.endswith((".rt", ".antt")):
                     with open(path, encoding="utf-8") as text:
                         self.read(os.path.relpath(path, folder), text.read())
+        for kind in ["must-fail", "more-edits"]:
+            edits = glob.glob(os.path.join(folder, kind, "*.edit"))
+            self.files[kind] = {os.path.basename(edit)[:-len(".edit")] for edit in edits}
 
     def read(self, path, text):
         names = self.files.setdefault(path, set())
