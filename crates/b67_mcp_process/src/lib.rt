@@ -1,4 +1,7 @@
-//! The intrinsic PROCESS.
+//! The intrinsic PROCESS: what the call asks for, with its faults in order; the areas under the new stack evicted; the birth.
+//! It promises the row, or a stop with the words or sectors that are too few, and the same session.
+//!
+//! For `b67_mcp`: `process` (`row` with `meets`, `quiet`; `fits`, `kept`; `device` with `calls`, `cause`).
 //!
 //! Begin with `process`: `row`, `device`.
 #![tactic(auto)]

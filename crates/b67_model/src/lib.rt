@@ -1,6 +1,11 @@
-//! The definitions of the machine, in `specs/`, and the operators that they and the code share.
+//! The definitions of the machine, in `specs`, and what they and the code share: the operators, the intrinsics' numbers, the
+//! limits.
 //!
-//! Begin with `specs/State`, then `Rows`, `Intrinsics`, `Schedule` and `Run`; the limits are in `src/limits.rt`.
+//! For all crates, and for whoever asks what is proved: contracts are stated in these words. `docs/MACHINE.md` tells the same
+//! in sentences.
+//!
+//! Begin with `specs/State`, then `specs/Rows`, `specs/Intrinsics`, `specs/Schedule` and `specs/Run`; the limits are in
+//! `src/limits.rt`.
 #![tactic(auto)]
 
 mod intrinsics;

@@ -1,4 +1,7 @@
-//! The machine's registers over core, and the running stack: push, pop, mark and cut.
+//! The machine's registers over core, and the running stack: push, pop, mark and cut. A view says what stands where, and not
+//! what is present; each call promises the view that is left.
+//!
+//! For all over core: `Cpu`, `Step`, the definitions `Represents` and `MachineView`; `push`, `pop`, `mark`, `cut` (`stands`).
 //!
 //! Begin with the definition `Represents` (`specs/Represents`), then `push` and its clause `stands`.
 #![tactic(auto)]
