@@ -19,8 +19,8 @@ mod vector;
 pub use areas::{AreaHead, AreaTail};
 pub use descriptors::{DataDesc, SegDesc};
 pub use map::{
-    DICTIONARY_STACKS, DIRECTORY, FIRST_DICTIONARY, FIRST_INTRINSIC, LAST_INTRINSIC, MCP_STACK,
-    SLOTS, STACK_VECTOR,
+    DICTIONARIES, DICTIONARY_STACKS, DIRECTORY, FIRST_DICTIONARY, FIRST_INTRINSIC, LAST_INTRINSIC,
+    MCP_STACK, SLOTS, STACK_VECTOR,
 };
 pub use marks::{Mscw, Rcw, Toscw};
 pub use programs::{IntrinsicPcw, Pcw};

@@ -9,4 +9,7 @@
 
 pub mod tables;
 
-pub use crate::tables::{JobRow, JobRows, Machine, NO_PARENT, NO_ROW, TaskRow, TaskState, Tasks};
+pub use crate::tables::{
+    JobRow, JobRows, MOST_ENDED, MOST_LISTED, MOST_ROWS, Machine, NO_PARENT, NO_ROW, TaskRow, TaskState,
+    Tasks,
+};
