@@ -15,7 +15,7 @@ use crate::deaths::all_ended;
 use crate::left::goes_on;
 use arrayvec::ArrayVec;
 use b67_task_end::live_of;
-use b67_task_tables::{TaskState, Tasks};
+use b67_task_tables::{MOST_LISTED, TaskState, Tasks};
 use b67_word::Ending;
 
 /// Sets the state in a row, and gives the one that stood there.
@@ -32,7 +32,7 @@ pub(crate) fn set_state(tasks: &mut Tasks, at: u8, state: TaskState) -> TaskStat
 }
 
 /// The tasks of a job that end by DEADLOCK, deepest first: all that live, if none of them is ready.
-pub(crate) fn stuck(tasks: &Tasks, job: u8) -> ArrayVec<(u32, Ending), 15>
+pub(crate) fn stuck(tasks: &Tasks, job: u8) -> ArrayVec<(u32, Ending), MOST_LISTED>
     requires { HasSomeHead tasks.now job NO_PARENT }
     ensures { (plan : Placement) (s : Session) (m : SessionJob) → TablesHold plan s tasks.now → Has s.jobs m → m.constants.number ≡ job
         → result.items ≡ (deadlocked (unsettled m.progress.job)).endings }

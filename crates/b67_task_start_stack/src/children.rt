@@ -27,7 +27,7 @@ pub fn mark_disp(cpu: &Cpu) -> u16
 }
 
 /// A live task depends on the mark at a displacement of a slot: the topmost mark on which one depends there is no lower.
-pub fn raise(critical: &mut [u16; 120], slot: u8, at: u16)
+pub fn raise(critical: &mut [u16; SLOTS as usize], slot: u8, at: u16)
     requires { slot < SLOTS }
     ensures own { (v : ℕ) → slice_get critical.old slot ≡ Some v → slice_get critical.new slot ≡ Some (max v at) }
     ensures others { (q : ℕ) → q ≢ slot → slice_get critical.new q ≡ slice_get critical.old q }

@@ -1,4 +1,6 @@
-//! A slot more, and the new task's stack in its slot.
+//! A slot more, and the new task's stack in its slot, over core alone, with its parent's critical mark.
+//!
+//! For `b67_task_start`: `add_slot`, `build_child` (`stands`), `mark_disp`, `raise`.
 //!
 //! Begin with `build_child` and its clause `stands`.
 #![tactic(auto)]
