@@ -6,5 +6,5 @@
 mod children;
 mod slots;
 
-pub use children::{build_child, mark_disp, raise};
+pub use children::{build_child, raise};
 pub use slots::add_slot;
