@@ -83,20 +83,22 @@ fn add_stuck(list: &mut ArrayVec<(u32, Ending), MOST_ENDED>, dead: &[(u32, Endin
     }
 }
 
-/// All that end if these end by themselves or with their parent: if no task of the job is ready then, those that are left end
-/// by DEADLOCK.
+/// All that end if these end by themselves or with their parent: if no task of the job goes on then, as was seen, those that are
+/// left end by DEADLOCK.
 pub(crate) fn with_stuck(
     tasks: &Tasks,
     job: u8,
     dead: &[(u32, Ending)],
+    goes: bool,
 ) -> ArrayVec<(u32, Ending), MOST_ENDED>
     requires head { HasSomeHead tasks.now job NO_PARENT }
     requires few { length dead.now ≤ MOST_TASKS }
+    requires seen { goes ≡ list_any (left_ready job dead.now) tasks.now.rows.items }
     ensures { (plan : Placement) (s : Session) (m : SessionJob) (number : ℕ) (ending : ending_type.Ending) → TablesHold plan s tasks.now → Has s.jobs m → m.constants.number ≡ job
         → dead.now ≡ (ends_task m.progress.job number ending).endings → result.items ≡ (deadlocked (ends_task m.progress.job number ending)).endings }
 {
     let mut list = copied(dead);
-    if goes_on(tasks, job, dead) {
+    if goes {
         return list;
     }
     let live = live_of(tasks, job);
