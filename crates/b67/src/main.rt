@@ -1,4 +1,9 @@
-//! The program: it reads a deck from standard input, prints to standard output and pages to the file of its words.
+//! The program: it reads a deck from standard input, prints to standard output and pages to the file of its words. It promises
+//! nothing of its own: all of it is one call of `serve_process`, whose contract is in `b67_program`.
+//!
+//! For whoever is at the shell; the manual page `docs/b67.1` says its words and statuses.
+//!
+//! Begin with `main`.
 #![tactic(auto)]
 
 use b67_io::{StdSink, StdSource};

@@ -58,11 +58,6 @@ module _ (core : List Tagged) (b h at next : ℕ) where
   front_hole (Hole n ∷ ss) i e is =
       (omega (arith, i.ends, low_end (at + n) ss, i.small), next-lt core at (at + n) ss i.spans.2 (omega (arith, i.ends)) i.small, rw is (pending core at (hole_high n) (at + n) ss i.laid.1))
 
-  pub front_none : (ss : List Span) → IsAbove core b h at ss → next ≡ first_hole at ss → next ≢ at → (0 ≡ front ss) × (next ≡ first_hole (at + front ss) (behind ss))
-  front_none [] i e apart = (refl, e)
-  front_none (Area a ∷ ss) i e apart = let z : at + (a.words + 2) ≡ at + 0 + (a.words + 2) = omega arith in (refl, e ∙ ap (λ (k : ℕ). first_hole k ss) z)
-  front_none (Hole n ∷ ss) i e apart = absurd (apart e)
-
   pub front_next : (ss : List Span) → IsAbove core b h at ss → (first_hole (at + front ss) (behind ss) < 2 ^ 20) × (at + front ss ≤ length core) × (end (at + front ss) (behind ss) ≡ length core)
   front_next [] i = (omega arith, omega (arith, i.ends), let z : at + 0 ≡ at = omega arith in z ∙ i.ends)
   front_next (Area a ∷ ss) i =

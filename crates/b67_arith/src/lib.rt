@@ -1,6 +1,7 @@
-//! Arithmetic, comparisons and operations on bits, each on words of the stack.
+//! Arithmetic, comparisons and operations on bits, each on words of the stack. A word that isn't an operand is INVALID OPERAND,
+//! for all words before EXPONENT for an operand that isn't whole.
 //!
-//! A word that isn't an operand is INVALID OPERAND, for all words before EXPONENT for an operand that isn't whole.
+//! For `b67_exec_cells`: each call is its row for all words or pairs of words.
 //!
 //! Begin with `combine`: each call is its row for all pairs of words.
 #![tactic(auto)]

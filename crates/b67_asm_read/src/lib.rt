@@ -1,4 +1,7 @@
-//! Cards of assembly read: each card's statement, with its numbers.
+//! Cards of assembly read: each card's statement, with its numbers and names. It promises the definition's statement, or that
+//! there is none.
+//!
+//! For `b67_asm`: `lines_of`.
 //!
 //! Begin with `lines_of`.
 #![tactic(auto)]

@@ -37,13 +37,6 @@ pub Fills-holds : (all : List (List ℕ)) (cs : List ℕ) (at : ℕ) (ns : List 
 Fills-holds all [] at ns h = h
 Fills-holds all (c ∷ cs) at ns h = ((h.0.0, h.0.1, λ i low inside. h.0.2 i low ∙ sym (number_at-within ns (at + i) inside)), Fills-holds all cs (at + 30) ns h.1)
 
--- other sectors were written
-pub Fills-same : (ks cs : List ℕ) (at : ℕ) (ns : List ℕ) (old new : List (List ℕ)) → SameBut ks old new → ((c : ℕ) → 1 ≤ times c cs → (1 ≤ c) × (times c ks ≡ 0)) → Fills old cs at ns → Fills new cs at ns
-Fills-same ks [] at ns old new s apart h = h
-Fills-same ks (c ∷ cs) at ns old new s apart h =
-    let a = apart c (omega (arith, one-same c)) in
-    ((h.0.0, s.others c a.0 a.1 ∙ h.0.1, h.0.2), Fills-same ks cs (at + 30) ns old new s (λ d t. apart d (omega arith)) h.1)
-
 -- sectors of zeros hold what is past a list
 past_holds : (all : List (List ℕ)) (cs : List ℕ) (p at : ℕ) (ns : List ℕ) → length ns ≤ at → Fills all cs p [] → Holds all cs at ns
 past_holds all [] p at ns low h = low

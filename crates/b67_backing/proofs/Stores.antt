@@ -1,4 +1,4 @@
-use Rattle.std.proofs.Common.{◌≡◌, ℕ, zero, suc, ◌+◌, ◌-◌, ◌*◌, ◌^◌, ◌<◌, ◌≤◌, List, [], ◌∷◌, length, Option, Some, refl, sym, ◌∙◌, ap, arith, inl, inr, ⊎_elim, ◌⊎◌, subst, map, option_map, min}
+use Rattle.std.proofs.Common.{◌≡◌, ℕ, zero, suc, ◌+◌, ◌-◌, ◌*◌, ◌^◌, ◌<◌, ◌≤◌, List, [], ◌∷◌, length, Option, Some, refl, sym, ◌∙◌, ap, arith, inl, inr, ⊎_elim, ◌⊎◌, subst, option_map, min}
 use Rattle.std.specs.List.{slice_get}
 use Rattle.std.proofs.lemmas.Bool.{cases_lt}
 use Rattle.b67_backing.proofs.Tallies.{AllBelow}
@@ -6,7 +6,7 @@ use Rattle.b67_backing.proofs.Walks.{all_below}
 use Rattle.std.proofs.lemmas.Option.{same_Some}
 use Rattle.b67_word.specs.Tagged.{Tagged}
 use Rattle.b67_backing.specs.Shelf.{Table, Shelf, IsShelf, HasChain, Linked, times, first, chain_of}
-use Rattle.b67_backing.specs.Held.{Tells, Becomes, Changes, Counts, SameBut, Sets, Stores, Holds, Fills, number_at, under, sector}
+use Rattle.b67_backing.specs.Held.{Tells, Becomes, Changes, Counts, SameBut, Sets, Holds, Fills, number_at, under, sector}
 use Rattle.b67_backing.proofs.Links.{one-same, one-other, times-cons, link_first, linked_within, uses-split, chain_there, rest}
 
 abbrev pub AreLinked : List ℕ → List ℕ → Type 0
@@ -129,25 +129,9 @@ storing_next holds links k n j at next ns buf old now new h s w f r = by_rest s.
         };
       }
 
--- all is written
-pub storing_all : {D : Type 0} (holds : D → Option (List (List ℕ))) (links k : List ℕ) (n j at : ℕ) (ns : List ℕ) (old now : D) → j ≡ n → length ns ≤ 30 * n → Storing holds links k n j at ns old now → Changes holds old now (Stores k ns)
-storing_all holds links k n j at ns old now e long s = by_rest s.rest s.ahead s.changed where
-  by_rest : (rest : List ℕ) → Ahead links k n j at rest → Changes holds old now (Written k rest (30 * j) ns) → Changes holds old now (Stores k ns)
-  by_rest (c ∷ cs) a ch = absurd (omega (arith, a.many))
-  by_rest [] a ch = record {
-    told = λ x is.
-        let (y, there, w) = ch.told x is in
-        (y, there, record { same = w.same; holds = w.missing y (same_but-refl [] y) (omega arith) });
-  }
-
 -- a count that rose at a turn or before it
 pub counts_next : {D : Type 0} (calls : D → ℕ) (old now new : D) → calls old ≤ calls now → Counts calls now new → Counts calls old new
 counts_next calls old now new l c = record { later = omega (arith, c.later); rose = omega (arith, c.rose) }
-
-pub slice_get-map : {A B : Type 0} (f : A → B) (xs : List A) (i : ℕ) → slice_get (map f xs) i ≡ option_map f (slice_get xs i)
-slice_get-map f [] i = refl
-slice_get-map f (x ∷ xs) zero = refl
-slice_get-map f (x ∷ xs) (suc i) = slice_get-map f xs i
 
 -- what was read so far: the rest still holds the numbers, and core has those below p
 abbrev pub Given : ℕ → ℕ → ℕ → List Tagged → List ℕ → List ℕ → ℕ → List (List ℕ) → Type 0

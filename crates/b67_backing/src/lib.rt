@@ -1,4 +1,9 @@
-//! Sectors in chains, and the devices that hold them.
+//! Sectors in chains, and the devices that hold them: in memory, a file, and one that gives a number at every place
+//! (`CrookedBacking`). It promises that a chain gives back the numbers that it was given, over a device that keeps its word,
+//! and that no sector is in two chains.
+//!
+//! For paging: the clauses of the trait `Backing`; `Sectors::take`, `Sectors::give` (`row`, `chains`), `Sectors::save`,
+//! `Sectors::store` (`stores`), `Sectors::restore` (`gives`, `words`), `Sectors::extend`.
 //!
 //! Begin with the trait `Backing` and its clauses, then `Sectors::take` with `row` and `chains`.
 #![tactic(auto)]

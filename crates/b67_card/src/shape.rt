@@ -6,7 +6,7 @@ ghost use Rattle.b67_card.specs.Said.{said_command};
 ghost use Rattle.b67_card.specs.Shape.{Shows, Placed, deck_shaped};
 
 use crate::command::{Command, Refused};
-use b67_model::MOST_SWITCHES;
+use b67_model::{MOST_JOBS, MOST_SWITCHES};
 use b67_model_text::{Deck, Jobs, Stand, Switch, Switches};
 use std::alloc::Global;
 
@@ -105,7 +105,7 @@ impl Shape {
     {
         match self.stand {
             Stand::Front | Stand::Ended => {
-                if self.jobs >= 8 {
+                if self.jobs >= MOST_JOBS {
                     return Err(Refused::Reason(9));
                 }
                 self.jobs += 1;

@@ -1,4 +1,8 @@
-//! Codefiles: programs of segments and data rows, and their bytes.
+//! Codefiles of both versions: programs of segments and data rows, and their bytes. It promises that each program has one
+//! spelling in a version, and of other bytes the first flaw with its place.
+//!
+//! For texts and programs: `read` (`found`, `only`, `exact`), `write`, `convert` (`same`, `within`); `copy_of_segment` and its
+//! like.
 //!
 //! Begin with `read`: `found`, `only` and `exact`.
 #![tactic(auto)]

@@ -1,4 +1,8 @@
-//! The core of the machine: a list of words.
+//! The core of the machine: a list of words, of which each call reads or changes those that it names.
+//!
+//! For all over core: `Core::get`, `Core::set`, `Core::words`, `Core::fill`, each with the words that are left.
+//!
+//! Begin with `Core::set`.
 #![tactic(auto)]
 
 ghost use Rattle.std.specs.Prelude.{◌≡◌, ◌⊎◌, ℕ, ◌+◌, ◌<◌, ◌≤◌, ◌^◌, length, slice_get, slice_set, slice_range, Some, IfOk, replicate, option_map};

@@ -116,11 +116,6 @@ pub known_split : (fs : List Frame) (outer : List Known) → known_numbers (map 
 known_split [] outer = refl
 known_split (f ∷ below) outer = ap (λ ns. f.identity ∷ ns) (known_split below outer)
 
--- the offset of a data row's original in a dictionary
-offset_segments : (n array : ℕ) → offset_of_original array (segment_cells n) ≡ 0
-offset_segments zero array = refl
-offset_segments (suc n) array = offset_segments n array
-
 segments_long : (n : ℕ) → length (segment_cells n) ≡ n
 segments_long zero = refl
 segments_long (suc n) = ap suc (segments_long n)

@@ -1,4 +1,7 @@
-//! The dump of a machine: the activation records of its live tasks, as text for people.
+//! The dump of a machine: the activation records of its live tasks, as text for people. It promises the text of the session
+//! that the machine shows, so paging doesn't change it.
+//!
+//! For `b67_job`: `analyse` (`whole`, `part`, `cause`). Laws: `dumps_are_shown`, `dumps_are_one`, `walks_are_dumps`.
 //!
 //! Begin with `analyse`: `whole`, `part`, `cause`.
 #![tactic(auto)]

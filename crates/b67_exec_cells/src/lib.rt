@@ -1,4 +1,9 @@
-//! What an operator reads and writes: the cells on top, the elements of arrays, the code at the running place; and the operators on the top cells alone.
+//! What an operator reads and writes: the cells on top, the elements of arrays, the code at the running place; and the
+//! operators on the top cells alone. Each promises its row.
+//!
+//! For all operators: `top_cell` (`cell`), `two_cells` (`cells`), `drop_cells`, `replace_cells` (`row`), `element`, `row_copy`,
+//! `present_segment`, `read_in`, `reading`. For `b67_exec` the operators themselves (`row`): `on_numbers`, `on_one`, `on_two`,
+//! `literal`, `namc`, `mpcw`, `dlet`, `exch`, `dupl`, `branch_to`, `branch_if`.
 //!
 //! Begin with `top_cell` (`cell`) and `replace_cells` (`row`).
 #![tactic(auto)]

@@ -18,11 +18,6 @@ lengths_go_on first front count i x lt d =
       state = ap (λ n. after_draws n x) (sym k) ∙ d.state;
     }
 
-pub lengths_end : (first : ℕ) (front : List ℕ) (count i x : ℕ) → count ≤ i → DrawsLengths first front count i x → (front ≡ lengths count first) × (x ≡ after_draws count first)
-lengths_end first front count i x le d =
-    let k : count - i ≡ 0 = omega (arith, le) in
-    (sym (append-nil front) ∙ ap (λ n. front ++ lengths n x) (sym k) ∙ d.all, ap (λ n. after_draws n x) (sym k) ∙ d.state)
-
 -- the same of stores
 pub record DrawsStores (arrays : List ℕ) (first : ℕ) (front : List Store) (count i x : ℕ) : Type 0 where
   pub all : front ++ stores arrays (count - i) x ≡ stores arrays count first

@@ -1,4 +1,6 @@
-//! The deck of an exercise, drawn from a seed.
+//! The deck of an exercise, drawn from a seed. It promises the text of the definition, which is a deck that is read again.
+//!
+//! For `b67_job`: `deck_of`. Laws: `texts_have_decks`, `seed_one`.
 //!
 //! Begin with `deck_of`, then the law `texts_have_decks`.
 #![tactic(auto)]

@@ -22,7 +22,7 @@ use b67_io::Source;
 use b67_model::IMAGE_BYTES;
 use b67_model_text::Switches;
 use b67_stack::Cpu;
-use b67_task_tables::{JobRows, Machine, TaskRow, Tasks};
+use b67_task_tables::{JobRows, MOST_ROWS, Machine, TaskRow, Tasks};
 use b67_word::Bytes;
 use std::alloc::Global;
 
@@ -34,7 +34,7 @@ fn tasks_of(
     counts: TableCounts,
     switches: Switches,
     jobs: JobRows,
-    rows: ArrayVec<TaskRow, 120>,
+    rows: ArrayVec<TaskRow, MOST_ROWS>,
 ) -> Tasks
     ensures { HaveTables (counts_found counts) switches jobs rows.items result }
 {

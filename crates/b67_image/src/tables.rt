@@ -15,7 +15,7 @@ use b67_model::{
     GREATEST, MOST_JOBS, MOST_LIMIT, MOST_MADE, MOST_NUMBER, MOST_PARTS, MOST_SWITCHES,
 };
 use b67_model_text::{Name, Switch, Switches};
-use b67_task_tables::{JobRow, JobRows, TaskRow, TaskState};
+use b67_task_tables::{JobRow, JobRows, MOST_ROWS, TaskRow, TaskState};
 use b67_word::Numbers;
 use std::alloc::Global;
 
@@ -250,11 +250,11 @@ fn read_row(bytes: &[u8]) -> Result<(TaskRow, &[u8]), Flaw>
 }
 
 /// So many rows of tasks, and what lies behind.
-fn many_rows(count: u32, bytes: &[u8]) -> Result<(ArrayVec<TaskRow, 120>, &[u8]), Flaw>
+fn many_rows(count: u32, bytes: &[u8]) -> Result<(ArrayVec<TaskRow, MOST_ROWS>, &[u8]), Flaw>
     requires { count ≤ SLOTS }
     ensures { GivesItem (λ x. (x.0.items, x.1.now)) result (read_many read_row count bytes.now) }
 {
-    let mut rows = ArrayVec::<TaskRow, 120>::new();
+    let mut rows = ArrayVec::<TaskRow, MOST_ROWS>::new();
     let mut rest = bytes;
     'each: for _ in 0..count {
         let (row, after) = read_row(rest)?;
@@ -266,7 +266,7 @@ fn many_rows(count: u32, bytes: &[u8]) -> Result<(ArrayVec<TaskRow, 120>, &[u8])
 
 /// The counted rows of tasks, and what lies behind.
 #[tactic(auto, unfolding(crate::specs::Reading::read_rows, crate::specs::Reading::read_counted))]
-pub fn read_rows(bytes: &[u8]) -> Result<(ArrayVec<TaskRow, 120>, &[u8]), Flaw>
+pub fn read_rows(bytes: &[u8]) -> Result<(ArrayVec<TaskRow, MOST_ROWS>, &[u8]), Flaw>
     ensures { GivesItem (λ x. (x.0.items, x.1.now)) result (read_rows bytes.now) }
 {
     let (count, rest) = read_count(0, SLOTS as u32, bytes)?;

@@ -154,6 +154,3 @@ module _ (links : List ℕ) (ks : List (List ℕ)) (a : AreLinksOf links ks) whe
       let h = some_head n (omega (arith, some, e)) in
       let b = head_begun n h in
       record { head = h; behind = length b.cs; many_is = sym e ∙ ap length b.is; runs = is_run links n b.cs (head_runs n b) }
-
-  pub no_chain_of_zero : chain_of 0 ks ≡ []
-  no_chain_of_zero = chain_absent 0 ks a.some (⊎_elim (λ lt. omega (arith, lt)) (λ le. absurd (let (l, h) = a.inside 0 le in omega (arith, l))) (cases_lt (uses 0 ks) 1))

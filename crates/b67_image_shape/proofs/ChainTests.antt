@@ -2,18 +2,10 @@
 use Rattle.std.proofs.Common.{◌≡◌, ◌≢◌, ℕ, suc, ◌+◌, ◌-◌, ◌<◌, ◌≤◌, ◌==◌, Bool, true, false, List, length, get_or, sym, ◌∙◌, ap, arith, ⊎_elim}
 use Rattle.std.proofs.lemmas.Bool.{cases_eq, cond-true, cond-false, eq-eqb, ne_eqb}
 use Rattle.b67_backing.specs.Links.{sector_link, AreInside, AreLed}
-use Rattle.b67_backing.proofs.Heads.{LedSoFar}
 use Rattle.b67_backing.proofs.Marks.{mark-true, mark-false}
 use Rattle.b67_image_shape.specs.Chains.{IsChainHead, IsSectorChain, run_test, AreClaimed}
 
 -- ---- which sectors are led to
-
-pub led_first : (links : List ℕ) (led : List Bool) → length led ≡ length links + 1 → ((j : ℕ) → get_or led j false ≡ false) → LedSoFar links led 0
-led_first links led many none = record {
-  many = many;
-  marked = λ n j f le. absurd (let low = f.low in omega (arith, le, low));
-  only = λ j m. absurd (omega (arith, m, mark-false led j (none j)));
-}
 
 -- ---- the walk behind a sector
 

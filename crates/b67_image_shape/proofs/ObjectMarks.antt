@@ -1,5 +1,5 @@
 -- Objects, areas and chains belong together exactly if they do by the table of marks.
-use Rattle.std.proofs.Common.{◌≡◌, ◌≢◌, ℕ, ◌+◌, ◌/◌, ◌^◌, ◌<◌, ◌≤◌, Bool, true, false, List, [], ◌∷◌, map, length, Some, None, refl, sym, ◌∙◌, ap, subst, arith, inl, inr}
+use Rattle.std.proofs.Common.{◌≡◌, ◌≢◌, ℕ, ◌+◌, ◌/◌, ◌<◌, Bool, true, false, List, [], ◌∷◌, map, length, Some, None, refl, sym, ◌∙◌, ap, subst, arith, inl, inr}
 use Rattle.std.specs.Prelude.{◌||◌, if◌then◌else◌, slice_index}
 use Rattle.std.specs.List.{slice_get, list_any}
 use Rattle.std.proofs.lemmas.Bool.{eq-eqb}
@@ -54,11 +54,6 @@ code_same Row Code e = absurd (omega (arith, e))
 code_same Code Array e = absurd (omega (arith, e))
 code_same Code Row e = absurd (omega (arith, e))
 code_same Code Code e = refl
-
-longest_16 : (kind : Kind) → longest kind ≤ 2 ^ 16
-longest_16 Array = omega arith
-longest_16 Row = omega arith
-longest_16 Code = omega arith
 
 -- an area stands where a present descriptor says
 area_is : (core : List Tagged) (i at : ℕ) → (location_in core i).area ≡ Some at → (is_set (word_seen_at core i) 47 ≡ true) × ((desc_at core i).address ≡ at)

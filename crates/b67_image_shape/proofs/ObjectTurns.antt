@@ -98,9 +98,6 @@ module _ (core : List Tagged) (low : ℕ) (kinds : List ℕ) (housed : List Bool
   pub area_inside : area_at low (spans_of core low) (desc_at core i).address ≡ Some (info_at core i kind) → (desc_at core i).address + (desc_at core i).length < length core
   area_inside e = (kept_read core low (spans_of core low) (desc_at core i).address (info_at core i kind) walked.fit.directory e).1
 
-  pub area_housed : area_at low (spans_of core low) (desc_at core i).address ≡ Some (info_at core i kind) → IsHoused housed i
-  area_housed e = walked.marked i (at_houses low (spans_of core low) (desc_at core i).address (info_at core i kind) e)
-
 pub not_housed : (core : List Tagged) (low : ℕ) (kinds : List ℕ) (housed : List Bool) (i : ℕ) (kind : Kind) → AreasWalked core low kinds housed → get_or housed i false ≡ false → HasArea core low i kind → ⊥
 not_housed core low kinds housed i kind walked e h =
     let yes_housed = walked.marked i (at_houses low (spans_of core low) (desc_at core i).address (info_at core i kind) h.area) in

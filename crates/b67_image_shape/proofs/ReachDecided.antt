@@ -1,6 +1,6 @@
 -- Whether what live tasks name is in their reach.
 use Rattle.std.proofs.Common.{◌≡◌, ℕ, zero, suc, ◌+◌, ◌-◌, ◌^◌, ◌<◌, ◌≤◌, ◌==◌, Bool, true, false, List, [], ◌∷◌, ◌++◌, map, length, Option, Some, None, refl, sym, ◌∙◌, ap, subst, arith, inl, inr}
-use Rattle.std.specs.Prelude.{◌*◌, ◌&&◌, nat_lt, if◌then◌else◌}
+use Rattle.std.specs.Prelude.{◌&&◌, nat_lt, if◌then◌else◌}
 use Rattle.std.specs.List.{slice_get, list_all}
 use Rattle.std.proofs.lemmas.List.{map-append, length-map}
 use Rattle.std.proofs.lemmas.Bool.{eq-eqb}
@@ -81,9 +81,6 @@ mark_of : (slot number : ℕ) (frame : StackPlace → ℕ) (array : ℕ → ℕ)
 mark_of slot number frame array [] i h = absurd h
 mark_of slot number frame array (a ∷ below) i (inl e) = ((record { stack = slot; disp = stack_words below + 1 }, a.head), inl refl, e)
 mark_of slot number frame array (a ∷ below) i (inr h) = let (x, there, e) = mark_of slot number frame array below i h in (x, inr there, e)
-
-named_low : (number d n : ℕ) → d ≤ n → n < 2 ^ 14 → (number * 2 ^ 14 ≤ named number d) × (named number d < named (number + 1) 0)
-named_low number d n low small = (omega arith, omega (arith, low, small))
 
 named_same : (number c d : ℕ) → named number c ≡ named number d → c ≡ d
 named_same number c d e = omega (arith, e)

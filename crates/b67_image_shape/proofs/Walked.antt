@@ -8,7 +8,7 @@ use Rattle.b67_ctl.specs.declared.marks.Mscw.{Mscw}
 use Rattle.b67_ctl.specs.declared.marks.Rcw.{Rcw}
 use Rattle.b67_ctl.specs.Layout.{mscw_word, rcw_word}
 use Rattle.b67_stack.specs.Common as stack
-use Rattle.b67_stack.specs.Common.{Shape, Is, Locations, Fits, LieDownward, Head, HeadFits, HeadsFit, ReturnFits, Activation, size, head_size, top_size, stack_words, mark_place, stack_level, mark_of, return_of, headed, words}
+use Rattle.b67_stack.specs.Common.{Shape, Is, Locations, Fits, LieDownward, Head, HeadFits, HeadsFit, ReturnFits, Activation, size, head_size, top_size, stack_words, stack_level, mark_of, return_of, headed, words}
 use Rattle.b67_stack.proofs.Heights.{words-length}
 use Rattle.b67_layout_shown.specs.Reading.{word_seen_at, mscw_in, rcw_in, shape_in, cells_in, return_by, activation_by, below_by, stack_seen}
 use Rattle.b67_layout_shown.proofs.Bits.{mscw_read, rcw_read}
@@ -73,9 +73,6 @@ module _ (core : List Tagged) where
   part_plain i j v e p = let (w, is, fits) = subst (Part (Is v)) e p in word_is core i w is ∙ fits.0
 
   -- ---- heads
-
-  small_14 : (n : ℕ) → n % 2 ^ 14 < 2 ^ 14
-  small_14 n = omega arith
 
   return_fits : (value : Bool) (at d : ℕ) (rest : ℕ → List Activation) → ReturnFits (return_by value (rcw_in (word_seen_at core at)) d) (below_by d rest)
   return_fits value at zero rest = refl

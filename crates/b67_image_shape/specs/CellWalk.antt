@@ -2,7 +2,7 @@
 use Rattle.std.specs.Prelude.{ℕ, zero, suc, ◌+◌, ◌-◌, ◌*◌, ◌/◌, ◌^◌, ◌<◌, ◌==◌, Bool, true, false, ◌&&◌, ◌||◌, not, nat_lt, nat_le, List, [], ◌∷◌, Option, Some, None, slice_get, slice_index, if◌then◌else◌}
 use Rattle.std.specs.List.{list_all}
 use Rattle.b67_ctl.specs.declared.map.TheConstants.{DICTIONARY_STACKS, MCP_STACK}
-use Rattle.b67_model.specs.declared.intrinsics.TheConstants.{MOST_TASKS}
+use Rattle.b67_model.specs.declared.limits.TheConstants.{MOST_TASKS}
 use Rattle.b67_word.specs.Tagged.{Tagged, bits_at}
 use Rattle.b67_lemmas.specs.Lists.{Has}
 use Rattle.b67_ctl.specs.declared.marks.Mscw.{Mscw}

@@ -1,7 +1,7 @@
 -- Which marks stand in a task's reach, by addresses and words: its critical mark in its parent's stack, and the mark at which it waits.
 use Rattle.std.specs.Prelude.{ℕ, zero, suc, ◌+◌, ◌-◌, ◌^◌, ◌==◌, Bool, true, false, ◌&&◌, ◌||◌, nat_lt, nat_le, List, Option, Some, None, slice_get}
 use Rattle.std.specs.List.{list_all}
-use Rattle.b67_model.specs.declared.intrinsics.TheConstants.{MOST_TASKS}
+use Rattle.b67_model.specs.declared.limits.TheConstants.{MOST_TASKS}
 use Rattle.b67_word.specs.Tagged.{Tagged, bits_at}
 use Rattle.b67_layout.specs.Rows.{RowState, IsReady, AwaitsTask, WaitsAtCell, TaskRow, JobRow}
 use Rattle.b67_layout_shown.specs.Reading.{word_seen_at, is_set}

@@ -2,13 +2,12 @@
 use Rattle.std.specs.Prelude.{◌≡◌, ◌≢◌, ℕ, ◌+◌, ◌-◌, ◌^◌, ◌<◌, ◌≤◌, ◌==◌, nat_abs, List, [], ◌∷◌, length, filter, take, drop, Option, Some, None, slice_get}
 use Rattle.std.specs.List.{AllByRecursion}
 use Rattle.b67_ctl.specs.declared.map.TheConstants.{SLOTS}
-use Rattle.b67_model.specs.declared.intrinsics.TheConstants.{MOST_TASKS}
 use Rattle.b67_lemmas.specs.Lists.{Has, total}
 use Rattle.b67_model.specs.Keyed.{keyed}
 use Rattle.b67_model.specs.Common.{Switch, SwitchesRise}
 use Rattle.b67_layout.specs.Rows.{IsReady, TaskRow, JobRow, RunningRow}
 use Rattle.b67_layout_shown.specs.Shown.{Sight, placed}
-use Rattle.b67_model.specs.declared.limits.TheConstants.{MOST_JOBS, MOST_LIMIT}
+use Rattle.b67_model.specs.declared.limits.TheConstants.{MOST_JOBS, MOST_LIMIT, MOST_TASKS}
 
 -- the row of the task in a slot, and the rows of a job's tasks
 abbrev pub row_in_slot : List TaskRow → ℕ → Option TaskRow

@@ -12,10 +12,13 @@ ghost use Rattle.b67_image_shape.specs.FixedTests.{word_is, all_below, is_intrin
 use crate::areas::is_word;
 use crate::table::find_row;
 use b67_core::Core;
-use b67_ctl::{FIRST_DICTIONARY, FIRST_TASK, Regs, SLOTS, STACK_VECTOR};
+use b67_ctl::{FIRST_DICTIONARY, FIRST_TASK, MCP_STACK, Regs, SLOTS, STACK_VECTOR};
 use b67_layout_shown::seeing::slot_start;
 use b67_model::{LEAST_STACK, MOST_PARTS, MOST_STACK};
 use b67_task_tables::{JobRow, Machine, TaskRow};
+
+/// The mark of a dictionary: entered, over the MCP, at level 1.
+const DICTIONARY_MARK: u64 = 0xC000_0000_4000 + MCP_STACK as u64 * 0x10_0000_0000;
 
 /// Whether the word at an address has this tag and these bits.
 pub fn word_is(core: &Core, at: u64, tag: u8, bits: u64) -> bool
@@ -58,7 +61,7 @@ fn dictionary_stands(core: &Core, at: u64, row: &JobRow) -> bool
     let entries = u64::from(row.segments) + u64::from(row.rows);
     u64::from(row.dict) == at
         && (entries <= MOST_PARTS as u64
-            && (word_is(core, at, 3, 0xC880_0000_4000) && word_is(core, at + 1, 0, entries)))
+            && (word_is(core, at, 3, DICTIONARY_MARK) && word_is(core, at + 1, 0, entries)))
 }
 
 /// Whether the dictionaries stand from the first address for one up to the slots.

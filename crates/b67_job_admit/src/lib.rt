@@ -1,4 +1,9 @@
-//! From the bytes of a deck to admitted programs, and what asm, bind, check and convert print of a text.
+//! From the bytes of a deck to admitted programs, or to the first refusal of all; and what `asm`, `bind`, `check` and `convert`
+//! print of a text. It promises that the answer is the definition's, so that a deck is refused for one reason, which no order
+//! of reading changes.
+//!
+//! For `b67_job`: `admit`, `prepare`, `file_of`, `asm_text`, `bind_text`, `check_text`, `convert_text`, each with the clause
+//! `answer`; `put_text` (`whole`, `part`, `cause`).
 //!
 //! Begin with `admit`, whose clause `answer` names the first refusal of all.
 #![tactic(auto)]

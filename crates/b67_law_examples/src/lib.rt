@@ -1,6 +1,10 @@
-//! Worked examples, as laws whose clauses the checker computes. Of runs of the machine: what decks print, the core and the
-//! sectors that they need, and which programs the loader refuses. Of cards: the jobs and the parameters of decks, the
-//! programs of assemblies, and which card is refused for which reason.
+//! Worked examples, as laws whose clauses the checker computes: some 130 law functions. Of runs of the machine: what decks
+//! print, the core and the sectors that they need, and which programs the loader refuses. Of cards: the jobs and the parameters
+//! of decks, the programs of assemblies, and which card is refused for which reason.
+//!
+//! For whoever doubts a definition: each says in a name what comes of a program that is named beside it.
+//!
+//! Begin with `sum_is_printed`.
 #![tactic(auto, unfolding(b67_model::specs::Rows::step, b67_model::specs::Endings::stepped, b67_model::specs::Alone::step_of, b67_model::specs::Run::next))]
 
 pub mod assembly;

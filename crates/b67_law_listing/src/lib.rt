@@ -1,4 +1,7 @@
-//! What is assembled is what the machine reads.
+//! What is assembled is what the machine reads; a label is the place of its card's operator; a segment's entries are the places
+//! that its ENTRY cards name.
+//!
+//! For whoever asks whether a listing tells the program: `operators_are_read`, `cards_are_read`.
 //!
 //! Begin with `operators_are_read`.
 #![tactic(auto)]

@@ -1,4 +1,9 @@
-//! States in order: every row, every whole step and every run keeps them, and so the opening of an admitted deck is in order with all that follows.
+//! States in order: every row, every whole step and every run keeps them, over admitted programs and, but for places, over any
+//! code; and so the opening of an admitted deck is in order with all that follows. What rows keep of tasks.
+//!
+//! For the crates that step: `couples_end_in_order`, `each_row_keeps_order`, `rows_keep_order`, `rows_keep_order_but_places`,
+//! `steps_keep_order`, `steps_keep_order_but_places`, `rows_keep_profiles`, `opening_is_in_order`, `runs_stay_in_order`;
+//! `starts_are_segments` and `places_have_operators` are of its parts.
 //!
 //! Begin with `runs_stay_in_order`.
 #![tactic(auto)]

@@ -51,7 +51,3 @@ follows P holds (suc n) s o a = go (λ s' o' a'. follows P holds n s' o' a') (ne
 pub runs_fault_exactly_at_nvld : RunsFaultExactlyAtNvld
 runs_fault_exactly_at_nvld n stack quantum switches openings within =
     follows StateFaultsAtNvld sessions_fault_exactly_at_nvld n (opening stack quantum switches openings) (opens_in_order stack quantum switches openings within) (opened_admitted 1 stack openings within.each)
-
--- it is in order itself
-pub in_order_after : (n : ℕ) (s : Session) → IsInOrder s → AllByRecursion RunsAdmitted s.jobs → IsInOrder (after n s)
-in_order_after = follows IsInOrder (λ s o a. o)

@@ -1,10 +1,9 @@
 -- The order of a session between the two parts of a step: the job that made the last operator may stand at its limit.
 use Rattle.std.specs.Prelude.{◌≡◌, ◌≢◌, ℕ, ◌+◌, ◌≤◌, [], length, sum_by, IsTrue}
 use Rattle.std.specs.List.{AllByRecursion}
-use Rattle.b67_model.specs.declared.intrinsics.TheConstants.{MOST_TASKS}
 use Rattle.b67_lemmas.specs.Lists.{Has}
 use Rattle.b67_model.specs.Common.{Task, JobConstants, JobProgress, SessionJob, Settled, is_ready, Session, live_tasks, IsSegment, SettingInOrder, TasksInOrder, CountsInOrder, BelowLimit, NumberedFrom, SwitchesRise}
-use Rattle.b67_model.specs.declared.limits.TheConstants.{MOST_JOBS}
+use Rattle.b67_model.specs.declared.limits.TheConstants.{MOST_JOBS, MOST_TASKS, MOST_STACKS}
 
 -- a job in order but for places, which is below its limit unless it made the last operator
 pub record JobInOrderButLimit (last : ℕ) (m : SessionJob) : Type 0 where
@@ -21,7 +20,7 @@ pub record IsInOrderButLimit (s : Session) : Type 0 where
   pub jobs : AllByRecursion (JobInOrderButLimit s.last.job) s.jobs
   pub switches : SwitchesRise s.switches
   pub peak_low : live_tasks s.jobs ≤ s.peak
-  pub peak_high : s.peak ≤ 120
+  pub peak_high : s.peak ≤ MOST_STACKS
   pub counted : s.made ≡ sum_by (λ (m : SessionJob). m.progress.made) s.jobs
   pub turn : s.turn ≤ s.made
 

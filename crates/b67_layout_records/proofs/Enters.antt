@@ -1,5 +1,5 @@
 -- The running task's marked top frame is entered: what core and registers represent then, and what it needs for it.
-use Rattle.std.proofs.Common.{◌≡◌, ◌≢◌, ℕ, ◌+◌, ◌≤◌, List, [], ◌∷◌, ◌++◌, map, Some, refl, sym, ◌∙◌, ap, arith, ⊎_elim, slice_set, subst, length-append, ◌==◌}
+use Rattle.std.proofs.Common.{◌≡◌, ◌≢◌, ℕ, ◌+◌, ◌≤◌, List, [], ◌∷◌, ◌++◌, map, Some, refl, ◌∙◌, ap, arith, ⊎_elim, slice_set, subst, length-append, ◌==◌}
 use Rattle.std.proofs.lemmas.Bool.{cases_Bool}
 use Rattle.std.proofs.lemmas.List.{map-append}
 use Rattle.b67_word.specs.Tagged.{Tagged}
@@ -9,7 +9,7 @@ use Rattle.b67_ctl.specs.Layout.{mscw_word, rcw_word}
 use Rattle.b67_core.proofs.Writes.{slice_get-set_other}
 use Rattle.b67_model.specs.Common.{Word, Frame, Return, Condition, Ready, Task, Job, SessionJob, top, below_top, with_task, from_frame, Session, number_of}
 use Rattle.b67_model.specs.State as State
-use Rattle.b67_stack.specs.Common.{Shape, Original, StackPlace, Head, Marked, Entered, Activation, HeadFits, stack_level, mark_of, return_of, RunsOn, Storage, RepresentsRunning, Represents, with_stack}
+use Rattle.b67_stack.specs.Common.{Shape, Original, StackPlace, Head, Marked, Entered, Activation, HeadFits, mark_of, return_of, RunsOn, Storage, RepresentsRunning, Represents, with_stack}
 use Rattle.b67_stack.proofs.Slots.{running_slot}
 use Rattle.b67_stack.proofs.Pushes.{Room, room_of}
 use Rattle.b67_layout.specs.Common.{Placement, spot_in, outer_spots, shape, head, activations, stack_of_task, machine_view, with_job, IsRunning, ShowsDisplay, critical_mark, SessionHolds, RepresentsSession}
@@ -75,9 +75,6 @@ module _ (x : Storage) (core : List Tagged) (r : Regs) (marks : List ℕ) (plan 
   stack_is : stack_of_task plan m.constants.number m.progress.job plan.running t ≡ stack
   stack_is = marked_stack plan m.constants.number m.progress.job plan.running outer t.frames first cells w
 
-  pub slot_is : r.slot ≡ plan.running
-  slot_is = (h.running m t runs).slot ∙ sym runs.slot
-
   pub on_stack : RunsOn (machine_view plan s.jobs) plan.running stack
   on_stack = subst (RunsOn (machine_view plan s.jobs) plan.running) stack_is
       (runs_on plan s.jobs m t h.fits.rows (keyed_has number_of m.constants.number s.jobs m runs.member).0 (keyed_has (λ (u : Task). u.number) t.number m.progress.job.tasks t runs.task).0 runs.slot runs.member runs.task)
@@ -96,10 +93,6 @@ module _ (x : Storage) (core : List Tagged) (r : Regs) (marks : List ℕ) (plan 
 
   pub two_cells : r.f + 1 ≤ r.s
   two_cells = omega (arith, top_is.top, top_is.mark, length-append (map sh cells) (sh first ∷ []))
-
-  -- the running level is that of what lies under the marked record
-  pub level_is : r.level ≡ stack_level under
-  level_is = top_is.level
 
   module _ (n : ℕ) (free : IsFree m.progress.job n) (segment : ℕ) (q : Place) where
     -- the task then, and the job with it

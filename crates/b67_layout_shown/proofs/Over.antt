@@ -54,9 +54,6 @@ module _ (x : Storage) (core : List Tagged) (r : Regs) (p : MachineView) (read :
 
   -- ---- the view
 
-  p' : MachineView
-  p' = record p { objects = read }
-
   info_same : (t : PagedObject) (a : Info) → length (f t).numbers ≡ length t.numbers → a ≡ info_of x t → a ≡ info_of x (f t)
   info_same t a long e = e ∙ ap (λ n. record { kind = t.kind; words = n; owner = t.home; kept = (x.held t.home).chain }) (sym long)
 

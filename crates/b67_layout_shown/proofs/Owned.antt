@@ -60,10 +60,6 @@ rows_back zero k h = absurd h
 rows_back (suc n) k (inl e) = (omega (arith, e), omega (arith, e))
 rows_back (suc n) k (inr h) = let r = rows_back n k h in (r.0, omega (arith, r.1))
 
-map_same : {A B : Type 0} (f g : A → B) (xs : List A) → ((x : A) → Has xs x → f x ≡ g x) → map f xs ≡ map g xs
-map_same f g [] h = refl
-map_same f g (x ∷ xs) h = ap (λ y. y ∷ map f xs) (h x (inl refl)) ∙ ap (λ ys. g x ∷ ys) (map_same f g xs (λ y k. h y (inr k)))
-
 -- ---- the arrays of a job in order
 
 module _ (constants : JobConstants) (job : Job) (numbers : ℕ → List ℕ) (rows : ℕ)

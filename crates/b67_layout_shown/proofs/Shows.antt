@@ -27,9 +27,6 @@ flat_low P constants job o n low = rw (total_flat (λ (t : Task). t.frames) (λ 
 module _ (constants constants' : JobConstants) (job job' : Job) (unchanging : SettingInOrder constants) (unchanging' : SettingInOrder constants')
     (order : TasksInOrder (IsSegment constants) constants job) (order' : TasksInOrder (IsSegment constants') constants' job') (relabel : ℕ → ℕ)
     (tasks_are : job'.tasks ≡ map (task_by (name_among job.tasks) relabel) job.tasks) (t : Task) (there : Has job.tasks t) where
-  abbrev rename : ℕ → ℕ
-  rename = name_among job.tasks
-
   abbrev h : OperatorContext
   h = record { constants = constants; job = job; task = t; at = t.place }
 

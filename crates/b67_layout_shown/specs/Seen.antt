@@ -1,7 +1,7 @@
 -- The marks in a task's reach, as places in the machine's stacks: what a test looks at.
 use Rattle.std.specs.Prelude.{◌≡◌, ℕ, zero, suc, ◌+◌, ◌<◌, ◌==◌, List, [], ◌∷◌, ◌++◌, map, Option, Some, None, if◌then◌else◌}
 use Rattle.b67_ctl.specs.declared.map.TheConstants.{DICTIONARY_STACKS, MCP_STACK, SLOTS}
-use Rattle.b67_model.specs.declared.intrinsics.TheConstants.{MOST_TASKS}
+use Rattle.b67_model.specs.declared.limits.TheConstants.{MOST_JOBS, MOST_TASKS}
 use Rattle.b67_lemmas.specs.Lists.{Has}
 use Rattle.b67_model.specs.Keyed.{keyed}
 use Rattle.b67_model.specs.Common.{Task, Known, reach_of}
@@ -45,7 +45,7 @@ known_seen k job s = (frame_seen k.tasks job s.0, standing_of (frame_seen k.task
 -- the tables of a job are sound: slots are some of those that there are, the row of each slot is found, each row's task by its number, and each parent
 -- is of the same job
 pub record RowsAreSound (k : Sight) (row : JobRow) (job : ℕ) : Type 0 where
-  pub few : job < 9
+  pub few : job < MOST_JOBS + 1
   pub low : (r : TaskRow) → Has k.tasks r → r.slot < SLOTS
   pub found : (r : TaskRow) → Has k.tasks r → keyed (λ (q : TaskRow). q.slot) r.slot k.tasks ≡ Some r
   pub task : (r : TaskRow) → Has k.tasks r → r.job ≡ job → keyed (λ (t : Task). t.number) r.number (job_seen k row job).tasks ≡ Some (task_in k row job r)

@@ -2,7 +2,7 @@
 -- number and its mark's displacement in the slot, an array by those of its original, a data row by its place in the dictionary.
 -- What the machine doesn't say is 0: levels and entries of segments, code and numbers that aren't in core, how tasks ended.
 use Rattle.std.specs.Prelude.{ℕ, zero, suc, ◌+◌, ◌-◌, ◌*◌, ◌/◌, ◌%◌, ◌^◌, ◌==◌, Bool, true, false, nat_lt, List, [], ◌∷◌, ◌++◌, map, filter, flat_map, drop, replicate, Option, Some, None, if◌then◌else◌}
-use Rattle.b67_model.specs.declared.intrinsics.TheConstants.{MOST_TASKS}
+use Rattle.b67_model.specs.declared.limits.TheConstants.{MOST_TASKS}
 use Rattle.b67_word.specs.Tagged.{Tagged, bits_at}
 use Rattle.b67_word.specs.declared.couples.Place.{Place}
 use Rattle.b67_ctl.specs.declared.map.TheConstants.{DICTIONARY_STACKS, MCP_STACK, SLOTS}

@@ -20,9 +20,6 @@ use Rattle.b67_law_order.proofs.Numbered.{keyed_member}
 
 -- two words of one address are one word
 module _ (x : Storage) (core : List Tagged) (plan : Placement) (j : ℕ) (job : Job) (k from : ℕ) (outer : ℕ → StackPlace) where
-  abbrev Lies : List Shape → Type 0
-  Lies = LieDownward (Fits x.held) core from
-
   head_tail : (spot : ℕ → StackPlace) (rest : List Shape) (w : Word) (ws : List Word) (a b : ℕ) → LieDownward (Fits x.held) core from (map (shape plan j job spot) (w ∷ ws) ++ rest) → w ≡ Original a → Has ws (Original b) → plan.home j a ≡ plan.home j b → ⊥
   head_tail spot rest w ws a b l wa hb e =
       let under = map (shape plan j job spot) ws ++ rest in

@@ -1,5 +1,5 @@
 -- The session whose view has other numbers in an object: what a device that tells nothing may have given back.
-use Rattle.std.proofs.Common.{◌≡◌, ℕ, suc, ◌+◌, ◌<◌, ◌≤◌, ◌^◌, ◌++◌, ◌==◌, List, [], ◌∷◌, length, map, Option, Some, None, refl, sym, ◌∙◌, ap, Bool, true, false, subst, inl, inr, ⊎_elim, unwrap_or}
+use Rattle.std.proofs.Common.{◌≡◌, ℕ, ◌+◌, ◌<◌, ◌≤◌, ◌^◌, ◌++◌, ◌==◌, List, [], ◌∷◌, length, map, Option, Some, None, refl, sym, ◌∙◌, ap, Bool, true, false, subst, inl, inr, ⊎_elim, unwrap_or}
 use Rattle.std.specs.Prelude.{if◌then◌else◌, flat_map, not, option_map}
 use Rattle.std.proofs.lemmas.Bool.{cases_Bool, eqb-true}
 use Rattle.std.proofs.lemmas.List.{map-append}
@@ -182,10 +182,6 @@ module _ (plan : Placement) (home : ℕ) (ns : List ℕ) (jobs : List SessionJob
       let slots : slot_at plan jobs ≡ slot_at plan (map (member_with plan home ns) jobs) = λ z k. sym (slot_by_same k (keyed (λ (r : Slotted). r.slot) k plan.rows)) z in
       ap (λ (s : ℕ → Slot). P s (map (renumber home ns) (flat_map (objects_of plan) jobs))) slots
       ∙ ap (P (slot_at plan (map (member_with plan home ns) jobs))) (all_renumbered plan home ns jobs)
-
-recoded_count : (plan : Placement) (j home : ℕ) (ns : List ℕ) (n : ℕ) (segments : List Segment) → length (recoded plan j home ns n segments) ≡ length segments
-recoded_count plan j home ns n [] = refl
-recoded_count plan j home ns n (s ∷ more) = ap suc (recoded_count plan j home ns (n + 1) more)
 
 module _ (plan : Placement) (home : ℕ) (ns : List ℕ) (bits : AllByRecursion (λ (n : ℕ). n < 2 ^ 48) ns) where
   recoded_other : (j n : ℕ) (segments : List Segment) → AllByRecursion SegmentInOrder segments → Fitting home ns (code_objects plan j n segments) → Recoded segments (recoded plan j home ns n segments)

@@ -12,7 +12,7 @@ use Rattle.b67_ctl.specs.declared.registers.Regs.{Regs}
 use Rattle.b67_lemmas.specs.Lists.{Has}
 use Rattle.b67_lemmas.proofs.Members.{all_in, has_map_back, keyed_has, keyed_left}
 use Rattle.b67_model.specs.Keyed.{keyed}
-use Rattle.b67_model.specs.Common.{Word, Operand, Frame, Task, Job, JobProgress, SessionJob, mcp, no_frame, frame, height, cell_of, number_of, Session, Known, identities, IsEntered, IsSegment, EntryInOrder}
+use Rattle.b67_model.specs.Common.{Word, Operand, Frame, Task, JobProgress, SessionJob, mcp, no_frame, frame, height, cell_of, number_of, Session, Known, identities, IsEntered, IsSegment, EntryInOrder}
 use Rattle.b67_layout.specs.Common.{IsInOrderButCounts, Placement, slot_of, outer_spots, spots, address_of, activations, stack_of_task, slot_with, machine_view, RepresentsDictionary, RowHomes, PlanFits, vector_word, critical_mark, RepresentsTask, IsRunning, frame_address, ShowsDisplay, SessionHolds, RepresentsSession, here}
 use Rattle.b67_law_order.proofs.Chases.{cell_has}
 use Rattle.b67_law_order.proofs.Looks.{IsFrame, found_frame}
@@ -131,9 +131,6 @@ module _ (x : Storage) (old : Cpu) (plan : Placement) (s : Session) (m : Session
   scene = Scenes.scene [] x old.core old.regs old.critical plan s m t o h.holds runs_t
 
   module _ (q : Place) (at f offset bits new_bits : ℕ) (here_at : IsCellAt (Scenes.scene [] x old.core old.regs old.critical plan s m t o h.holds runs_t) q at f offset (Operand bits)) where
-    abbrev pub job' : Job
-    job' = put_job m.progress.job f (offset - 2) (Operand new_bits)
-
     abbrev pub c' : JobProgress
     c' = record m.progress { job = put_job m.progress.job f (offset - 2) (Operand new_bits) }
 
@@ -181,9 +178,6 @@ module _ (x : Storage) (old : Cpu) (plan : Placement) (s : Session) (m : Session
         let Q : MachineView → Type 0 = λ z. Represents x (slice_set old.core at (word 0 new_bits)) old.regs z in
         let R : ℕ → Type 0 = λ n. Represents x (slice_set old.core n (word 0 new_bits)) old.regs (with_slot pic k y') in
         (subst Q (sym pe) (subst R (sym at_e) stands), subst NoOriginalAboveTop (sym pe) settled)
-
-    abbrev w' : Word
-    w' = Operand new_bits
 
     abbrev moved : SessionJob
     moved = record m { progress = c' }

@@ -1,7 +1,6 @@
 -- Lists whose items have numbers: look-ups, and one item changed.
-use Rattle.std.proofs.Common.{◌≡◌, ℕ, true, eqb, List, [], ◌∷◌, Some, refl, inl, inr, ◌≢◌, false, cond, sym, ap, ◌∙◌, ◌++◌, flat_map, map, ◌==◌, ⊎_elim}
+use Rattle.std.proofs.Common.{◌≡◌, ℕ, true, eqb, List, [], ◌∷◌, Some, refl, inl, inr, ◌≢◌, false, cond, sym, ap, ◌∙◌, map, ◌==◌, ⊎_elim}
 use Rattle.std.proofs.lemmas.Bool.Decides.{eqb_tells}
-use Rattle.std.specs.Option.{option_or}
 use Rattle.std.specs.List.{AllByRecursion}
 use Rattle.std.specs.Prelude.{◌==◌}
 use Rattle.std.proofs.lemmas.Bool.{cases_Bool}
@@ -33,30 +32,6 @@ keyed-change_other key m n f keeps ne (y ∷ ys) =
             | inr u ↦ let k : eqb (key (f y)) m ≡ false = rw (keeps y) u.0 in rw (t.0, k, u.0) refl
           ]
       | inr t ↦ rw t.0 (ap (λ r. cond (eqb (key y) m) (Some y) r) (keyed-change_other key m n f keeps ne ys))
-    ]
-
-pub keyed-append : {A : Type 0} (key : A → ℕ) (n : ℕ) (xs ys : List A) → keyed key n (xs ++ ys) ≡ option_or (keyed key n xs) (keyed key n ys)
-keyed-append key n [] ys = refl
-keyed-append key n (x ∷ xs) ys =
-    elim (eqb_tells (key x) n) [
-      | inl t ↦ rw t.0 refl
-      | inr t ↦ rw t.0 (keyed-append key n xs ys)
-    ]
-
--- a look-up through the parts of items, one of which changes without being seen
-pub keyed-flat_map-change : {A B : Type 0} (key : A → ℕ) (inner : B → ℕ) (parts : A → List B) (n i : ℕ) (old new : A) → keyed inner i (parts new) ≡ keyed inner i (parts old) →
-    (xs : List A) → keyed key n xs ≡ Some old → keyed inner i (flat_map parts (change_keyed key n (λ x. new) xs)) ≡ keyed inner i (flat_map parts xs)
-keyed-flat_map-change key inner parts n i old new unseen [] e = refl
-keyed-flat_map-change key inner parts n i old new unseen (x ∷ xs) e =
-    elim (eqb_tells (key x) n) [
-      | inl t ↦ let at : Some x ≡ Some old = rw t.0 at e in
-          let same : x ≡ old = cc in
-          rw t.0 (keyed-append inner i (parts new) (flat_map parts xs) ∙ ap (λ r. option_or r (keyed inner i (flat_map parts xs))) (unseen ∙ ap (λ y. keyed inner i (parts y)) (sym same))
-          ∙ sym (keyed-append inner i (parts x) (flat_map parts xs)))
-      | inr t ↦ let at : keyed key n xs ≡ Some old = rw t.0 at e in
-          rw t.0 (keyed-append inner i (parts x) (flat_map parts (change_keyed key n (λ y. new) xs))
-          ∙ ap (λ r. option_or (keyed inner i (parts x)) r) (keyed-flat_map-change key inner parts n i old new unseen xs at)
-          ∙ sym (keyed-append inner i (parts x) (flat_map parts xs)))
     ]
 
 pub change_is : {A : Type 0} (key : A → ℕ) (n : ℕ) (f : A → A) (old : A) (xs : List A) → keyed key n xs ≡ Some old → change_keyed key n f xs ≡ change_keyed key n (λ y. f old) xs

@@ -1,4 +1,7 @@
-//! Admitting programs: the eleven rules of the loader.
+//! Admitting programs: the eleven rules of the loader. It promises that a program is admitted exactly if the model admits it,
+//! and else the least rule that it breaks.
+//!
+//! For `b67_job_admit` and `b67_bind`: `verify` (`exact`, `least`, `kept`).
 //!
 //! Begin with `verify`: `exact`, `least`, `kept`.
 #![tactic(auto)]

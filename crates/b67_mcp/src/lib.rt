@@ -1,4 +1,8 @@
-//! The call of an intrinsic by the running task.
+//! The call of an intrinsic by the running task, with the printer and the device. It promises the row of each intrinsic: what
+//! it answers and leaves, each fault, what it prints; and that after a stop the machine represents the same session.
+//!
+//! For `b67_session`: `intrinsic` (`call` with `row`, `present`, `fits`, `quiet`; `causes`, `kept`, `device`), which asks that
+//! each job's next task can be numbered; `stop_for`, the stop of a step for which core, sectors or the device fail.
 //!
 //! Begin with `intrinsic`, whose clause `call` holds the row of each intrinsic.
 #![tactic(auto)]

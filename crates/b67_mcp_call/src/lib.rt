@@ -1,4 +1,7 @@
-//! A call of an intrinsic on the running stack: its one argument, and the call that is cut or answered.
+//! A call of an intrinsic on the running stack, whichever it is: its one argument, its marked record cut, its answer pushed.
+//!
+//! For the crates of the intrinsics: `cut_call` (`stands`, `core`), `answer_call` (`stands`, `changed`), `only_argument`,
+//! `whole`.
 //!
 //! Begin with `cut_call` and its clause `stands`.
 #![tactic(auto)]

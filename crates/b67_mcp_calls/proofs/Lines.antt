@@ -95,10 +95,6 @@ module _ {K : Type 0} (taken : K → Option (List ℕ)) (old mid : K) (text : Li
       let long : length text ≡ start + length rest = ap length p.same ∙ length-append p.lines rest ∙ ap (λ (n : ℕ). n + length rest) p.long in
       record { rest = all.printed; took = all.took; same = all.same ∙ take_all now text (omega (arith, most, long)) }
 
--- before the first line
-pub printing_none : {K : Type 0} (taken : K → Option (List ℕ)) (old : K) (text : List ℕ) (was : ℕ) → IsPrinting taken old old text was was 0 text
-printing_none taken old text was = record { lines = []; long = refl; past = omega arith; later = omega arith; continues = Continues-none taken old text was; same = refl }
-
 -- a text with nothing behind
 pub goes_last : {K : Type 0} (taken : K → Option (List ℕ)) (old new : K) (before line : List ℕ) (was now : ℕ) → Continues taken old new (before ++ line ++ []) was now → Continues taken old new (before ++ line) was now
 goes_last taken old new before line was now h = subst (λ (l : List ℕ). Continues taken old new l was now) (append-nil (before ++ line)) h

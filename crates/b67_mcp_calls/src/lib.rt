@@ -1,5 +1,8 @@
-//! The intrinsics on the running stack: PRINT, READ, ARRAYDEC, PRINTROW, DEALLOCATE, RESIZE, and the call that is cut or
-//! answered.
+//! The intrinsics on the running stack: what PRINT, READ, ARRAYDEC, PRINTROW, DEALLOCATE and RESIZE find there, with their
+//! faults in order, and the call that is cut or answered.
+//!
+//! For `b67_mcp`: `print_value`, `read_number`, `array_length` (`row`), `answer_array` (`stands`), `row_to_print` (`row`,
+//! `present`), `array_to_empty`, `array_to_resize` (`row`), `say_row` (`whole`, `part`).
 //!
 //! Begin with `row_to_print`: `row`, `present`.
 #![tactic(auto)]

@@ -1,6 +1,6 @@
 -- The parts of PROCESS: the tasks of the running job, the call that is answered, the task that is started.
 use Rattle.std.specs.Prelude.{◌==◌, ℕ, ◌<◌, List, length, Option, if◌then◌else◌}
-use Rattle.b67_model.specs.declared.intrinsics.TheConstants.{MOST_TASKS}
+use Rattle.b67_model.specs.declared.limits.TheConstants.{MOST_TASKS}
 use Rattle.b67_lemmas.specs.Lists.{total}
 use Rattle.b67_word.specs.declared.couples.Place.{Place}
 use Rattle.b67_ctl.specs.Layout.{IsPlace}

@@ -1,4 +1,7 @@
-//! The intrinsic PROCESS.
+//! The intrinsic PROCESS: what the call asks for, with its faults in order; the areas under the new stack evicted; the birth.
+//! It promises the row, or a stop with the words or sectors that are too few, and the same session.
+//!
+//! For `b67_mcp`: `process` (`row` with `meets`, `quiet`; `fits`, `kept`; `device` with `calls`, `cause`).
 //!
 //! Begin with `process`: `row`, `device`.
 #![tactic(auto)]
@@ -16,11 +19,12 @@ use crate::asking::task_asked;
 use crate::starting::{answer, start_asked, tasks_of_job};
 pub use asking::Asked;
 use b67_backing::{Backing, SpaceFault};
+use b67_model::MOST_TASKS;
 use b67_task_tables::Machine;
 use b67_word::{Fault, Place};
 
-/// PROCESS: starts a child of the running task, with copies of the call's words, and answers its number; or 0 where 15 tasks
-/// of the job live. The call is cut, and its task goes on at a place of its segment. A fault changes nothing.
+/// PROCESS: starts a child of the running task, with copies of the call's words, and answers its number; or 0 where [`MOST_TASKS`]
+/// tasks of the job live. The call is cut, and its task goes on at a place of its segment. A fault changes nothing.
 ///
 /// Areas under the child's stack are evicted first. `NoCore`, with nothing changed, exactly where a task is to be started
 /// and the step needs more words than core has (`need`). After `BackingFull` and `BackingFault` the machine represents the same session.
@@ -45,7 +49,7 @@ pub fn process<B: Backing>(
         Err(fault) => return Ok(Err(fault)),
     };
     let live = tasks_of_job(machine);
-    if live >= 15 {
+    if live >= MOST_TASKS {
         answer(machine, 0, next);
         return Ok(Ok(()));
     }

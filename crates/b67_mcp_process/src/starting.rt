@@ -2,6 +2,7 @@
 
 ghost use Rattle.std.specs.Prelude.{◌≡◌, ◌≢◌, ℕ, ◌+◌, ◌<◌, ◌≤◌, List, Option, length};
 ghost use Rattle.b67_word.specs.declared.couples.Place.{Place};
+ghost use Rattle.b67_model.specs.declared.limits.TheConstants.{MOST_TASKS, MOST_STACKS};
 ghost use Rattle.b67_ctl.specs.Layout.{IsPlace};
 ghost use Rattle.b67_model.specs.Words as words;
 ghost use Rattle.b67_model.specs.State.{Task, SessionJob};
@@ -41,7 +42,7 @@ fn counted(row: TaskRow, job: u8) -> u8
 
 /// How many rows are of tasks of a job.
 fn rows_of(rows: &[TaskRow], job: u8) -> u8
-    requires { length rows.now ≤ 120 }
+    requires { length rows.now ≤ MOST_STACKS }
     ensures { result ≡ rows_of_job rows.now job }
 {
     let mut live = 0u8;
@@ -99,7 +100,7 @@ pub(crate) fn start_asked<B: Backing>(
     requires number { CanNumber machine.old.tasks.jobs }
     requires same { B.size backing.old + 1 ≡ length machine.old.sectors.links }
     ensures row { ForEachRun machine.old (λ x told plan s m t. (arguments : List words.Word) → Asks plan m t arguments asked.cell asked.count
-        → length m.progress.job.tasks < 15 → ProcessRow B.holds told plan s m t next arguments result machine.old machine.new backing.old backing.new) }
+        → length m.progress.job.tasks < MOST_TASKS → ProcessRow B.holds told plan s m t next arguments result machine.old machine.new backing.old backing.new) }
     ensures fits { ForEachRun machine.old (λ x told plan s m t. (arguments : List words.Word) → ProcessFits (length machine.old.cpu.core) s m t next arguments result) }
     ensures kept { Keeps machine.old machine.new }
     ensures printed { machine.new.tasks.printed ≡ machine.old.tasks.printed }

@@ -4,7 +4,7 @@ ghost use Rattle.std.specs.Prelude.{◌≡◌, map};
 ghost use Rattle.b67_mcp_waits.specs.Woken as woken;
 
 use arrayvec::ArrayVec;
-use b67_task_tables::{TaskRow, TaskState};
+use b67_task_tables::{MOST_ROWS, TaskRow, TaskState};
 
 /// The state once a cell is caused: who waited at it is ready.
 fn woken_state(state: TaskState, mark: u32, offset: u16) -> TaskState
@@ -47,7 +47,7 @@ fn wake_each(rows: &mut [TaskRow], job: u8, mark: u32, offset: u16)
 }
 
 /// Makes the rows what they are once a cell of a job is caused, by the address of its activation record's mark and its offset.
-pub(crate) fn wake_rows(rows: &mut ArrayVec<TaskRow, 120>, job: u8, mark: u32, offset: u16)
+pub(crate) fn wake_rows(rows: &mut ArrayVec<TaskRow, MOST_ROWS>, job: u8, mark: u32, offset: u16)
     ensures { rows.new.items ≡ map (woken.woken_row job mark offset) rows.old.items }
 {
     wake_each(rows.as_mut_slice(), job, mark, offset);

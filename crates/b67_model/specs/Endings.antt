@@ -3,7 +3,7 @@ use Rattle.std.specs.Prelude.{ℕ, zero, suc, ◌==◌, not, Bool, true, false, 
 use Rattle.std.specs.List.{list_any, list_all}
 use Rattle.b67_word.specs.declared.faults.Ending.{Ending}
 use Rattle.b67_word.specs.declared.faults.Ending.TheVariants.{Ended, Parent, Deadlock, Limit, Faulted}
-use Rattle.b67_model.specs.declared.intrinsics.TheConstants.{MOST_TASKS}
+use Rattle.b67_model.specs.declared.limits.TheConstants.{MOST_TASKS}
 use Rattle.b67_model.specs.Answers.{Answer}
 use Rattle.b67_model.specs.State.{Array, Condition, Ready, Awaits, WaitsAt, Task, JobConstants, Job, with_task}
 use Rattle.b67_model.specs.Steps.{Line, Ends, Done, Goes, Leaves, Waits}

@@ -5,7 +5,6 @@
 use Rattle.std.specs.Prelude.{◌≡◌, ◌≢◌, ◌↔◌, ℕ, ◌+◌, ◌-◌, ◌*◌, ◌^◌, ◌<◌, ◌≤◌, ◌==◌, Bool, false, nat_abs, List, [], ◌∷◌, ◌++◌, map, reverse, length, sum_by, Option, Some, None, IsTrue, if◌then◌else◌, slice_get}
 use Rattle.std.specs.List.{AllByRecursion}
 use Rattle.b67_word.specs.declared.couples.Place.{Place}
-use Rattle.b67_model.specs.declared.intrinsics.TheConstants.{MOST_TASKS}
 use Rattle.b67_model.specs.declared.operators.Op.{Op}
 use Rattle.b67_model.specs.Keyed.{keyed}
 use Rattle.b67_lemmas.specs.Lists.{Has, total, how_many, Falls}
@@ -17,7 +16,7 @@ use Rattle.b67_model.specs.Endings.{is_ready}
 use Rattle.b67_model.specs.Loader.{listing, At}
 use Rattle.b67_model.specs.Schedule.{Switch, Session}
 use Rattle.b67_model.specs.Run.{live_tasks}
-use Rattle.b67_model.specs.declared.limits.TheConstants.{LEAST_STACK, MOST_STACK, MOST_JOBS, MOST_PARTS, MOST_SEGMENT, MOST_ARRAY, MOST_LIMIT}
+use Rattle.b67_model.specs.declared.limits.TheConstants.{LEAST_STACK, MOST_STACK, MOST_JOBS, MOST_PARTS, MOST_SEGMENT, MOST_ARRAY, MOST_LIMIT, MOST_TASKS}
 
 -- what a place of a segment must be, for an activation of a level that goes on there
 abbrev pub Starts : Type 1

@@ -3,8 +3,8 @@ use Rattle.std.specs.Prelude.{ℕ, ◌+◌, ◌==◌, ◌&&◌, nat_lt, nat_le, 
 use Rattle.std.specs.List.{list_any}
 use Rattle.b67_word.specs.declared.faults.Fault.TheVariants.{StackOverflow, InvalidOperand, InvalidIndex, MemoryProtect, CriticalBlock}
 use Rattle.b67_word.specs.declared.couples.Place.{Place}
-use Rattle.b67_model.specs.declared.limits.TheConstants.{MOST_ARRAY}
-use Rattle.b67_model.specs.declared.intrinsics.TheConstants.{ARRAYDEC, PRINT, PRINTROW, READ, PROCESS, AWAIT, STATUS, WAIT, CAUSE, DEALLOCATE, RESIZE, MOST_TASKS}
+use Rattle.b67_model.specs.declared.limits.TheConstants.{MOST_ARRAY, MOST_TASKS}
+use Rattle.b67_model.specs.declared.intrinsics.TheConstants.{ARRAYDEC, PRINT, PRINTROW, READ, PROCESS, AWAIT, STATUS, WAIT, CAUSE, DEALLOCATE, RESIZE}
 use Rattle.b67_model.specs.Answers.{Answer, ◌>>=◌, ◌>>◌, needs}
 use Rattle.b67_word.specs.Operands.{bits_of}
 use Rattle.b67_model.specs.Words.{Word, Operand, Row, Original, number, whole}

@@ -1,5 +1,6 @@
 -- The core that a step needs.
 use Rattle.std.specs.Prelude.{◌≡◌, ℕ, ◌<◌, ◌≤◌, ◌+◌, ◌-◌, ◌*◌, max, ◌==◌, nat_lt, List, [], ◌∷◌, length, reverse, sum_by, Option, Some, None, Ok, Err, if◌then◌else◌, option_map}
+use Rattle.b67_model.specs.declared.limits.TheConstants.{FIXED_WORDS}
 use Rattle.b67_model.specs.declared.intrinsics.TheConstants.{PRINTROW}
 use Rattle.b67_model.specs.declared.operators.Op.TheVariants.{Plain}
 use Rattle.b67_model.specs.declared.operators.Code.TheVariants.{Entr}
@@ -17,7 +18,7 @@ use Rattle.b67_model.specs.Run.{live_tasks, number_of, after}
 
 -- the MCP's words and all dictionaries, each of two words and its entries
 abbrev pub fixed : List SessionJob → ℕ
-fixed jobs = 160 + sum_by (λ m. 2 + length m.constants.dictionary.cells) jobs
+fixed jobs = FIXED_WORDS + sum_by (λ m. 2 + length m.constants.dictionary.cells) jobs
 
 abbrev pub need_at_opening : ℕ → List SessionJob → ℕ
 need_at_opening stack jobs = fixed jobs + length jobs * stack

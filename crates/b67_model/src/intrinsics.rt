@@ -32,6 +32,3 @@ pub const DEALLOCATE: u8 = 17;
 
 /// RESIZE changes the length of an array.
 pub const RESIZE: u8 = 18;
-
-/// How many tasks of a job live at most. So no task has as many parents.
-pub const MOST_TASKS: u8 = 15;

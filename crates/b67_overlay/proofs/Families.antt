@@ -1,5 +1,5 @@
 -- The stack vector and the dictionaries as the search reads them.
-use Rattle.std.proofs.Common.{◌≡◌, ◌≢◌, ℕ, ◌+◌, ◌*◌, ◌/◌, ◌%◌, ◌^◌, ◌<◌, ◌≤◌, Bool, true, false, not, ◌&&◌, List, [], ◌∷◌, length, Option, Some, None, refl, sym, ◌∙◌, ap, arith}
+use Rattle.std.proofs.Common.{◌≡◌, ◌≢◌, ℕ, ◌+◌, ◌*◌, ◌^◌, ◌<◌, ◌≤◌, Bool, true, false, not, ◌&&◌, List, [], ◌∷◌, length, Option, Some, None, refl, sym, ◌∙◌, ap, arith}
 use Rattle.std.specs.Prelude.{nat_lt}
 use Rattle.std.specs.List.{slice_get, list_any}
 use Rattle.std.proofs.lemmas.Bool.{cond-true, cond-false, lt-ltb, le-ltb, eq-eqb, ne_eqb}
@@ -15,18 +15,6 @@ use Rattle.b67_overlay.specs.Spans.{Resident, Families, parent_field, kin_word, 
 -- fields of words
 pub entries_field : (n : ℕ) (w : Tagged) → n < 2 ^ 20 → Some w ≡ Some (word 0 n) → bits_at w 0 20 ≡ n
 entries_field n w h e = ap (λ (v : Tagged). bits_at v 0 20) (same_Some _ _ e) ∙ omega arith
-
-pub parent_bits : (j k : ℕ) → j < 2 ^ 4 → k < 2 ^ 10 → (2 ^ 46 + k * 2 ^ 36 + j * 2 ^ 16) / 2 ^ 36 % 2 ^ 10 ≡ k
-parent_bits j k hj hk = omega arith
-
-pub job_bits : (j k : ℕ) → j < 2 ^ 4 → k < 2 ^ 10 → (2 ^ 46 + k * 2 ^ 36 + j * 2 ^ 16) / 2 ^ 16 % 2 ^ 4 ≡ j
-job_bits j k hj hk = omega arith
-
-pub parent_is : (a : Resident) (w : Tagged) → a.job < 2 ^ 4 → parent_field a.parents < 2 ^ 10 → Some w ≡ Some (kin_word (Some a)) → bits_at w 36 10 ≡ parent_field a.parents
-parent_is a w hj hk e = ap (λ (v : Tagged). bits_at v 36 10) (same_Some _ _ e) ∙ parent_bits a.job (parent_field a.parents) hj hk
-
-pub job_is : (a : Resident) (w : Tagged) → a.job < 2 ^ 4 → parent_field a.parents < 2 ^ 10 → Some w ≡ Some (kin_word (Some a)) → bits_at w 16 4 ≡ a.job
-job_is a w hj hk e = ap (λ (v : Tagged). bits_at v 16 4) (same_Some _ _ e) ∙ job_bits a.job (parent_field a.parents) hj hk
 
 pub parent_low : (f : Families) (peak job : ℕ) (parents : List ℕ) → peak ≤ 120 → LineStands f peak job parents → parent_field parents < 2 ^ 10
 parent_low f peak job [] few line = omega arith

@@ -28,10 +28,6 @@ over x told k plan s h = record {
   stands = record { session = h.session; storage = record { low = h.storage.low; size = h.storage.size; shelf = h.storage.shelf; device = refl }; tables = h.tables };
 }
 
-told_of : (d told : Option (List (List ℕ))) → d ≢ None → Says d told → told ≡ d
-told_of None told n says = absurd (n refl)
-told_of (Some all) told n says = says
-
 -- what its view says of it
 pub view_stands : (x : Storage) (told : Option (List (List ℕ))) (k : Machine) (plan : Placement) (s : Session) → IsInOrderButCounts s → StandsOver x told k plan s
     → MachineCanPage x k.cpu k.areas k.sectors told (machine_view plan s.jobs)

@@ -1,4 +1,9 @@
-//! The running segment or the array that is touched is brought in; too few free sectors are answered exactly.
+//! Paging in: the running segment or the array that is touched is brought into core, and other areas are evicted if no hole has
+//! room. It promises that the session stays, that an object comes in if core has the step's need, and that too few free sectors
+//! are answered exactly.
+//!
+//! For `b67_session`: `bring` (`row`, `unchanged`, `keeps`, `tasks`, `cause`, `device`); below it `bring_code`, `bring_data`
+//! (`row`, `hole`), `page_in` (`row`, `unchanged`). Laws: `short_is_full`, `sessions_can_page`.
 //!
 //! Begin with `bring`: `row`, `unchanged`.
 #![tactic(auto)]

@@ -1,6 +1,10 @@
-//! All between the words of the program and its exit.
+//! All between the words of the program and its exit: the words, the deck read into memory, the file of the path opened and
+//! closed, the exit status. It promises that what is printed, and the status, are those of `run` on the deck that was read.
 //!
-//! Begin with `serve`: `opened`, `served`, `unread`, `reading`. The same over memory that the caller lends is `serve_in_memory`.
+//! For the program `b67`: `serve_process` (`started`, `reading`). For callers with sources of their own: `serve`. For a page:
+//! `serve_in_memory`, over text, sectors and room that the caller lends.
+//!
+//! Begin with `serve`: `opened`, `served`, `unread`, `reading`.
 #![tactic(auto)]
 
 mod files;

@@ -98,10 +98,6 @@ module _ (R : Relation) where
     pub numbers : data_numbers ys ≡ data_numbers xs
     pub program : ProgramsAlike (program xs) (program ys)
 
-  alike_again : (b : Body) → R.alike b b
-  alike_again (Cards cs) = R.cards cs cs refl
-  alike_again (Bytes bs) = R.bytes bs
-
   by_program : (a b : Option (ℕ × Body)) → ProgramsAlike a b → R.alike (unwrap_or a (0, Cards [])).1 (unwrap_or b (0, Cards [])).1
   by_program None None h = R.cards [] [] refl
   by_program (Some a) (Some b) h = h

@@ -12,7 +12,7 @@ use Rattle.b67_model_text.specs.Answers.{Answer, ◌>>=◌, ◌>>◌, needs, or_
 use Rattle.b67_model_text.specs.Cards.{words_in_card}
 use Rattle.b67_model_text.specs.Deck.{Refusal, of_card}
 use Rattle.b67_model_text.specs.Statements.{kind_of, statement_of, line_with, lines_of, without_comment}
-use Rattle.b67_model_text.specs.Asm.{definition, segments_behind, rows_behind, definitions, segment_count, meaning, label_at, syllable_after_card, labels, names_entry, is_place, is_entry, is_head, own, with_cards, cards_of_segments, cards_of, Names, names_of, Scope, SegmentContent, content_of, row_values, row_words, is_numbers, is_code, is_segment_number, is_row_number, Part, segment_part, row_part, misplaced, program_part, with_part, program_from, no_strays, assembled, says_entry, version_in, version_of}
+use Rattle.b67_model_text.specs.Asm.{definition, segments_behind, rows_behind, definitions, segment_count, meaning, label_at, syllable_after_card, labels, names_entry, is_place, is_entry, is_head, own, with_cards, cards_of_segments, cards_of, Names, names_of, Scope, SegmentContent, content_of, row_values, row_words, is_numbers, is_code, is_segment_number, is_row_number, Part, segment_part, row_part, misplaced, program_part, with_part, program_from, no_strays, assembled}
 use Rattle.b67_model_text.specs.Pass.{Added, added_by, syllable_behind, entries_behind, pass_content}
 use Rattle.b67_model_text.proofs.Pass.{content_is}
 
@@ -196,9 +196,6 @@ of_lines_bare ls =
 
 -- ---- cards of one text each
 
-card_line : ℕ → List ℕ → Option Line
-card_line number text = line_with number (words_in_card (without_comment text))
-
 abbrev pub texts_of : List Card → List (List ℕ)
 texts_of cards = map (λ (c : Card). c.text) cards
 
@@ -230,8 +227,3 @@ same_program cs ds p e a =
 
 pub one_program : (cs ds : List Card) (p q : Program) → texts_of cs ≡ texts_of ds → assembled cs ≡ Ok p → assembled ds ≡ Ok q → p ≡ q
 one_program cs ds p q e a b = same_Some p q (sym (ap answer_of (same_program cs ds p e a)) ∙ ap answer_of b)
-
-pub one_version : (cs ds : List Card) → texts_of cs ≡ texts_of ds → version_of cs ≡ version_of ds
-one_version cs ds e =
-    let same : version_in (bare (lines_of cs)) ≡ version_in (bare (lines_of ds)) = ap version_in (same_lines cs ds e) in
-    sym (ap (λ (b : Bool). cond b 2 1) (any_bare (λ l. says_entry l.says) (λ l. refl) (lines_of cs))) ∙ same ∙ ap (λ (b : Bool). cond b 2 1) (any_bare (λ l. says_entry l.says) (λ l. refl) (lines_of ds))

@@ -1,6 +1,7 @@
 //! A run that halts: its image is read, and the rest prints what it would have printed.
 
 ghost use Rattle.std.specs.Prelude.{◌≡◌, ◌≢◌, ◌≤◌, ◌<◌, ◌^◌, ◌++◌, ℕ, List, length, Option, Some, None};
+ghost use Rattle.b67_model.specs.declared.limits.TheConstants.{MOST_STACKS};
 ghost use Rattle.b67_io.specs.Causes.{Stayed};
 ghost use Rattle.b67_task_tables.specs.declared.tables.Machine.{Machine};
 ghost use Rattle.std.specs.Process.{exit_status};
@@ -144,7 +145,7 @@ pub fn images_of_runs_are_read()
 
 /// Looks at the table of tasks of the machine that a call has left, if it left one: its type bounds it. Changes nothing.
 pub(crate) fn tasks_are_few(outcome: &Outcome)
-    ensures { (k : Machine) → outcome.now.machine ≡ Some k → length k.tasks.rows.items ≤ 120 }
+    ensures { (k : Machine) → outcome.now.machine ≡ Some k → length k.tasks.rows.items ≤ MOST_STACKS }
 {
     if let Some(machine) = &outcome.machine {
         let _rows = machine.tasks.rows.as_slice();

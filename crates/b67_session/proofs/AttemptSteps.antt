@@ -1,17 +1,13 @@
 -- What a whole step of the running task keeps, where its operator calls no intrinsic.
-use Rattle.std.proofs.Common.{◌≡◌, ◌≢◌, ℕ, ◌<◌, List, [], ◌∷◌, Option, None, Ok, Err, refl, arith, false, inl, inr}
+use Rattle.std.proofs.Common.{◌≡◌, ◌≢◌, ℕ, ◌<◌, List, [], ◌∷◌, Option, None, Ok, refl, arith, false, inl, inr}
 use Rattle.b67_word.specs.declared.couples.Place.{Place}
 use Rattle.b67_model.specs.declared.operators.Op.{Op}
-use Rattle.b67_model.specs.Common.{Frame, Task, Job, SessionJob, top, Reading, Line, Goes, is_critical, row, reading_of, step, step_by, Session, IsSegment, called}
+use Rattle.b67_model.specs.Common.{Frame, Task, Job, SessionJob, top, Line, Goes, is_critical, row, Session, IsSegment, called}
 use Rattle.b67_layout.specs.Common.{IsInOrderButCounts, Placement, IsRunning, here}
 use Rattle.b67_layout.proofs.Common.{running_in_order, critical-below, fresh, IsDependedOn}
 use Rattle.b67_layout_records.proofs.Leaves.{depended_apart}
 use Rattle.b67_session.proofs.Places.{AllSame}
 use Rattle.b67_session.proofs.Keeps.{row_keeps}
-
--- the operator at the task's place calls no intrinsic
-abbrev pub CallsNone : SessionJob → Task → Type 0
-CallsNone m t = (read : Op × Place) → reading_of m.constants t ≡ Ok read → called read.0 (here m t read.1) ≡ None
 
 -- the job afterwards, but for its arrays and its next frame and array
 pub record JobKept (m : SessionJob) (t : Task) (after : Job) : Type 0 where
@@ -40,12 +36,3 @@ module _ (plan : Placement) (s : Session) (m : SessionJob) (t : Task) (o : IsInO
   row_kept op q e after printed touched is =
       let k = row_keeps (IsDependedOn m.progress.job) op m t q runs.task some low apart e after printed touched is in
       record { tasks = k.0; next_task = k.1; numbers = k.2 }
-
-  kept_by : (read : Reading) → reading_of m.constants t ≡ read → CallsNone m t → (after : Job) (printed : List Line) (touched : Option ℕ) → step_by m.constants m.progress.job t read ≡ Ok (Goes after printed touched) → JobKept m t after
-  kept_by (Err why) at calls after printed touched e = absurd cc
-  kept_by (Ok read) at calls after printed touched e = row_kept read.0 read.1 (calls read at) after printed touched e
-
-  -- a step that calls none
-  pub step_kept : CallsNone m t → (after : Job) (printed : List Line) (touched : Option ℕ) → step m.constants m.progress.job t ≡ Ok (Goes after printed touched) → JobKept m t after
-  unfolding step
-  step_kept calls after printed touched e = kept_by (reading_of m.constants t) refl calls after printed touched e

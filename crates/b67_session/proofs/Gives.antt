@@ -46,11 +46,6 @@ Rows old new answered = ForEach old (λ x plan s m t. OperatorMeets x plan s m t
 abbrev pub Lefts : Cpu → Bool → Type 0
 Lefts old left = ForEach old (λ x plan s m t. code_area x plan m t ≢ None → left ≡ leaves_record (reading_of m.constants t))
 
--- where it leaves none
-pub stays_so : (left leaves : Bool) → not left ≡ true → left ≡ leaves → leaves ≡ false
-stays_so true leaves n e = absurd (true≢false (sym n))
-stays_so false leaves n e = sym e
-
 -- it was made and leaves a record
 module _ (old : Machine) (new : Cpu) (answered : Step) (left : Bool) (rows : Rows old.cpu new answered) (lefts : Lefts old.cpu left) (all_cuts : left ≡ true → answered ≡ Done → CutsRecord old.cpu new) (is_left : not left ≡ false) (is_done : answered ≡ Done) where
   true_left : left ≡ true

@@ -20,7 +20,6 @@ pub mod Fitting
 pub mod Pausing
 pub mod Resuming
 pub mod Shaping
-pub mod Standing
 mod Again
 pub mod Completing
 pub mod Tells

@@ -6,7 +6,6 @@ use Rattle.b67_model.specs.declared.operators.Op.{Op}
 use Rattle.b67_model.specs.Common.{Answer, Ready, Task, SessionJob, Done as Result, Reading, reading_of, row, step, Session, called}
 use Rattle.b67_layout.specs.Common.{IsInOrderButCounts, Placement, array_object, here, objects_gone, with_job, FindsAbsent, IsMade, Meets, IsRunning, RepresentsSession, RepresentsSessionBut}
 use Rattle.b67_stack.specs.declared.Cpu.{Cpu}
-use Rattle.b67_stack.specs.declared.What.TheVariants as what
 use Rattle.b67_stack.specs.declared.Step.{Step}
 use Rattle.b67_stack.specs.declared.Step.TheVariants as answers
 use Rattle.b67_stack.specs.MachineView.{PagedObject}
@@ -129,10 +128,3 @@ made_so x told plan s m t old new code none made = by (code_area x plan m t) ref
   by : (area : Option ℕ) → code_area x plan m t ≡ area → MakesAt x told plan s m t answers.Done old new area
   by None e = absurd (code e)
   by (Some at) e = let P : Option ℕ → Type 0 = λ o. CallsOrMakes x told plan s m t answers.Done old new o in subst P (sym none) made
-
--- the running segment is absent
-pub absent_row : (x : Storage) (told : Option (List (List ℕ))) (plan : Placement) (s : Session) (m : SessionJob) (t : Task) (old : Machine) → MachineRepresents x told old plan s → IsRunning plan s.jobs m t → code_area x plan m t ≡ None
-    → MakesInSegment x told plan s m t (answers.Absent (what.Code old.cpu.regs.segment)) old old
-absent_row x told plan s m t old h runs none =
-    let P : Option ℕ → Type 0 = λ o. MakesAt x told plan s m t (answers.Absent (what.Code old.cpu.regs.segment)) old old o in
-    subst P (sym none) (ap (λ (n : ℕ). answers.Absent (what.Code n)) (h.session.holds.running m t runs).segment, refl)

@@ -1,8 +1,7 @@
 -- The session in which the running task is ready: it is in order, and the machine represents it.
 use Rattle.std.proofs.Common.{◌≡◌, List, [], map, Some, refl, sym, ◌∙◌, ap, arith, inl, subst}
 use Rattle.b67_model.specs.Keyed.{keyed}
-use Rattle.b67_lemmas.specs.Lists.{Has}
-use Rattle.b67_lemmas.proofs.Members.{all_in, length_change, change_found, keyed_has}
+use Rattle.b67_lemmas.proofs.Members.{all_in, length_change, change_found}
 use Rattle.b67_lemmas.proofs.Keyed.{change_same}
 use Rattle.b67_model.specs.Common.{Array, Ready, Task, Job, SessionJob, with_task, number_of, Session, IsSegment, known_of, from_frame, originals_of}
 use Rattle.b67_layout.specs.Common.{JobInOrderButCounts, IsInOrderButCounts, Placement, IsRunning, RepresentsSession, with_job}
@@ -24,9 +23,6 @@ module _ (plan : Placement) (s : Session) (m : SessionJob) (t : Task) (o : IsInO
 
   abbrev pub session : Session
   session = with_job s m job
-
-  in_t : Has m.progress.job.tasks t
-  in_t = (keyed_has (λ (u : Task). u.number) t.number m.progress.job.tasks t runs.task).0
 
   there : keyed (λ (u : Task). u.number) t.number job.tasks ≡ Some task
   there = change_found (λ (u : Task). u.number) t.number t task m.progress.job.tasks refl runs.task

@@ -1,4 +1,12 @@
 //! Sessions: a step is tried, what it lacks is brought in, and it is made; turns of steps, slices, and how they stop and go on.
+//! It promises that n steps of any jobs and tasks are made with exactly their lines. After a stop the machine represents the
+//! session before the step that wasn't made, so the call may be made again.
+//!
+//! For `b67_job`: `slice` and `Session::slice` (`row`, `present`, `resumed`, `ended`, `complete`, `leaves`), `open` (`open`: a
+//! slice may be called). One operator by itself: `attempt` (`row`, `causes`, `kept`, `tables`, `device`), with what it lacks
+//! brought in; `try_once` (`tried`, `causes`, `keeps`, `device`), without; `make` (`row`, `keeps`, `tasks`), but for
+//! intrinsics. The first two ask that each job's next task can be numbered. Laws: `present_fits`, `made_fits`,
+//! `machines_are_open`.
 //!
 //! Begin with `slice`, then `attempt`, the try of one operator.
 #![tactic(auto)]

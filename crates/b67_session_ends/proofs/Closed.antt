@@ -1,6 +1,6 @@
 -- The machine once the chosen task has ended, with those under it, those that are deadlocked then, and the step is counted.
-use Rattle.std.proofs.Common.{◌≡◌, ℕ, ◌≤◌, Bool, true, false, not, List, length, Option, Some, refl, sym, ap, ◌∙◌, subst, inl, arith}
-use Rattle.std.specs.List.{list_all}
+use Rattle.std.proofs.Common.{◌≡◌, ℕ, ◌≤◌, Bool, true, false, not, List, [], length, Option, Some, refl, sym, ap, ◌∙◌, subst, inl, arith}
+use Rattle.std.specs.List.{list_any, list_all}
 use Rattle.b67_word.specs.declared.faults.Ending.{Ending}
 use Rattle.b67_word.specs.declared.faults.Ending.TheVariants.{Deadlock}
 use Rattle.b67_lemmas.specs.Lists.{Has}
@@ -24,11 +24,12 @@ use Rattle.b67_task_end.specs.Family.{TablesHold, HasSomeRow, HasSomeHead, endin
 use Rattle.b67_task_switch.specs.declared.counting.Chosen.{Chosen}
 use Rattle.b67_task_switch.specs.Counted.{choice_of, CountsHaveRoom}
 use Rattle.b67_task_tables.specs.Runs.{Keeps}
-use Rattle.b67_session_ends.specs.Closing.{HasJobOf, StandsChosen}
+use Rattle.b67_session_ends.specs.Closing.{HasJobOf, StandsChosen, left_ready}
 use Rattle.b67_session_ends.specs.Counts.{IsCounted}
 use Rattle.b67_session_ends.specs.Ends.{StandsForSession, StandsInPlace, LeavesInPlace, IsFamilyOf, EndsFamily}
 use Rattle.b67_session_ends.specs.Texts.{endings_text}
 use Rattle.b67_session_ends.proofs.ByLimit.{reprinted}
+use Rattle.b67_session_ends.proofs.Deadlocks.{turned, stuck_is, wait_is}
 use Rattle.b67_session_ends.proofs.Counted.{counted_stands, counted_view}
 use Rattle.b67_session_ends.proofs.InPlace.{in_place_then, in_place_view}
 
@@ -123,6 +124,15 @@ module _ (x : Storage) (told : Option (List (List ℕ))) (k : Machine) (plan : P
 
       pub has_job : HasJobOf new c.job
       has_job = record { storage = e.storage; told = told; plan = e.plan; session = with_job s m gone.job; member = left; ordered = left_ordered; stands = e.stands; among = left_among; number = own }
+
+      -- who goes on now was seen before they ended
+      pub goes_then : (dead : List (ℕ × Ending)) (goes : Bool) → goes ≡ list_any (left_ready c.job dead) k.tasks.rows.items → dead ≡ endings_of m.progress.job t.number ending
+          → goes ≡ list_any (left_ready c.job []) new.tasks.rows.items
+      goes_then dead goes seen listed =
+          let waits : Bool = list_all (λ (u : Task). not (is_ready u)) gone.job.tasks in
+          let before : waits ≡ not (list_any (left_ready c.job dead) k.tasks.rows.items) = stuck_is plan s k.tasks holds m among dead t.number ending listed c.job own in
+          let after : waits ≡ not (list_any (left_ready c.job []) new.tasks.rows.items) = wait_is e.storage told new e.plan (with_job s m gone.job) left left_ordered e.stands left_among c.job own in
+          seen ∙ turned (list_any (left_ready c.job dead) k.tasks.rows.items) waits before ∙ sym (turned (list_any (left_ready c.job []) new.tasks.rows.items) waits after)
 
       -- and those that are deadlocked
       module _ (last : Machine) (g : StandsInPlace e.storage told last e.plan (with_job s m gone.job) (with_job (with_job s m gone.job) left (deadlocked (unsettled gone.job)).job)) where

@@ -79,7 +79,7 @@ module _ (dead first : List (ℕ × Ending)) where
 
 -- ---- the endings
 
-turned : (b c : Bool) → c ≡ not b → b ≡ not c
+pub turned : (b c : Bool) → c ≡ not b → b ≡ not c
 turned true c e = rw e refl
 turned false c e = rw e refl
 
@@ -91,7 +91,7 @@ module _ (plan : Placement) (s : Session) (tasks : Tasks) (h : TablesHold plan s
     abbrev waiting : List (ℕ × Ending) → Bool
     waiting endings = list_all (λ (t : Task). not (is_ready t)) (map (λ (t : Task). record t { condition = released (ending_numbers endings) t.condition }) (filter (λ (t : Task). not (among (ending_numbers endings) t.number)) m.progress.job.tasks))
 
-    stuck_is : (job : ℕ) → m.constants.number ≡ job → is_stuck m.progress.job number ending ≡ not (list_any (left_ready job dead) tasks.rows.items)
+    pub stuck_is : (job : ℕ) → m.constants.number ≡ job → is_stuck m.progress.job number ending ≡ not (list_any (left_ready job dead) tasks.rows.items)
     stuck_is job own =
         let tells : list_any (left_ready m.constants.number dead) tasks.rows.items ≡ not (waiting dead) = rows_tell plan s tasks h m inm dead in
         let here : list_any (left_ready m.constants.number dead) tasks.rows.items ≡ not (is_stuck m.progress.job number ending) = tells ∙ ap (λ (l : List (ℕ × Ending)). not (waiting l)) e in
@@ -152,7 +152,7 @@ module _ (x : Storage) (told : Option (List (List ℕ))) (k : Machine) (plan : P
   abbrev all_wait : Bool
   all_wait = list_all (λ (t : Task). not (is_ready t)) job.tasks
 
-  wait_is : (n : ℕ) → m.constants.number ≡ n → all_wait ≡ not (list_any (left_ready n []) k.tasks.rows.items)
+  pub wait_is : (n : ℕ) → m.constants.number ≡ n → all_wait ≡ not (list_any (left_ready n []) k.tasks.rows.items)
   wait_is n own =
       let tells : list_any (left_ready m.constants.number []) k.tasks.rows.items ≡ not all_wait =
       rows_tell plan s k.tasks holds m inm [] ∙ ap (λ (ts : List Task). not (list_all (λ (t : Task). not (is_ready t)) ts)) (left_same job.tasks) in

@@ -1,12 +1,12 @@
 -- Lines of endings that are printed one after the other.
-use Rattle.std.proofs.Common.{◌≡◌, ◌≤◌, ◌<◌, ◌+◌, ℕ, suc, List, [], ◌∷◌, ◌++◌, length, Option, refl, sym, ◌∙◌, ap, arith, subst, append_assoc, length-append, append-nil, get_or}
+use Rattle.std.proofs.Common.{◌≡◌, ◌≤◌, ◌<◌, ◌+◌, ℕ, suc, List, [], ◌∷◌, ◌++◌, length, Option, sym, ◌∙◌, ap, arith, subst, append_assoc, length-append, append-nil, get_or}
 use Rattle.std.specs.Prelude.{codes, take, drop}
 use Rattle.std.proofs.lemmas.List.{take_all, drop_all, take_more, map-append}
 use Rattle.std.proofs.lemmas.Option.{slice_get-get_or}
 use Rattle.b67_word.specs.declared.faults.Ending.{Ending}
 use Rattle.b67_io.specs.Line.{ended}
 use Rattle.b67_io.specs.Told.{Continues}
-use Rattle.b67_io.proofs.Joined.{Continues-none, Continues-then}
+use Rattle.b67_io.proofs.Joined.{Continues-then}
 use Rattle.b67_model.specs.Common.{all_with, task_name, ending_name}
 use Rattle.b67_session_lines.specs.Parts.{TookRest, TookMore}
 use Rattle.b67_lemmas.proofs.Places.{drop-get}
@@ -21,9 +21,6 @@ pub record IsPrinting {K : Type 0} (taken : K → Option (List ℕ)) (old now : 
   pub later : before ≤ printed
   pub continues : Continues taken old now text before printed
   pub same : text ≡ lines ++ rest
-
-pub printing_none : {K : Type 0} (taken : K → Option (List ℕ)) (old : K) (text : List ℕ) (was : ℕ) → IsPrinting taken old old text was was 0 text
-printing_none taken old text was = record { lines = []; long = refl; past = omega arith; later = omega arith; continues = Continues-none taken old text was; same = refl }
 
 module _ {K : Type 0} (taken : K → Option (List ℕ)) (old mid : K) (text line rest : List ℕ) (was printed start : ℕ) (p : IsPrinting taken old mid text was printed start (ended line ++ rest)) where
   -- the text with its next line written out

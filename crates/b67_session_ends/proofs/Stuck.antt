@@ -27,10 +27,6 @@ pub dead_is : (dead : List (ℕ × Ending)) (n : ℕ) → list_any (λ (e : ℕ 
 dead_is [] n = refl
 dead_is (e ∷ dead) n = ap (λ (b : Bool). (e.0 == n) || b) (dead_is dead n)
 
-pub none_any : {A : Type 0} (test : A → Bool) (xs : List A) → ((x : A) → Has xs x → test x ≡ false) → list_any test xs ≡ false
-none_any test [] each = refl
-none_any test (x ∷ xs) each = rw (each x (inl refl)) (none_any test xs (λ y h. each y (inr h)))
-
 pub one_not : {A : Type 0} (test : A → Bool) (xs : List A) (x : A) → Has xs x → test x ≡ false → list_all test xs ≡ false
 one_not test [] x h e = absurd h
 one_not test (y ∷ xs) x (inl same) e = let first : test y ≡ false = ap test same ∙ e in rw first refl

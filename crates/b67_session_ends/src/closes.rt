@@ -1,6 +1,7 @@
 //! A task ends by itself, and if no other task of its job is ready then, all of them end by DEADLOCK.
 
-ghost use Rattle.std.specs.Prelude.{◌≡◌, ℕ, List, Option, length};
+ghost use Rattle.std.specs.Prelude.{◌≡◌, ℕ, List, [], Option, length};
+ghost use Rattle.std.specs.List.{list_any};
 ghost use Rattle.b67_io.specs.Causes.{HasCause};
 ghost use Rattle.b67_lemmas.specs.Lists.{Has};
 ghost use Rattle.b67_model.specs.Endings.{deadlocked, ends_with, unsettled};
@@ -14,7 +15,7 @@ ghost use Rattle.b67_law_sessions.specs.Turns.{part_of};
 ghost use Rattle.b67_task_tables.specs.Tables.{MachineRepresents};
 ghost use Rattle.b67_task_switch.specs.Counted.{choice_of, CountsHaveRoom};
 ghost use Rattle.b67_task_tables.specs.Runs.{Keeps};
-ghost use Rattle.b67_session_ends.specs.Closing.{HasJobOf, StandsChosen, ChoseSome, Closes};
+ghost use Rattle.b67_session_ends.specs.Closing.{HasJobOf, StandsChosen, ChoseSome, Closes, left_ready};
 ghost use Rattle.b67_session_ends.specs.Ends.{StandsInPlace};
 
 use crate::counts::count_one;
@@ -29,16 +30,17 @@ use b67_task_switch::Chosen;
 use b67_task_tables::Machine;
 use b67_word::{Ending, Failed};
 
-/// If no task of a job is ready, all of them end. What is left lies where it lay.
-pub fn end_stuck(machine: &mut Machine, job: u8)
-    requires { HasJobOf machine.old job }
+/// If no task of a job goes on, as was seen, all of them end. What is left lies where it lay.
+pub fn end_stuck(machine: &mut Machine, job: u8, goes: bool)
+    requires job { HasJobOf machine.old job }
+    requires seen { goes ≡ list_any (left_ready job []) machine.old.tasks.rows.items }
     ensures stands { (x : Storage) (told : Option (List (List ℕ))) (plan : Placement) (s : Session) (m : SessionJob) → IsInOrderButCounts s → MachineRepresents x told machine.old plan s
         → Has s.jobs m → m.constants.number ≡ job → StandsInPlace x told machine.new plan s (with_job s m (deadlocked (unsettled m.progress.job)).job) }
     ensures tasks { machine.new.tasks ≡ record machine.old.tasks { rows = machine.new.tasks.rows; running = machine.new.tasks.running } }
     ensures len { length machine.new.cpu.core ≡ length machine.old.cpu.core }
     ensures count { length machine.new.sectors.links ≡ length machine.old.sectors.links }
 {
-    if goes_on(&machine.tasks, job, &[]) {
+    if goes {
         return;
     }
     if !has_row(machine.tasks.rows.as_slice(), job) {
@@ -64,15 +66,17 @@ pub fn close<K: Sink>(
     ensures keeps { Keeps machine.old machine.new }
 {
     let dead = endings(&machine.tasks, chosen.row, ending);
-    let all = with_stuck(&machine.tasks, chosen.job, dead.as_slice());
+    let gone = dead.as_slice();
+    let goes = goes_on(&machine.tasks, chosen.job, gone);
+    let all = with_stuck(&machine.tasks, chosen.job, gone, goes);
     put_endings(
         paper,
         chosen.job,
         all.as_slice(),
         &mut machine.tasks.printed,
     )?;
-    end_family(machine, chosen.row, chosen.job, dead.as_slice());
-    end_stuck(machine, chosen.job);
+    end_family(machine, chosen.row, chosen.job, gone);
+    end_stuck(machine, chosen.job, goes);
     count_one(&mut machine.tasks, chosen);
     Ok(())
 }

@@ -2,6 +2,7 @@
 
 ghost use Rattle.std.specs.Prelude.{◌≡◌, ◌≢◌, ◌≤◌, ℕ, true, List, [], Option, Some, length, slice_get};
 ghost use Rattle.b67_word.specs.declared.faults.Ending.TheVariants as variants;
+ghost use Rattle.b67_model.specs.declared.limits.TheConstants.{MOST_TASKS, MOST_STACKS};
 ghost use Rattle.b67_lemmas.specs.Lists.{Has};
 ghost use Rattle.b67_model.specs.Endings.{all_with, ends_each_if, unsettled};
 ghost use Rattle.b67_model.specs.Schedule.{Session};
@@ -16,12 +17,12 @@ ghost use Rattle.b67_session_ends.specs.Ends.{StandsInPlace, IsFirstRow, JobLive
 use arrayvec::ArrayVec;
 use b67_task_end::endings;
 use b67_task_end_tables::end_family;
-use b67_task_tables::{Machine, TaskRow};
+use b67_task_tables::{MOST_LISTED, Machine, TaskRow};
 use b67_word::Ending;
 
 /// Tasks that end in one way.
-pub fn all_ended(numbers: &[u32], ending: Ending) -> ArrayVec<(u32, Ending), 15>
-    requires { length numbers.now ≤ 15 }
+pub fn all_ended(numbers: &[u32], ending: Ending) -> ArrayVec<(u32, Ending), MOST_LISTED>
+    requires { length numbers.now ≤ MOST_TASKS }
     ensures { result.items ≡ all_with ending numbers.now }
 {
     let mut list = ArrayVec::new();
@@ -34,7 +35,7 @@ pub fn all_ended(numbers: &[u32], ending: Ending) -> ArrayVec<(u32, Ending), 15>
 /// The row of a job's first task, which lives.
 fn first_row(rows: &[TaskRow], job: u8) -> u8
     requires lives { (at : ℕ) × IsFirstRow rows.now job at }
-    requires few { length rows.now ≤ 120 }
+    requires few { length rows.now ≤ MOST_STACKS }
     ensures { IsFirstRow rows.now job result }
 {
     for at in 0..rows.len() as u8 {

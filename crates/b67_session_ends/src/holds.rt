@@ -14,6 +14,7 @@ ghost use Rattle.b67_session_ends.specs.Holds.{waiting_step, HoldsSo, HoldsSome}
 
 use crate::closes::end_stuck;
 use crate::counts::count_one;
+use crate::left::goes_on;
 use crate::states::{set_state, stuck};
 use crate::texts::put_endings;
 use b67_io::Sink;
@@ -38,7 +39,8 @@ pub fn make_wait<K: Sink>(
     ensures keeps { Keeps machine.old machine.new }
 {
     let before = set_state(&mut machine.tasks, chosen.row, state);
-    let ended = stuck(&machine.tasks, chosen.job);
+    let goes = goes_on(&machine.tasks, chosen.job, &[]);
+    let ended = stuck(&machine.tasks, chosen.job, goes);
     match put_endings(
         paper,
         chosen.job,
@@ -51,7 +53,7 @@ pub fn make_wait<K: Sink>(
             return Err(failed);
         }
     }
-    end_stuck(machine, chosen.job);
+    end_stuck(machine, chosen.job, goes);
     count_one(&mut machine.tasks, chosen);
     Ok(())
 }

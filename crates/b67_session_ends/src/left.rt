@@ -4,6 +4,7 @@ ghost use Rattle.std.specs.Prelude.{◌≡◌, ◌≤◌, ◌<◌, ◌+◌, ℕ,
 ghost use Rattle.std.specs.List.{list_any};
 ghost use Rattle.b67_word.specs.declared.faults.Ending.TheVariants as endings;
 ghost use Rattle.b67_word.specs.declared.faults.Ending as ending_type;
+ghost use Rattle.b67_model.specs.declared.limits.TheConstants.{MOST_TASKS};
 ghost use Rattle.b67_lemmas.specs.Lists.{Has};
 ghost use Rattle.b67_model.specs.Endings.{all_with, deadlocked, ends_task};
 ghost use Rattle.b67_model.specs.Schedule.{Session};
@@ -15,7 +16,7 @@ ghost use Rattle.b67_session_ends.specs.Closing.{left_ready, others_of};
 
 use arrayvec::ArrayVec;
 use b67_task_end::{is_among, live_of};
-use b67_task_tables::{TaskRow, TaskState, Tasks};
+use b67_task_tables::{MOST_ENDED, TaskRow, TaskState, Tasks};
 use b67_word::Ending;
 
 /// Whether a row's task is of a job, and is left and ready once these have ended.
@@ -48,8 +49,8 @@ pub fn goes_on(tasks: &Tasks, job: u8, dead: &[(u32, Ending)]) -> bool
 }
 
 /// The same tasks in a longer list.
-fn copied(list: &[(u32, Ending)]) -> ArrayVec<(u32, Ending), 30>
-    requires { length list.now ≤ 15 }
+fn copied(list: &[(u32, Ending)]) -> ArrayVec<(u32, Ending), MOST_ENDED>
+    requires { length list.now ≤ MOST_TASKS }
     ensures { result.items ≡ list.now }
 {
     let mut copy = ArrayVec::new();
@@ -60,7 +61,7 @@ fn copied(list: &[(u32, Ending)]) -> ArrayVec<(u32, Ending), 30>
 }
 
 /// Adds DEADLOCK for a task that isn't among those that ended.
-fn add_one(list: &mut ArrayVec<(u32, Ending), 30>, dead: &[(u32, Ending)], number: u32)
+fn add_one(list: &mut ArrayVec<(u32, Ending), MOST_ENDED>, dead: &[(u32, Ending)], number: u32)
     requires { length list.old.items < 30 }
     ensures all { list.new.items ≡ list.old.items ++ all_with endings.Deadlock (others_of dead.now (number ∷ [])) }
     ensures few { length list.new.items ≤ length list.old.items + 1 }
@@ -72,9 +73,9 @@ fn add_one(list: &mut ArrayVec<(u32, Ending), 30>, dead: &[(u32, Ending)], numbe
 }
 
 /// DEADLOCK of all tasks that live but those that ended.
-fn add_stuck(list: &mut ArrayVec<(u32, Ending), 30>, dead: &[(u32, Ending)], live: &[u32])
-    requires before { length list.old.items ≤ 15 }
-    requires few { length live.now ≤ 15 }
+fn add_stuck(list: &mut ArrayVec<(u32, Ending), MOST_ENDED>, dead: &[(u32, Ending)], live: &[u32])
+    requires before { length list.old.items ≤ MOST_TASKS }
+    requires few { length live.now ≤ MOST_TASKS }
     ensures { list.new.items ≡ list.old.items ++ all_with endings.Deadlock (others_of dead.now live.now) }
 {
     for at in 0..live.len() as u8 {
@@ -82,20 +83,22 @@ fn add_stuck(list: &mut ArrayVec<(u32, Ending), 30>, dead: &[(u32, Ending)], liv
     }
 }
 
-/// All that end if these end by themselves or with their parent: if no task of the job is ready then, those that are left end
-/// by DEADLOCK.
+/// All that end if these end by themselves or with their parent: if no task of the job goes on then, as was seen, those that are
+/// left end by DEADLOCK.
 pub(crate) fn with_stuck(
     tasks: &Tasks,
     job: u8,
     dead: &[(u32, Ending)],
-) -> ArrayVec<(u32, Ending), 30>
+    goes: bool,
+) -> ArrayVec<(u32, Ending), MOST_ENDED>
     requires head { HasSomeHead tasks.now job NO_PARENT }
-    requires few { length dead.now ≤ 15 }
+    requires few { length dead.now ≤ MOST_TASKS }
+    requires seen { goes ≡ list_any (left_ready job dead.now) tasks.now.rows.items }
     ensures { (plan : Placement) (s : Session) (m : SessionJob) (number : ℕ) (ending : ending_type.Ending) → TablesHold plan s tasks.now → Has s.jobs m → m.constants.number ≡ job
         → dead.now ≡ (ends_task m.progress.job number ending).endings → result.items ≡ (deadlocked (ends_task m.progress.job number ending)).endings }
 {
     let mut list = copied(dead);
-    if goes_on(tasks, job, dead) {
+    if goes {
         return list;
     }
     let live = live_of(tasks, job);

@@ -1,4 +1,9 @@
-//! The end of a step: its operator is counted, the lines of endings are printed, and tasks wait or end.
+//! The end of a step: its operator is counted, the lines of endings are printed, and tasks wait or end. It promises that lines
+//! and deaths are the model's endings: of a task with those under it, of all tasks of a job by DEADLOCK if none is ready, by
+//! LIMIT. If the printer fails no task has ended.
+//!
+//! For `b67_session`: `close` (`closes`, `cause`, `keeps`), `make_wait` (`holds`, `cause`, `keeps`), `finish` (`finishes`,
+//! `cause`, `keeps`), `end_by_limit` (`ends`, `cause`, `keeps`), `is_at_limit`, `count_one`.
 //!
 //! Begin with `close`: `closes`, `cause`, `keeps`.
 #![tactic(auto)]

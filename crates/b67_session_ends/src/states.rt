@@ -1,6 +1,7 @@
 //! The state of a task in its row, and who is stuck.
 
-ghost use Rattle.std.specs.Prelude.{◌≡◌, ◌<◌, Some, length, slice_get};
+ghost use Rattle.std.specs.Prelude.{◌≡◌, ◌<◌, [], Some, length, slice_get};
+ghost use Rattle.std.specs.List.{list_any};
 ghost use Rattle.b67_lemmas.specs.Lists.{Has};
 ghost use Rattle.b67_model.specs.Endings.{deadlocked, unsettled};
 ghost use Rattle.b67_model.specs.Schedule.{Session};
@@ -9,13 +10,13 @@ ghost use Rattle.b67_layout.specs.Placement.{Placement};
 ghost use Rattle.b67_task_tables.specs.declared.tables.TaskRow as table;
 ghost use Rattle.b67_task_tables.specs.declared.tables.TheConstants.{NO_PARENT};
 ghost use Rattle.b67_task_end.specs.Family.{TablesHold, HasSomeHead};
+ghost use Rattle.b67_session_ends.specs.Closing.{left_ready};
 ghost use Rattle.b67_session_ends.specs.Holds.{with_state};
 
 use crate::deaths::all_ended;
-use crate::left::goes_on;
 use arrayvec::ArrayVec;
 use b67_task_end::live_of;
-use b67_task_tables::{TaskState, Tasks};
+use b67_task_tables::{MOST_LISTED, TaskState, Tasks};
 use b67_word::Ending;
 
 /// Sets the state in a row, and gives the one that stood there.
@@ -31,13 +32,14 @@ pub(crate) fn set_state(tasks: &mut Tasks, at: u8, state: TaskState) -> TaskStat
     before
 }
 
-/// The tasks of a job that end by DEADLOCK, deepest first: all that live, if none of them is ready.
-pub(crate) fn stuck(tasks: &Tasks, job: u8) -> ArrayVec<(u32, Ending), 15>
-    requires { HasSomeHead tasks.now job NO_PARENT }
+/// The tasks of a job that end by DEADLOCK, deepest first: all that live, if none of them goes on, as was seen.
+pub(crate) fn stuck(tasks: &Tasks, job: u8, goes: bool) -> ArrayVec<(u32, Ending), MOST_LISTED>
+    requires head { HasSomeHead tasks.now job NO_PARENT }
+    requires seen { goes ≡ list_any (left_ready job []) tasks.now.rows.items }
     ensures { (plan : Placement) (s : Session) (m : SessionJob) → TablesHold plan s tasks.now → Has s.jobs m → m.constants.number ≡ job
         → result.items ≡ (deadlocked (unsettled m.progress.job)).endings }
 {
-    if goes_on(tasks, job, &[]) {
+    if goes {
         return ArrayVec::new();
     }
     all_ended(live_of(tasks, job).as_slice(), Ending::Deadlock)

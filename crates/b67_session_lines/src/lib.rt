@@ -1,4 +1,8 @@
-//! The lines that a run prints, and how a call ends that prints.
+//! The lines that a run prints, the two parts in which a step prints, and how a call ends that prints. It promises that each
+//! line is the model's text, and that a text is taken by the printer from where it was left: no byte is printed twice.
+//!
+//! For `b67_session`, `b67_mcp` and `b67_job`: `say`, `put_rest` (`text`, `whole`, `part`). Laws: `runs_stop_once`,
+//! `runs_stop_with_their_status`, `steps_have_parts`.
 //!
 //! Begin with the law `steps_have_parts`, then `put_rest` (`text`, `whole`, `part`).
 #![tactic(auto)]

@@ -20,7 +20,7 @@ use crate::laying::lay_core;
 use b67_area::Areas;
 use b67_backing::{Backing, Sectors, SpaceFault};
 use b67_core::Core;
-use b67_ctl::{FIRST_DICTIONARY, NO_SLOT, Regs};
+use b67_ctl::{FIRST_DICTIONARY, NO_SLOT, Regs, SLOTS};
 use b67_load_verify::Admitted;
 use b67_stack::Cpu;
 use b67_word::Place;
@@ -88,7 +88,7 @@ pub fn set_up<B: Backing>(
         core,
         regs: idle_registers(0, stack, jobs),
         display: [0; 32],
-        critical: [0; 120],
+        critical: [0; SLOTS as usize],
     };
     let stacks = install_all(&mut cpu, sectors, backing, programs)?;
     cpu.regs = idle_registers(stacks, stack, jobs);

@@ -15,7 +15,7 @@ use arrayvec::ArrayVec;
 use b67_ctl::FIRST_DICTIONARY;
 use b67_load_verify::Admitted;
 use b67_model_text::{Deck, Job};
-use b67_task_tables::{JobRow, JobRows, NO_PARENT, NO_ROW, TaskRow, TaskState, Tasks};
+use b67_task_tables::{JobRow, JobRows, MOST_ROWS, NO_PARENT, NO_ROW, TaskRow, TaskState, Tasks};
 use b67_word::Place;
 use std::alloc::{AllocError, Global};
 
@@ -88,7 +88,7 @@ fn first_row(slot: u8) -> TaskRow
 }
 
 /// The rows of the jobs' first tasks.
-fn first_rows(programs: &[Admitted]) -> ArrayVec<TaskRow, 120>
+fn first_rows(programs: &[Admitted]) -> ArrayVec<TaskRow, MOST_ROWS>
     requires few { length programs.now ≤ 8 }
     ensures { map task_row result.items ≡ first_rows_of 0 (map program_of programs.now) }
 {

@@ -37,14 +37,6 @@ pub Upward-same : (old new : List Tagged) (at : ℕ) (ws : List Tagged) → ((q 
 Upward-same old new at [] same u = tt
 Upward-same old new at (w ∷ ws) same u = (same at (omega arith) (omega arith) ∙ u.0, Upward-same old new (at + 1) ws (λ q low high. same q (omega arith) (omega arith)) u.1)
 
--- what lies at a place
-pub record Found (R : Shape → ℕ → Tagged → Type 0) (core : List Tagged) (i : ℕ) (xs : List Shape) : Type 0 where
-  pub shape : Shape
-  pub word : Tagged
-  pub among : Has xs shape
-  pub there : slice_get core i ≡ Some word
-  pub fits : R shape i word
-
 pub upward-take : (core : List Tagged) (at : ℕ) (ws : List Tagged) → LieUpward core at ws → take (length ws) (drop at core) ≡ ws
 upward-take core at [] u = refl
 upward-take core at (w ∷ ws) u =

@@ -1,4 +1,7 @@
-//! The machine's registers over core, and the running stack: push, pop, mark and cut.
+//! The machine's registers over core, and the running stack: push, pop, mark and cut. A view says what stands where, and not
+//! what is present; each call promises the view that is left.
+//!
+//! For all over core: `Cpu`, `Step`, the definitions `Represents` and `MachineView`; `push`, `pop`, `mark`, `cut` (`stands`).
 //!
 //! Begin with the definition `Represents` (`specs/Represents`), then `push` and its clause `stands`.
 #![tactic(auto)]
@@ -10,8 +13,10 @@ ghost use Rattle.b67_stack.specs.MachineView.{MachineView, RunsOn, NoOriginalAbo
 ghost use Rattle.b67_stack.specs.Represents.{Storage, Represents};
 ghost use Rattle.b67_stack.specs.Changes.{Runs, pushed, popped, marked, topped, top_cells, stack_with_cells, without_first, activations_below, new_mark, with_stack, MayPush};
 
+mod fits;
+
 use b67_core::Core;
-use b67_ctl::{Mscw, Rcw, Regs};
+use b67_ctl::{Mscw, Rcw, Regs, SLOTS};
 use b67_word::{Fault, Word};
 
 /// Core with its registers, the display (the address of the activation record of each level up to the running one), and
@@ -21,7 +26,7 @@ pub struct Cpu {
     pub core: Core,
     pub regs: Regs,
     pub display: [u32; 32],
-    pub critical: [u16; 120],
+    pub critical: [u16; SLOTS as usize],
 }
 
 /// What an operator found absent: the segment of a displacement in the dictionary, or the array whose original has a

@@ -18,13 +18,13 @@ ghost use Rattle.b67_task_end_tables.specs.Families.{StandsInPlace};
 use arrayvec::ArrayVec;
 use b67_task_end::endings;
 use b67_task_end_tables::end_family;
-use b67_task_tables::Machine;
+use b67_task_tables::{MOST_LISTED, Machine};
 use b67_word::Ending;
 
 /// The task of a row ends so by itself, and those under it by PARENT: the answer lists them, the deepest first and the task
 /// itself last. Their slots, the areas and the sectors of their arrays are free then, and who awaited one is ready. The machine
 /// represents the session without them; nothing is printed or counted.
-pub fn end(machine: &mut Machine, row: u8, ending: Ending) -> ArrayVec<(u32, Ending), 15>
+pub fn end(machine: &mut Machine, row: u8, ending: Ending) -> ArrayVec<(u32, Ending), MOST_LISTED>
     requires { HasRow machine.old row }
     ensures list { (x : Storage) (told : Option (List (List ℕ))) (plan : Placement) (s : Session) (m : SessionJob) (t : Task) → IsInOrderButCounts s → MachineRepresents x told machine.old plan s
         → IsRowOf plan s machine.old.tasks.rows.items row m t → result.items ≡ endings_of m.progress.job t.number ending }

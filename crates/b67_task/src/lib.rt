@@ -1,5 +1,8 @@
-//! Tasks: their start and their end, who ends with one, the records that they depend on, and the calls below that concern
-//! them.
+//! Tasks: their start and their end, who ends with one, the records that they depend on; and the calls of the crates below that
+//! concern them, passed on.
+//!
+//! For whoever works with tasks alone, and for the surface: `end` (`list`, `stands`, `tasks`, `core`, `sectors`), `critical`
+//! (`mark`, `none`).
 //!
 //! Begin with `end`: `list`, `stands`.
 #![tactic(auto)]

@@ -11,6 +11,7 @@ ghost use Rattle.b67_layout.specs.Placement.{Placement};
 ghost use Rattle.b67_task_tables.specs.Tables.{MachineRepresents};
 ghost use Rattle.b67_task.specs.Marks.{IsMarkAt, depends_on};
 
+use b67_model::MOST_STACKS;
 use b67_task_tables::{Machine, TaskRow};
 
 /// Whether the task of some row depends on a mark of a slot.
@@ -29,7 +30,7 @@ pub fn critical(machine: &Machine, slot: u8, mark: u16) -> bool
     ensures none { (x : Storage) (told : Option (List (List ℕ))) (plan : Placement) (s : Session) → IsInOrderButCounts s → MachineRepresents x told machine.now plan s
         → ((m : SessionJob) (t : Task) (f : Frame) → IsMarkAt plan s m t f slot mark → ⊥) → result ≡ false }
 {
-    if slot >= 120 {
+    if slot >= MOST_STACKS {
         return false;
     }
     some_depends(machine.tasks.rows.as_slice(), slot, mark)

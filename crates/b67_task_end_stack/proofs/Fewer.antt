@@ -33,10 +33,6 @@ lost_or_not plan j (g ∷ gs) q = elim (cases_eq (slot_of plan j g.number) q) [
   ]
 ]
 
-all_of : {A : Type 0} (P : A → Type 0) (xs : List A) → ((x : A) → Has xs x → P x) → AllByRecursion P xs
-all_of P [] f = tt
-all_of P (x ∷ xs) f = (f x (inl refl), all_of P xs (λ y i. f y (inr i)))
-
 module _ (P : Starts) (arrays : List Array) (gone : List Task) (bound : ℕ) (falls : Falls bound (map (λ (a : Array). a.identity) arrays)) where
   the_same : (g : Task) (a : ℕ) (item other : Array) → Has arrays item → item.identity ≡ a → Has arrays other → other.identity ≡ a → other ≡ item
   the_same g a item other i e k f = falls_same (λ (b : Array). b.identity) bound arrays other item falls k i (f ∙ sym e)

@@ -1,9 +1,9 @@
 -- Lists whose items are kept or left out, each then changed but for its key.
-use Rattle.std.proofs.Common.{◌≡◌, ℕ, zero, suc, ◌+◌, ◌<◌, ◌≤◌, List, [], ◌∷◌, ◌++◌, map, filter, find, length, drop, get_or, Some, None, Bool, true, false, refl, sym, ◌∙◌, ap, arith, inl, inr, ⊎_elim, subst}
+use Rattle.std.proofs.Common.{◌≡◌, ℕ, zero, suc, ◌+◌, ◌<◌, ◌≤◌, List, [], ◌∷◌, map, filter, find, length, drop, get_or, Some, None, Bool, true, false, refl, sym, ◌∙◌, ap, arith, inl, inr, ⊎_elim, subst}
 use Rattle.std.specs.Prelude.{◌||◌}
 use Rattle.std.specs.List.{list_any}
 use Rattle.std.proofs.lemmas.Bool.{cases_Bool}
-use Rattle.std.proofs.lemmas.List.{length-map, append-nil, append_assoc}
+use Rattle.std.proofs.lemmas.List.{length-map}
 use Rattle.std.proofs.lemmas.Option.{slice_get-get_or}
 use Rattle.b67_lemmas.specs.Lists.{Has}
 use Rattle.b67_lemmas.proofs.Members.{length_filter}
@@ -30,29 +30,11 @@ module _ {A : Type 0} (f : A → A) (p : A → Bool) (key : A → ℕ) (same : (
 pub kept_length : {A B : Type 0} (f : A → B) (p : A → Bool) (xs : List A) → length (map f (filter p xs)) ≤ length xs
 kept_length f p xs = omega (arith, length-map (filter p xs) f, length_filter p xs)
 
-kept_cons : {A B : Type 0} (f : A → B) (p : A → Bool) (x : A) (xs : List A) → map f (filter p (x ∷ xs)) ≡ map f (filter p (x ∷ [])) ++ map f (filter p xs)
-kept_cons f p x xs = elim (cases_Bool (p x)) [ inl t ↦ rw t refl | inr t ↦ rw t refl ]
-
--- what is kept so far, with what is still to be kept
-pub keeps_on : {A B : Type 0} (f : A → B) (p : A → Bool) (xs : List A) (done : List B) (at : ℕ) (d : A) → at < length xs → done ++ map f (filter p (drop at xs)) ≡ map f (filter p xs)
-    → (done ++ map f (filter p (get_or xs at d ∷ []))) ++ map f (filter p (drop (at + 1) xs)) ≡ map f (filter p xs)
-keeps_on {A = A} {B = B} f p xs done at d low e =
-    let x = get_or xs at d in
-    let next : at + 1 ≡ suc at = omega arith in
-    append_assoc done (map f (filter p (x ∷ []))) (map f (filter p (drop (at + 1) xs)))
-    ∙ ap (λ (n : ℕ). done ++ (map f (filter p (x ∷ [])) ++ map f (filter p (drop n xs)))) next
-    ∙ ap (λ (zs : List B). done ++ zs) (sym (kept_cons f p x (drop (suc at) xs)))
-    ∙ ap (λ (zs : List A). done ++ map f (filter p zs)) (sym (drop-get xs at x (slice_get-get_or xs at d low)))
-    ∙ e
-
 pub drop_past : {A : Type 0} (xs : List A) (at : ℕ) → length xs ≤ at → drop at xs ≡ []
 drop_past [] zero low = refl
 drop_past [] (suc at) low = refl
 drop_past (x ∷ xs) zero low = absurd (omega (arith, low))
 drop_past (x ∷ xs) (suc at) low = drop_past xs at (omega (arith, low))
-
-pub keeps_all : {A B : Type 0} (f : A → B) (p : A → Bool) (xs : List A) (done : List B) (at : ℕ) → length xs ≤ at → done ++ map f (filter p (drop at xs)) ≡ map f (filter p xs) → done ≡ map f (filter p xs)
-keeps_all {A = A} f p xs done at past e = sym (append-nil done) ∙ ap (λ (zs : List A). done ++ map f (filter p zs)) (sym (drop_past xs at past)) ∙ e
 
 -- a search goes on
 pub finds_on : {A : Type 0} (p : A → Bool) (xs : List A) (at : ℕ) (d : A) → at < length xs → find p (drop at xs) ≡ find p xs → p (get_or xs at d) ≡ false → find p (drop (at + 1) xs) ≡ find p xs
@@ -77,12 +59,6 @@ finds_here {A = A} p xs at d low e t =
 
 pub finds_none : {A : Type 0} (p : A → Bool) (xs : List A) (at : ℕ) → length xs ≤ at → find p (drop at xs) ≡ find p xs → find p xs ≡ None
 finds_none p xs at past e = sym e ∙ ap (find p) (drop_past xs at past)
-
-pub keep_out : {A B : Type 0} (f : A → B) (p : A → Bool) (done : List B) (x : A) → p x ≡ false → done ≡ done ++ map f (filter p (x ∷ []))
-keep_out f p done x t = rw t (sym (append-nil done))
-
-pub keep_in : {A B : Type 0} (f : A → B) (p : A → Bool) (done : List B) (x : A) → p x ≡ true → done ++ f x ∷ [] ≡ done ++ map f (filter p (x ∷ []))
-keep_in f p done x t = rw t refl
 
 pub any_map : {A B : Type 0} (f : A → B) (p : B → Bool) (xs : List A) → list_any (λ (x : A). p (f x)) xs ≡ list_any p (map f xs)
 any_map f p [] = refl

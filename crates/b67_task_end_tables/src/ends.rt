@@ -2,6 +2,7 @@
 
 ghost use Rattle.std.specs.Prelude.{◌≡◌, ◌≤◌, ℕ, List, Option, length};
 ghost use Rattle.b67_word.specs.declared.faults.Ending as ending_type;
+ghost use Rattle.b67_model.specs.declared.limits.TheConstants.{MOST_TASKS};
 ghost use Rattle.b67_model.specs.State.{Task, SessionJob};
 ghost use Rattle.b67_model.specs.Endings.{ends_task};
 ghost use Rattle.b67_model.specs.Schedule.{Session};
@@ -25,7 +26,7 @@ use b67_word::Ending;
 /// registers of no other task may be in use, and none are then. The tables' counts needn't be those of the session.
 fn end(machine: &mut Machine, job: u8, list: &[(u32, Ending)])
     requires some { EndsSome machine.old job (ending_numbers list.now) }
-    requires few { length list.now ≤ 15 }
+    requires few { length list.now ≤ MOST_TASKS }
     ensures stands { (u : Tasks) (x : Storage) (told : Option (List (List ℕ))) (plan : Placement) (s : Session) (m : SessionJob) → StandsWith machine.old u x told plan s
         → MayEnd plan s m (ending_numbers list.now) → m.constants.number ≡ job → HasEnded u x told plan s m list.now machine.new }
     ensures tasks { machine.new.tasks ≡ record machine.old.tasks { rows = machine.new.tasks.rows; running = NO_ROW } }
@@ -49,7 +50,7 @@ fn end(machine: &mut Machine, job: u8, list: &[(u32, Ending)])
 /// then. All arrays, segments and data rows that are left lie in the same areas and the same sectors.
 pub fn end_family(machine: &mut Machine, row: u8, job: u8, list: &[(u32, Ending)])
     requires some { EndsFamily machine.old row job list.now }
-    requires few { length list.now ≤ 15 }
+    requires few { length list.now ≤ MOST_TASKS }
     ensures stands { (x : Storage) (told : Option (List (List ℕ))) (plan : Placement) (s : Session) (m : SessionJob) (t : Task) (ending : ending_type.Ending)
         → IsFamilyOf x told machine.old plan s m t row job ending list.now → StandsInPlace x told machine.new plan s (with_job s m (ends_task m.progress.job t.number ending).job) }
     ensures tasks { machine.new.tasks ≡ record machine.old.tasks { rows = machine.new.tasks.rows; running = machine.new.tasks.running } }

@@ -9,7 +9,7 @@ ghost use Rattle.b67_task_end_tables.specs.Left.{slot_shown};
 use arrayvec::ArrayVec;
 use b67_ctl::NO_SLOT;
 use b67_task_end::is_among;
-use b67_task_tables::{TaskRow, TaskState};
+use b67_task_tables::{MOST_ROWS, TaskRow, TaskState};
 use b67_word::Ending;
 
 /// Whether a row isn't that of one of a job's tasks that ended.
@@ -60,7 +60,7 @@ fn move_up(rows: &mut [TaskRow], job: u8, list: &[(u32, Ending)]) -> usize
 }
 
 /// Leaves the rows that stay once these tasks of a job have ended, each as it is then.
-pub fn leave_rows(rows: &mut ArrayVec<TaskRow, 120>, job: u8, list: &[(u32, Ending)])
+pub fn leave_rows(rows: &mut ArrayVec<TaskRow, MOST_ROWS>, job: u8, list: &[(u32, Ending)])
     ensures { rows.new.items ≡ left.rows_left job (ending_numbers list.now) rows.old.items }
 {
     let kept = move_up(rows.as_mut_slice(), job, list);

@@ -1,7 +1,7 @@
 -- The task that is started, and where.
 use Rattle.std.specs.Prelude.{◌≡◌, ℕ, ◌+◌, ◌-◌, ◌^◌, ◌<◌, ◌≤◌, List, ◌∷◌, length, take, reverse, Option, Ok, Some, false, slice_get}
 use Rattle.std.specs.List.{AllByRecursion}
-use Rattle.b67_model.specs.declared.intrinsics.TheConstants.{MOST_TASKS}
+use Rattle.b67_model.specs.declared.limits.TheConstants.{MOST_TASKS}
 use Rattle.b67_word.specs.declared.couples.Place.{Place}
 use Rattle.b67_ctl.specs.declared.map.TheConstants.{SLOTS}
 use Rattle.b67_area.specs.declared.Info.{Info}

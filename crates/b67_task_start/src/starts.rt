@@ -19,7 +19,7 @@ use crate::opening::open_slot;
 use b67_core::Core;
 use b67_ctl::Pcw;
 use b67_refer::enclosure_of;
-use b67_task_start_stack::{build_child, mark_disp};
+use b67_task_start_stack::build_child;
 use b67_task_tables::{JobRow, Machine, TaskRow, TaskState, Tasks};
 
 /// The program control word at an address.
@@ -77,25 +77,25 @@ pub fn start(machine: &mut Machine, cell: u32, args: u32) -> u32
     let slot = open_slot(&mut machine.cpu, &mut machine.areas);
     let procedure = procedure_at(&machine.cpu.core, cell);
     let env = enclosure_of(&machine.cpu.core, &machine.cpu.regs, cell).record;
-    let row = TaskRow {
-        job: parent.job,
-        number,
-        slot,
-        parent: parent.slot,
-        critical: mark_disp(&machine.cpu),
-        state: TaskState::Ready,
-        segment: procedure.segment,
-        place: procedure.place,
-    };
-    build_child(
+    let critical = build_child(
         &mut machine.cpu,
         slot,
-        row.job,
+        parent.job,
         env.stack,
         env.disp,
         procedure.level,
         args,
     );
+    let row = TaskRow {
+        job: parent.job,
+        number,
+        slot,
+        parent: parent.slot,
+        critical,
+        state: TaskState::Ready,
+        segment: procedure.segment,
+        place: procedure.place,
+    };
     add_row(&mut machine.tasks, row);
     number
 }

@@ -52,9 +52,6 @@ module _ (x : Storage) (p : MachineView) (core mid new : List Tagged) (r : Regs)
         inr_low : (areas.low < 152) ⊎ (160 ≤ areas.low)
         inr_low = inr (omega (arith, s.directory.above, low))
 
-    abbrev y' : Storage
-    y' = record x { low = areas.low + size; spans = spans' }
-
     pub grown_here : Represents (raised x areas'.low) new (record r { peak = r.peak + 1 }) (grown p)
     grown_here =
         let areas_same : (at : ℕ) → area_at (x.low + p.size) spans' at ≡ area_at x.low x.spans at = λ at. subst (λ (n : ℕ). area_at n spans' at ≡ area_at x.low x.spans at) high (same x.spans at directory free ∙ ap (λ (n : ℕ). area_at n x.spans at) low) in

@@ -235,9 +235,6 @@ module _ (x : Storage) (cpu : Cpu) (plan : Placement) (s : Session) (m : Session
   pub enough : length c.only.cells ≤ suc cpu.regs.s
   enough = omega (arith, top_is)
 
-  pub slot_room : slot_base (machine_view plan s.jobs) k + plan.size ≤ x.low
-  slot_room = omega (arith, base-apart p k plan.peak joins.inside, h.holds.memory.slots.laid.low)
-
   pub slot_low : 160 ≤ slot_base (machine_view plan s.jobs) k
   slot_low = omega (arith, h.holds.memory.slots.laid.first)
 

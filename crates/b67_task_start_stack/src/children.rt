@@ -17,7 +17,7 @@ use b67_ctl::{Mscw, SLOTS, STACK_VECTOR, Toscw, VectorWord};
 use b67_stack::Cpu;
 
 /// The displacement of the mark under the running stack's topmost one.
-pub fn mark_disp(cpu: &Cpu) -> u16
+fn mark_disp(cpu: &Cpu) -> u16
     requires { (x : Storage) × (p : MachineView) × (stack : List Activation) × Represents x cpu.now.core cpu.now.regs p × RunsOn p cpu.now.regs.slot stack × (activations_below stack ≢ []) }
     ensures { (x : Storage) (p : MachineView) (stack : List Activation) → Represents x cpu.now.core cpu.now.regs p → RunsOn p cpu.now.regs.slot stack → activations_below stack ≢ []
         → result ≡ mark_place (activations_below stack) }
@@ -27,7 +27,7 @@ pub fn mark_disp(cpu: &Cpu) -> u16
 }
 
 /// A live task depends on the mark at a displacement of a slot: the topmost mark on which one depends there is no lower.
-pub fn raise(critical: &mut [u16; 120], slot: u8, at: u16)
+pub fn raise(critical: &mut [u16; SLOTS as usize], slot: u8, at: u16)
     requires { slot < SLOTS }
     ensures own { (v : ℕ) → slice_get critical.old slot ≡ Some v → slice_get critical.new slot ≡ Some (max v at) }
     ensures others { (q : ℕ) → q ≢ slot → slice_get critical.new q ≡ slice_get critical.old q }
@@ -38,7 +38,8 @@ pub fn raise(critical: &mut [u16; 120], slot: u8, at: u16)
 }
 
 /// Builds the stack of a new task in a free slot, of those used so far: one activation record, entered at a level on an
-/// environment, with copies of the last `count` cells of the running stack. The running task is its parent.
+/// environment, with copies of the last `count` cells of the running stack. The running task is its parent, and depends on the
+/// mark at the displacement that is answered: that under its topmost one.
 pub fn build_child(
     cpu: &mut Cpu,
     slot: u8,
@@ -47,10 +48,12 @@ pub fn build_child(
     env_disp: u16,
     level: u8,
     count: u32,
-)
+) -> u16
     requires { BuildsSome cpu.old slot job env_stack env_disp level count }
     ensures stands { (x : Storage) (plan : Placement) (s : Session) (m : SessionJob) (t : Task) (after : Job) (child : Task) → MayBuild x cpu.old plan s m t after child slot job env_stack env_disp level count
         → RepresentsSession x cpu.new (with_task_at plan m.constants.number child.number slot plan.peak) (session_joined plan s m after) }
+    ensures mark { (x : Storage) (p : MachineView) (stack : List Activation) → Represents x cpu.old.core cpu.old.regs p → RunsOn p cpu.old.regs.slot stack → activations_below stack ≢ []
+        → result ≡ mark_place (activations_below stack) }
     ensures len { length cpu.new.core ≡ length cpu.old.core }
     ensures regs { cpu.new.regs ≡ cpu.old.regs }
 {
@@ -80,4 +83,5 @@ pub fn build_child(
     };
     cpu.core.set(STACK_VECTOR + u32::from(slot), vector.word());
     raise(&mut cpu.critical, parent, under);
+    under
 }

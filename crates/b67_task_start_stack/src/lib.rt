@@ -1,4 +1,6 @@
-//! A slot more, and the new task's stack in its slot.
+//! A slot more, and the new task's stack in its slot, over core alone, with its parent's critical mark.
+//!
+//! For `b67_task_start`: `add_slot`, `build_child` (`stands`, `mark`), `raise`.
 //!
 //! Begin with `build_child` and its clause `stands`.
 #![tactic(auto)]
@@ -6,5 +8,5 @@
 mod children;
 mod slots;
 
-pub use children::{build_child, mark_disp, raise};
+pub use children::{build_child, raise};
 pub use slots::add_slot;

@@ -1,4 +1,8 @@
-//! Which task makes the next operator, the counts of operators, and the switch from one task to another.
+//! Which task makes the next operator, how long its turn lasts, the counts of operators, and the switch from one task to
+//! another. It promises that the choice is the model's, and that a switch keeps the session.
+//!
+//! For `b67_session`: `choose` (`choice`, `none`, `room`), `schedule` (`row`, `none`), `turn_room` (`few`, `halt`, `lasts`),
+//! `count` (`counted`, `moment`, `left`), `count_turn` (`shows`, `jobs`, `rest`); `switch_to` (`stands`, `words`).
 //!
 //! Begin with `choose` (`choice`) and `switch_to` (`stands`).
 #![tactic(auto)]

@@ -2,6 +2,7 @@
 
 ghost use Rattle.std.specs.Prelude.{◌≡◌, ◌≢◌, ℕ, ◌<◌, List, length, map, Option, Some, slice_get, slice_set};
 ghost use Rattle.b67_word.specs.Tagged.{Tagged};
+ghost use Rattle.b67_model.specs.declared.limits.TheConstants.{MOST_STACKS};
 ghost use Rattle.b67_model.specs.State.{Task, SessionJob};
 ghost use Rattle.b67_model.specs.Schedule.{Session};
 ghost use Rattle.b67_layout.specs.Orders.{IsInOrderButCounts};
@@ -51,7 +52,7 @@ fn turn_of(tasks: &Tasks, row: u8) -> Turn
     requires inside { row < length tasks.now.rows.items }
     ensures turn { (plan : Placement) (s : Session) → Rests tasks.now plan s → (m : SessionJob) × (t : Task) × IsTurnOf plan s.jobs m t result }
     ensures slot { (r : TaskRow) → slice_get tasks.now.rows.items row ≡ Some r → result.slot ≡ r.slot }
-    ensures few { row < 120 }
+    ensures few { row < MOST_STACKS }
 {
     let row = tasks.rows[row as usize];
     let job = &tasks.jobs.as_slice()[row.job as usize - 1];

@@ -8,6 +8,7 @@ ghost use Rattle.b67_task_tables.specs.declared.tables.JobRow.{JobRow};
 use arrayvec::ArrayVec;
 use b67_area::Areas;
 use b67_backing::Sectors;
+use b67_model::{MOST_ENDINGS, MOST_STACKS, MOST_TASKS};
 use b67_model_text::{Name, Switches};
 use b67_stack::Cpu;
 use b67_word::{Numbers, Place};
@@ -124,6 +125,15 @@ impl JobRows {
     }
 }
 
+/// The most rows of the table of tasks: one for each stack.
+pub const MOST_ROWS: usize = MOST_STACKS as usize;
+
+/// The most tasks of a list of those of one job.
+pub const MOST_LISTED: usize = MOST_TASKS as usize;
+
+/// The most tasks of a list of those who end in one step.
+pub const MOST_ENDED: usize = MOST_ENDINGS as usize;
+
 /// The running row of tables, if no task's registers are in use.
 pub const NO_ROW: u8 = 255;
 
@@ -134,7 +144,7 @@ pub const NO_ROW: u8 = 255;
 #[derive(Drop)]
 pub struct Tasks {
     pub jobs: JobRows,
-    pub rows: ArrayVec<TaskRow, 120>,
+    pub rows: ArrayVec<TaskRow, MOST_ROWS>,
     pub switches: Switches,
     pub next_switch: u32,
     pub quantum: u32,

@@ -1,4 +1,8 @@
-//! Words, couples, places, faults, endings and the small lists that all crates of the machine share.
+//! Words, couples, places, faults, endings and the small lists that all crates of the machine share. A word is a tag and 48
+//! bits; an operand is a whole number of at most 39 bits, and minus zero is zero.
+//!
+//! For all crates: `Word::new` (`fits`, `value`), `Word::operand`, `Word::value`; `couple_of`; `bits_of` (`value`, `again`,
+//! `only`); `List`, one list for items of any type.
 //!
 //! Begin with `Word::new` (`fits`, `value`) and `couple_of`.
 #![tactic(auto)]

@@ -7,7 +7,7 @@ use Rattle.b67_session_ends.proofs.closes.end_stuck.Goals as goal
 
 pub end_job-requires : goal.end_job-requires
 end_job-requires c =
-    let r = c.requires in
+    let r = c.requires.job in
     record {
       storage = r.storage;
       told = r.told;
@@ -21,8 +21,8 @@ end_job-requires c =
       lives = lives_still r.storage r.told c.args.machine.now r.plan r.session r.member r.ordered r.stands r.among c.args.job r.number c.if-not-has_row.false (c.has_row.ensures ∙ ap (list_any (λ (q : TaskRow). q.job == c.args.job)) c.as_slice.ensures.value);
     }
 
-pub returns-then-goes_on-clause-stands : goal.returns-then-goes_on-clause-stands
-returns-then-goes_on-clause-stands c = λ x told plan s m o h among number. goes_same x told c.args.machine.now plan s m o h among c.args.job number c.if-goes_on.true c.goes_on.ensures
+pub returns-then-goes-clause-stands : goal.returns-then-goes-clause-stands
+returns-then-goes-clause-stands c = λ x told plan s m o h among number. goes_same x told c.args.machine.now plan s m o h among c.args.job number c.if-goes.true c.requires.seen
 
 pub returns-then-not-has_row-clause-stands : goal.returns-then-not-has_row-clause-stands
 returns-then-not-has_row-clause-stands c = λ x told plan s m o h among number.
@@ -31,4 +31,4 @@ returns-then-not-has_row-clause-stands c = λ x told plan s m o h among number.
 pub returns-clause-stands : goal.returns-clause-stands
 returns-clause-stands c = λ x told plan s m o h among number.
     (let lives = lives_still x told c.args.machine.now plan s m o h among c.args.job number c.if-not-has_row.false (c.has_row.ensures ∙ ap (list_any (λ (q : TaskRow). q.job == c.args.job)) c.as_slice.ensures.value) in
-    all_gone x told c.args.machine.now plan s m o h among c.args.job number c.if-goes_on.false c.goes_on.ensures c.end_job.new.machine (c.end_job.ensures.stands x told plan s m o h among number lives))
+    all_gone x told c.args.machine.now plan s m o h among c.args.job number c.if-goes.false c.requires.seen c.end_job.new.machine (c.end_job.ensures.stands x told plan s m o h among number lives))

@@ -9,14 +9,20 @@ use Rattle.b67_session_ends.proofs.holds.make_wait.Goals as goal
 pub set_state-before-requires : goal.set_state-before-requires
 set_state-before-requires g c = inside c.args.machine.now c.args.chosen c.args.state c.requires.row
 
-pub stuck-ended-requires : goal.stuck-ended-requires
-stuck-ended-requires g c = set_head c.args.machine.now c.args.chosen c.args.state c.requires.row c.set_state-before.new.tasks c.set_state-before.ensures.set
+pub stuck-ended-requires-clause-head : goal.stuck-ended-requires-clause-head
+stuck-ended-requires-clause-head g c = set_head c.args.machine.now c.args.chosen c.args.state c.requires.row c.set_state-before.new.tasks c.set_state-before.ensures.set
 
 pub set_state-held-requires : goal.set_state-held-requires
 set_state-held-requires g c = inside_set c.args.machine.now c.args.chosen c.args.state c.requires.row c.set_state-before.new.tasks c.set_state-before.ensures.set
 
-pub end_stuck-requires : goal.end_stuck-requires
-end_stuck-requires g c = has_job c.args.machine.now c.args.chosen c.args.state c.requires.row c.set_state-before.new.tasks c.set_state-before.ensures.set c.put_endings.new.printed
+pub stuck-ended-requires-clause-seen : goal.stuck-ended-requires-clause-seen
+stuck-ended-requires-clause-seen g c = c.goes_on-goes.ensures
+
+pub end_stuck-requires-clause-seen : goal.end_stuck-requires-clause-seen
+end_stuck-requires-clause-seen g c = c.goes_on-goes.ensures
+
+pub end_stuck-requires-clause-job : goal.end_stuck-requires-clause-job
+end_stuck-requires-clause-job g c = has_job c.args.machine.now c.args.chosen c.args.state c.requires.row c.set_state-before.new.tasks c.set_state-before.ensures.set c.put_endings.new.printed
 
 pub count_one-requires : goal.count_one-requires
 count_one-requires g c =

@@ -35,21 +35,8 @@ enclosure_of-requires c =
       procedure c.args.machine.now c.args.cell c.args.args q c.open_slot-slot.new.cpu c.open_slot-slot.new.areas op,
     )
 
-pub mark_disp-requires : goal.mark_disp-requires
-mark_disp-requires c =
-    let q = c.requires in
-    let op = c.open_slot-slot.ensures.stands q.storage q.plan q.session q.slot q.ordered q.stands.session q.stands.storage.low (has c.args.machine.now c.args.cell c.args.args q) in
-    let u = marked c.args.machine.now c.args.cell c.args.args q c.open_slot-slot.new.cpu c.open_slot-slot.new.areas op in (
-      op.storage,
-      machine_view (with_peak q.plan (peak_with q.session 1)) q.session.jobs,
-      stack_now c.args.machine.now c.args.cell c.args.args q c.open_slot-slot.new.cpu c.open_slot-slot.new.areas op,
-      op.stands.holds.memory,
-      u.0,
-      u.1,
-    )
-
-pub build_child-requires : goal.build_child-requires
-build_child-requires c =
+pub build_child-critical-requires : goal.build_child-critical-requires
+build_child-critical-requires c =
     let q = c.requires in
     let op = c.open_slot-slot.ensures.stands q.storage q.plan q.session q.slot q.ordered q.stands.session q.stands.storage.low (has c.args.machine.now c.args.cell c.args.args q) in
     let now = c.open_slot-slot.new.cpu in
@@ -86,17 +73,17 @@ returns-clause-stands c = λ x told plan s m t f segment level place slot o h ru
     c.open_slot-slot.result (c.open_slot-slot.ensures.slot x plan s slot h.session may.lowest)
     c.procedure_at-procedure.result (c.procedure_at-procedure.ensures (record { place = place; level = level; segment = segment + 1 }) p.0 p.1)
     c.enclosure_of.result.record.stack c.enclosure_of.result.record.disp (ap (λ (a : Activation). a.stack) env) (ap (λ (a : Activation). a.disp) env)
-    c.build_child.new.cpu c.add_row.new.tasks c.next_number-number.result c.mark_disp.result _
-    c.build_child.ensures.stands
-    c.open_slot-slot.ensures.areas c.open_slot-slot.ensures.len c.build_child.ensures.len
+    c.build_child-critical.new.cpu c.add_row.new.tasks c.next_number-number.result c.build_child-critical.result _
+    c.build_child-critical.ensures.stands
+    c.open_slot-slot.ensures.areas c.open_slot-slot.ensures.len c.build_child-critical.ensures.len
     (number_of c.args.machine.now x told plan s m t o h runs c.running_row-parent.result.job c.next_number-number.result mine.0 c.next_number-number.ensures)
-    (c.mark_disp.ensures op.storage (machine_view (with_peak plan (peak_with s 1)) s.jobs) (stack_now c.args.machine.now c.args.cell c.args.args q now areas op) op.stands.holds.memory u.0 u.1)
+    (c.build_child-critical.ensures.mark op.storage (machine_view (with_peak plan (peak_with s 1)) s.jobs) (stack_now c.args.machine.now c.args.cell c.args.args q now areas op) op.stands.holds.memory u.0 u.1)
     refl refl refl refl refl refl refl refl
     c.add_row.ensures.rows c.add_row.ensures.jobs c.add_row.ensures.rest
 
 pub returns-clause-keeps : goal.returns-clause-keeps
 returns-clause-keeps c =
     let q = c.requires in
-    keeps c.args.machine.now c.args.cell c.args.args q c.build_child.new.cpu c.open_slot-slot.new.areas c.add_row.new.tasks c.running_row-parent.result.job
+    keeps c.args.machine.now c.args.cell c.args.args q c.build_child-critical.new.cpu c.open_slot-slot.new.areas c.add_row.new.tasks c.running_row-parent.result.job
     (c.running_row-parent.ensures q.storage q.told q.plan q.session q.member q.task q.ordered q.stands q.running).0
-    (c.build_child.ensures.len ∙ c.open_slot-slot.ensures.len) c.add_row.ensures.jobs c.add_row.ensures.rest
+    (c.build_child-critical.ensures.len ∙ c.open_slot-slot.ensures.len) c.add_row.ensures.jobs c.add_row.ensures.rest
