@@ -35,5 +35,7 @@ pub const FIRST_DICTIONARY: u32 = DIRECTORY + DIRECTORY_WORDS;
 
 // A slot's number is below the two that are no slot's; a job's number has 4 bits in the stack vector, a stack's 10.
 const _: () = prove!(SLOTS < 254);
+
 const _: () = prove!(DICTIONARIES < 16);
+
 const _: () = prove!(MCP_STACK < FIRST_TASK);

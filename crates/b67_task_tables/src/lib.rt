@@ -10,6 +10,6 @@
 pub mod tables;
 
 pub use crate::tables::{
-    JobRow, JobRows, MOST_ENDED, MOST_LISTED, MOST_ROWS, Machine, NO_PARENT, NO_ROW, TaskRow, TaskState,
-    Tasks,
+    JobRow, JobRows, MOST_ENDED, MOST_LISTED, MOST_ROWS, Machine, NO_PARENT, NO_ROW, TaskRow,
+    TaskState, Tasks,
 };
