@@ -1,4 +1,8 @@
-//! Activation records: marked, entered through a reference or in place, and left by EXIT and RETN, with the words that may not be returned.
+//! Activation records: marked, entered through a reference or in place, and left by EXIT and RETN, with the words that may not
+//! be returned. Each call promises its row.
+//!
+//! For `b67_exec`: `mkst`, `entr`, `entr_near`, `accident`, `accident_on`, `exit`, `retn` (`row`). For intrinsics: `refusal`,
+//! `is_critical`.
 //!
 //! Begin with `exit` and `retn`, each with the clause `row`.
 #![tactic(auto)]

@@ -1,6 +1,9 @@
-//! The operator at the running place.
+//! The operator at the running place, by one executor. It promises that what an operator answers and leaves is the model's row;
+//! if it isn't made nothing has changed, and `why` is the reason.
 //!
-//! Begin with `operate`, the one executor: its arms are by the first syllable, and `why` is the reason where an operator isn't made.
+//! For `b67_session`: `reader_here` (`why`) and `operate` (`Makes`), the loop's two calls. By itself: `operator` (`row`).
+//!
+//! Begin with `operate`: its arms are by the first syllable.
 #![tactic(auto)]
 
 mod assigning;

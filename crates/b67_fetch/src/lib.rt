@@ -1,4 +1,7 @@
-//! References: LOAD and VALC, INDX and NXLV, STFF, STOD and STON.
+//! References followed by operators: LOAD and VALC, INDX and NXLV, STFF, STOD and STON. Each promises its row; a procedure at
+//! the end of a reference is handed on.
+//!
+//! For `b67_exec`: `valc`, `load`, `indx`, `nxlv`, `stff`, `stod`, `ston` (`row`).
 //!
 //! Begin with `valc`, whose clause `row` is the rule of VALC.
 #![tactic(auto)]

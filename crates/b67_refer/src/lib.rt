@@ -1,4 +1,9 @@
-//! The running environment, and where references lead.
+//! The running environment, and where references lead: the display rebuilt, the cells that couples and references name, chains
+//! followed to their ends.
+//!
+//! For all operators that follow a word: `cell_of`, `cell_at`, `chase`, `chase_from`, `element_of`, `owner`, `enclosure_of`;
+//! short ways: `near_place` (`names`), `near_end` (`leads`), `stuffed_operand`. For entries: `rebuild`, `rebuild_known`,
+//! `rebuild_entered`.
 //!
 //! Begin with `chase`, which follows a reference to its end.
 #![tactic(auto)]
