@@ -1,6 +1,7 @@
 #!/bin/sh
 # What an operator, a call or a store costs as something grows, in instructions counted by valgrind: the displacement of a cell,
-# the level of a call, the tasks that are ready, and areas that nobody uses any more. Each figure is the difference of two runs
+# also of a parent's that a child uses, the level of a call, the tasks that are ready, and areas that nobody uses any more. Each figure
+# is the difference of two runs
 # of a loop, so what a run costs before the loop isn't in it. Takes the built program's path (default crates/b67/out/b67):
 # `sh bench/growth.sh [PROGRAM]`. It wants valgrind, and takes some minutes.
 set -eu
@@ -77,6 +78,26 @@ calls_deep() {
     printf '%s\n' "SEGMENT P$1 $1" EXIT '?END'
 }
 
+# a child counts in its parent's cell at this displacement, so many times
+childs_cell_at() {
+    begin 8191
+    cards $(($1 - 1)) ZERO
+    printf '%s\n' 'MPCW P' MKST 'NAMC 0,13' MKST 'NAMC 0,12' "NAMC 2,$(($1 + 1))" ENTR ENTR EXIT 'SEGMENT P 3' "LT48 $2"
+    printf '%s\n' "L: VALC 2,$1" ONE ADD "NAMC 2,$1" STOD
+    turn
+    echo '?END'
+}
+
+# a child calls its parent's procedure, whose cell lies at this displacement, so many times
+childs_calls_at() {
+    begin 8191
+    cards $(($1 - 2)) ZERO
+    printf '%s\n' 'MPCW Q' 'MPCW P' MKST 'NAMC 0,13' MKST 'NAMC 0,12' "NAMC 2,$(($1 + 1))" ENTR ENTR EXIT 'SEGMENT P 3' "LT48 $2"
+    printf '%s\n' 'L: MKST' "NAMC 2,$1" ENTR
+    turn
+    printf '%s\n' 'SEGMENT Q 3' EXIT '?END'
+}
+
 # so many jobs of so many tasks count in turns of this many operators, each up to a limit
 tasks_ready() {
     printf '?STACK 64\n?QUANTUM %s\n' "$3"
@@ -135,6 +156,10 @@ echo "ten VALC of a cell at a displacement, one level up: an operator"
 for place in 2 16 128 1024; do row $place 65536 200 1200 30 cells_at $place; done
 echo "a call of a procedure at a level: an operator"
 for level in 4 8 16 31; do row $level 65536 200 1200 10 calls_deep $level; done
+echo "a child counts in its parent's cell at a displacement: a turn of eleven operators"
+for place in 2 16 1024 4000; do row $place 65536 200 1200 1 childs_cell_at $place; done
+echo "a child calls its parent's procedure, whose cell lies at a displacement: a turn of ten operators"
+for place in 2 16 1024 4000; do row $place 65536 200 1200 1 childs_calls_at $place; done
 for quantum in 1 20; do
     echo "jobs, tasks of each, all ready, ?QUANTUM $quantum: an operator"
     for many in '1 1' '1 8' '1 15' '2 15' '4 15' '8 15'; do

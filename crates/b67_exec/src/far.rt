@@ -15,11 +15,11 @@ use crate::evaluating::enter_in_place;
 use crate::operators::on_top;
 use crate::own::{indexes_own, takes_own};
 use b67_ctl::Irw;
-use b67_entry::{accident, entr, entr_near, exit, retn};
+use b67_entry::{accident, entr, entr_near, exit, intrinsic_called, retn};
 use b67_exec_cells::top_cell;
 use b67_fetch::{Stored, indx, nxlv, stff, stff_named, store, value};
 use b67_model::Code;
-use b67_refer::{End, Look, chase, chase_from, near_place};
+use b67_refer::{End, chase, chase_from, near_place};
 use b67_stack::{Cpu, Step};
 use b67_word::Place;
 
@@ -127,7 +127,7 @@ fn makes_far_indx(cpu: &mut Cpu, next: Place, why: &mut Step) -> bool
     is_done(step, why)
 }
 
-/// INDX, first as of an array whose original is in the top activation record: so no register need be kept for the general case.
+/// INDX, first as of an array whose original is near: so no register need be kept for the general case.
 #[inline(never)]
 pub(crate) fn makes_indx(cpu: &mut Cpu, next: Place, why: &mut Step) -> bool
     requires { RunsSome cpu.old }
@@ -149,7 +149,7 @@ fn makes_far_nxlv(cpu: &mut Cpu, next: Place, why: &mut Step) -> bool
     is_done(step, why)
 }
 
-/// NXLV, first as of an array whose original is in the top activation record: so no register need be kept for the general case.
+/// NXLV, first as of an array whose original is near: so no register need be kept for the general case.
 #[inline(never)]
 pub(crate) fn makes_nxlv(cpu: &mut Cpu, next: Place, why: &mut Step) -> bool
     requires { RunsSome cpu.old }
@@ -181,7 +181,7 @@ pub(crate) fn makes_stff(cpu: &mut Cpu, next: Place) -> bool
         Ok(word) => word,
         Err(_) => return false,
     };
-    if near_place(&cpu.core, &cpu.regs, &cpu.display, w, Look::Near) == 0 {
+    if near_place(&cpu.core, &cpu.regs, &cpu.display, w) == 0 {
         return false;
     }
     let step = stff_named(cpu, w, next);
@@ -204,30 +204,6 @@ pub(crate) fn makes_far_valc(cpu: &mut Cpu, couple: u16, next: Place, why: &mut 
         End::Proc(cell) => entered(accident(cpu, cell, true, next), why),
         _ => stayed(value(cpu, 0, end, next), why),
     }
-}
-
-/// VALC of a cell that is found without a call, and what became of it: so no register need be kept for the general case.
-#[inline(never)]
-pub(crate) fn makes_valc(cpu: &mut Cpu, couple: u16, next: Place) -> Went
-    requires runs { RunsSome cpu.old }
-    requires couple { couple < 2 ^ 14 }
-    requires next { IsPlace next }
-    ensures { WentShortly (Valc couple) next cpu.old result cpu.new }
-{
-    let at = near_place(
-        &cpu.core,
-        &cpu.regs,
-        &cpu.display,
-        Irw { couple }.word(),
-        Look::Near,
-    );
-    if at == 0 {
-        return Went::Not;
-    }
-    if cpu.core.get(at).tag() != 0 {
-        return makes_valc_from(cpu, at, next);
-    }
-    has_stayed(value(cpu, 0, End::Cell(at), next))
 }
 
 /// VALC of the couple that names the cell at an address, and what became of it.
@@ -286,13 +262,28 @@ pub(crate) fn makes_ston(cpu: &mut Cpu, next: Place, why: &mut Step) -> Went
 
 /// ENTR, wherever its reference leads.
 #[inline(never)]
-pub(crate) fn makes_far_entr(cpu: &mut Cpu, next: Place, why: &mut Step) -> bool
+fn makes_far_entr(cpu: &mut Cpu, next: Place, why: &mut Step) -> bool
     requires runs { RunsSome cpu.old }
     requires next { IsPlace next }
     ensures { MadeAway (Plain codes.Entr) next cpu.old result cpu.new why.new }
 {
     let step = entr(cpu, next);
     is_done(step, why)
+}
+
+/// ENTR, first as the call of an intrinsic by its couple, which isn't made here: so no register need be kept for the general case.
+#[inline(never)]
+pub(crate) fn calls_or_enters(cpu: &mut Cpu, next: Place, why: &mut Step) -> bool
+    requires runs { RunsSome cpu.old }
+    requires next { IsPlace next }
+    ensures { MadeAway (Plain codes.Entr) next cpu.old result cpu.new why.new }
+{
+    let n = intrinsic_called(cpu, next);
+    if n != 0 {
+        *why = Step::Call(n);
+        return false;
+    }
+    makes_far_entr(cpu, next, why)
 }
 
 /// ENTR of a procedure that lies near by, as most do that are called, and whether it was made: no chain is followed.

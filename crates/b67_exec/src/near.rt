@@ -16,7 +16,7 @@ ghost use Rattle.b67_exec.specs.Near.{ReaderBehind, WentOn, MadeNear, Makes, out
 ghost use Rattle.b67_exec.specs.Far.{MadeOn, MadeAway, MadeWent, MadeLeaving, LeavesBy, LeadsTo};
 
 use crate::far::{
-    Went, is_done, makes_entr, makes_exit, makes_far_entr, makes_far_stff, makes_far_valc,
+    Went, calls_or_enters, is_done, makes_entr, makes_exit, makes_far_stff, makes_far_valc,
     makes_indx, makes_last_exit, makes_last_retn, makes_load, makes_nxlv, makes_plain, makes_retn,
     makes_stff, makes_stod, makes_ston,
 };
@@ -379,7 +379,7 @@ fn goes(went: Went, reader: &mut Reader, next: Reader) -> Made
     }
 }
 
-/// VALC, and what became of it: the short ways, and then the long one.
+/// VALC, and what became of it: the short way, and then the long one.
 #[inline(always)]
 fn makes_any_valc(cpu: &mut Cpu, couple: u16, next: Place, why: &mut Step) -> Went
     requires runs { RunsSome cpu.old }
@@ -455,7 +455,7 @@ fn makes_any_entr(cpu: &mut Cpu, next: Place, why: &mut Step) -> bool
     if makes_entr(cpu, next) {
         return true;
     }
-    makes_far_entr(cpu, next, why)
+    calls_or_enters(cpu, next, why)
 }
 
 /// ENTR.

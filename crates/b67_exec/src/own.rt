@@ -1,4 +1,4 @@
-//! Operators whose reference needs no search: a couple of the running stack's top activation record, or an element copy.
+//! Operators whose reference needs no call: one to a near cell, or an element copy.
 
 ghost use Rattle.std.specs.Prelude.{◌≡◌, ◌^◌, ◌<◌, true};
 ghost use Rattle.b67_model.specs.declared.operators.Op.TheVariants.{Plain, Valc};
@@ -8,16 +8,16 @@ ghost use Rattle.b67_layout.specs.Meets.{RunsSome};
 ghost use Rattle.b67_exec.specs.Operators.{may_enter};
 ghost use Rattle.b67_exec.specs.Far.{OnShortly, WentShortly};
 
-use crate::far::{Went, has_stayed, is_made, makes_valc, makes_valc_from};
+use crate::far::{Went, has_stayed, is_made, makes_valc_from};
 use b67_ctl::Irw;
 use b67_exec_cells::top_cell;
 use b67_fetch::{indx_at, nxlv_at, own_item, store_own, value};
 use b67_model::Code;
-use b67_refer::{End, Look, near_end, near_place};
+use b67_refer::{End, near_operand, near_place};
 use b67_stack::Cpu;
 use b67_word::Place;
 
-/// VALC, first as of a cell of the top activation record, and what became of it.
+/// VALC of a near cell, and what became of it.
 #[inline(always)]
 pub(crate) fn evaluates_own(cpu: &mut Cpu, couple: u16, next: Place) -> Went
     requires runs { RunsSome cpu.old }
@@ -25,15 +25,9 @@ pub(crate) fn evaluates_own(cpu: &mut Cpu, couple: u16, next: Place) -> Went
     requires next { IsPlace next }
     ensures { WentShortly (Valc couple) next cpu.old result cpu.new }
 {
-    let at = near_place(
-        &cpu.core,
-        &cpu.regs,
-        &cpu.display,
-        Irw { couple }.word(),
-        Look::Top,
-    );
+    let at = near_place(&cpu.core, &cpu.regs, &cpu.display, Irw { couple }.word());
     if at == 0 {
-        return makes_valc(cpu, couple, next);
+        return Went::Not;
     }
     if cpu.core.get(at).tag() != 0 {
         return makes_valc_from(cpu, at, next);
@@ -41,7 +35,7 @@ pub(crate) fn evaluates_own(cpu: &mut Cpu, couple: u16, next: Place) -> Went
     has_stayed(value(cpu, 0, End::Cell(at), next))
 }
 
-/// LOAD of an operand whose cell is in the top activation record, and whether it was made.
+/// LOAD of a near operand, and whether it was made.
 #[inline(always)]
 fn loads_own(cpu: &mut Cpu, next: Place) -> bool
     requires { RunsSome cpu.old }
@@ -51,14 +45,11 @@ fn loads_own(cpu: &mut Cpu, next: Place) -> bool
         Ok(word) => word,
         Err(_) => return false,
     };
-    let end = match near_end(&cpu.core, &cpu.regs, &cpu.display, w, Look::Top) {
-        Some(end) => end,
-        None => return false,
-    };
-    match end {
-        End::Cell(at) => is_made(value(cpu, 1, End::Cell(at), next)),
-        _ => false,
+    let at = near_operand(&cpu.core, &cpu.regs, &cpu.display, w);
+    if at == 0 {
+        return false;
     }
+    is_made(value(cpu, 1, End::Cell(at), next))
 }
 
 /// LOAD, or STOD or STON of an operand, through such a reference, and whether it was made.
@@ -77,7 +68,7 @@ pub(crate) fn stores_own(cpu: &mut Cpu, code: Code, next: Place) -> bool
     store_own(cpu, keeps, next)
 }
 
-/// INDX of an element of an array whose original is in the top activation record, and whether it was made.
+/// INDX of an element of an array whose original is near, and whether it was made.
 #[inline(always)]
 pub(crate) fn indexes_own(cpu: &mut Cpu, next: Place) -> bool
     requires { RunsSome cpu.old }
@@ -89,7 +80,7 @@ pub(crate) fn indexes_own(cpu: &mut Cpu, next: Place) -> bool
     }
 }
 
-/// NXLV of an element of an array whose original is in the top activation record, and whether it was made.
+/// NXLV of an element of an array whose original is near, and whether it was made.
 #[inline(always)]
 pub(crate) fn takes_own(cpu: &mut Cpu, next: Place) -> bool
     requires { RunsSome cpu.old }

@@ -18,7 +18,7 @@ ghost use Rattle.b67_fetch.specs.Indexes.{array_in, FindsArray, index_in, FindsI
 
 use b67_ctl::DataDesc;
 use b67_exec_cells::{array_descriptor, element, put_over, two_cells};
-use b67_refer::{End, Look, chase, near_end, owner};
+use b67_refer::{End, chase, near_end, owner};
 use b67_stack::{Cpu, Step, What};
 use b67_word::{Fault, Place, Word};
 
@@ -113,7 +113,7 @@ fn top_item(cpu: &Cpu) -> Result<(u32, u32), Fault>
     item_at(cpu, reference, index)
 }
 
-/// The original and the index of the element that a couple of an original of the top activation record and an operand give, if
+/// The original and the index of the element that a couple of a near original and an operand give, if
 /// they do.
 #[inline(always)]
 fn own_item_at(cpu: &Cpu, reference: Word, index: Word) -> Option<(u32, u32)>
@@ -124,7 +124,7 @@ fn own_item_at(cpu: &Cpu, reference: Word, index: Word) -> Option<(u32, u32)>
     if !index.is_natural() {
         return None;
     }
-    let end = match near_end(&cpu.core, &cpu.regs, &cpu.display, reference, Look::Near) {
+    let end = match near_end(&cpu.core, &cpu.regs, &cpu.display, reference) {
         Some(end) => end,
         None => return None,
     };

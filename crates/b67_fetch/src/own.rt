@@ -1,17 +1,16 @@
-//! Stores whose reference needs no search: a couple of the running stack's top activation record, or an element copy.
+//! Stores whose reference needs no call: one to a near operand's cell, or an element copy.
 
-ghost use Rattle.std.specs.Prelude.{◌≡◌, ◌≢◌, true, false, Some};
+ghost use Rattle.std.specs.Prelude.{◌≡◌, ◌≢◌, true, false};
 ghost use Rattle.b67_model.specs.Steps.{cells_of};
 ghost use Rattle.b67_model.specs.Rows as rows;
 ghost use Rattle.b67_layout.specs.Meets.{here, IsMade, RunsSome, ForEach};
 ghost use Rattle.b67_exec_cells.specs.Tops.{StaysInSegment};
-ghost use Rattle.b67_refer.specs.declared.ends.End.TheVariants as ends;
 ghost use Rattle.b67_fetch.specs.Fetches.{MayFollow};
 ghost use Rattle.b67_fetch.specs.Stores.{StoresThrough};
 
 use crate::storing::{element_address, put};
 use b67_exec_cells::two_cells;
-use b67_refer::{End, Look, element_of, near_end, stuffed_operand};
+use b67_refer::{End, element_of, near_operand, stuffed_operand};
 use b67_stack::Cpu;
 use b67_word::{Place, Word};
 
@@ -35,24 +34,8 @@ fn own_element(cpu: &Cpu, reference: Word) -> u32
     }
 }
 
-/// The core address of an operand's cell, if a word was found to lead to one. Else 0.
-#[inline(always)]
-fn operand_in(found: Option<End>) -> u32
-    ensures { result ≢ 0 → found ≡ Some (ends.Cell result) }
-{
-    let end = match found {
-        Some(end) => end,
-        None => return 0,
-    };
-    match end {
-        End::Cell(at) => at,
-        _ => 0,
-    }
-}
-
-/// Stores as STOD does, or as STON if the operand is kept, where the cell under the top one is an operand, and the top one a couple
-/// of an operand's cell of the top activation record, or a copy of a present array's element that may be written. Else nothing is
-/// changed. Whether it was made.
+/// Stores as STOD does, or as STON if the operand is kept, where the cell under the top one is an operand, and the top one names a
+/// near operand's cell, or is a copy of a present array's element that may be written. Else nothing is changed. Whether it was made.
 #[inline(always)]
 pub fn store_own(cpu: &mut Cpu, keeps: bool, next: Place) -> bool
     requires { RunsSome cpu.old }
@@ -67,8 +50,7 @@ pub fn store_own(cpu: &mut Cpu, keeps: bool, next: Place) -> bool
     if lower.tag() != 0 {
         return false;
     }
-    let end = near_end(&cpu.core, &cpu.regs, &cpu.display, upper, Look::Top);
-    let cell = operand_in(end);
+    let cell = near_operand(&cpu.core, &cpu.regs, &cpu.display, upper);
     if cell != 0 {
         put(cpu, cell, lower, keeps, next);
         return true;

@@ -13,7 +13,7 @@ use Rattle.b67_refer.specs.LiveCells.{CellMeets, IsUnder, IsPlain, cell_or_none}
 use Rattle.b67_refer.proofs.Bases.{slot_inside, dictionary_is, dictionary_low, slot_zero}
 use Rattle.b67_refer.proofs.Seats.{seat}
 use Rattle.b67_refer.proofs.Rule.{misses, marks, lands}
-use Rattle.b67_refer.proofs.Slots.{has_slot}
+use Rattle.b67_refer.proofs.Slots.{has_slot, registers, whole}
 use Rattle.b67_refer.proofs.Unders.{under, is_mcp, is_dictionary, is_base, entries_is, high_address, top_running}
 use Rattle.b67_refer.proofs.Fixed.{mcp_misses, mcp_lands, dictionary_misses, dictionary_lands}
 
@@ -45,11 +45,15 @@ module _ (core : List Tagged) (r : Regs) (a : LiveContext core r) (q : Place) (f
     task_plain low up true plain = task_lands low up (λ k w d u there tag. plain k w d (omega (arith, u)) there tag)
     task_plain low up false found = let (k, w, d, u, there, tag) = found in task_marks k w d u there tag
 
-    -- the running stack's top
-    pub top_runs : r.bosr ≤ from → from ≤ r.losr → r.s ≡ top
+    -- the running stack's top, over an address of the stack
+    pub top_runs : r.bosr ≤ from → from ≤ r.s → r.s ≡ top
     top_runs low high =
-        let s = has_slot core r a in
-        (top_running core r a from top r.slot (from - r.bosr) under_top (omega (arith, s.first, low)) (omega (arith, s.last, low, high)) refl).0
+        let k = has_slot core r a in
+        let g = registers core r a in
+        let w = whole core r a a.runner a.running.task in
+        let s = g.top in
+        let last = g.last in
+        (top_running core r a from top r.slot (from - r.bosr) under_top (omega (arith, k.first, low)) (omega (arith, k.last, w.part.low, w.part.room, s, last, low, high)) refl).0
 
     -- the stack lies inside core
     pub top_inside : (top < length core) × (length core < 2 ^ 20)

@@ -23,3 +23,4 @@ pub mod Splits
 pub mod Enclosures
 pub mod Owns
 pub mod Alone
+pub mod Named

@@ -21,7 +21,7 @@ use Rattle.b67_stack.proofs.Heights.{headed-length, words-length}
 use Rattle.b67_layout.specs.Common.{slot_of, spot_in, outer_spots, shape, head, frame_address, here}
 use Rattle.b67_layout.proofs.Frames.{height-is, size-is}
 use Rattle.b67_refer.specs.RunningContext.{LiveContext}
-use Rattle.b67_refer.specs.LiveCells.{CellMeets, IsUnder, cell_or_none}
+use Rattle.b67_refer.specs.LiveCells.{CellMeets, IsMark, IsTop, IsUnder, cell_or_none}
 use Rattle.b67_refer.proofs.Slots.{Part, whole, drop, base, acts, mark_in, part_mark, registers}
 use Rattle.b67_refer.proofs.Seats.{seat, order_of}
 use Rattle.b67_refer.proofs.Bases.{slot_inside, stacks_is}
@@ -70,14 +70,17 @@ module _ (core : List Tagged) (r : Regs) (a : LiveContext core r) where
 
   -- a mark of a live task's stack, and the address past the words of its record
   pub record Spans (mark past : ℕ) : Type 0 where
-    pub holder : Task
-    pub live : keyed (λ (v : Task). v.number) holder.number a.member.progress.job.tasks ≡ Some holder
+    pub stack : ℕ
+    pub outside : ℕ → StackPlace
+    pub seen : List Known
+    pub top : ℕ
+    pub top_is : IsTop a stack top
     pub frame : Frame
     pub below : List Frame
-    pub part : Part core r a (slot holder) (outer holder) (whole core r a holder live).top (frame ∷ below)
-    pub order : FramesInOrder (IsSegment a.member.constants) a.member.progress.job.arrays (known holder) (frame ∷ below)
-    pub mark_is : mark ≡ base core r a (slot holder) + height below
-    pub past_is : past ≡ base core r a (slot holder) + height (frame ∷ below)
+    pub part : Part core r a stack outside top (frame ∷ below)
+    pub order : FramesInOrder (IsSegment a.member.constants) a.member.progress.job.arrays seen (frame ∷ below)
+    pub mark_is : mark ≡ base core r a stack + height below
+    pub past_is : past ≡ base core r a stack + height (frame ∷ below)
 
   -- the running stack's top word is in core
   pub top_small : r.s < 2 ^ 20
@@ -106,8 +109,11 @@ module _ (core : List Tagged) (r : Regs) (a : LiveContext core r) where
         ap (λ (fs : List Frame). mark_place (acts core r a (slot u) (outer u) fs)) e ∙ (let h = height-is a.plan a.member.constants.number a.member.progress.job (slot u) (outer u) below in omega (arith, h)) in
         let s = w.top_words in
         record {
-          holder = u;
-          live = ku;
+          stack = slot u;
+          outside = outer u;
+          seen = known u;
+          top = w.top;
+          top_is = w.top_is;
           frame = f;
           below = below;
           part = subst P e w.part;
@@ -134,15 +140,40 @@ module _ (core : List Tagged) (r : Regs) (a : LiveContext core r) where
       let T : ℕ → Type 0 = λ p. Spans r.f (p + 1) in
       subst T (sym ends.0) (subst S (sym ends.1) (last_spans a.runner a.running.task))
 
+  -- the record of a frame that the task may name
+  frame_spans : (g over : ℕ) (n : NamesEntered (reach_of a.member.progress.job a.task) g) (own : 1 < g) → over ≡ frame_address a.plan a.member a.task g → (past : ℕ) × Spans over past
+  frame_spans g over n own e =
+      let b = seat core r a g n.standing n.among own in (
+        base core r a b.slot + height (b.frame ∷ b.below),
+        record {
+          stack = b.slot;
+          outside = b.outer;
+          seen = b.known;
+          top = b.top;
+          top_is = b.top_is;
+          frame = b.frame;
+          below = b.below;
+          part = b.part;
+          order = b.order;
+          mark_is = e ∙ seat_address core r a a.task.place g n.standing b n.entered own;
+          past_is = refl;
+        },
+      )
+
+  pub over_spans : (over : ℕ) → IsMark a over → (past : ℕ) × Spans over past
+  over_spans over = ⊎_elim
+      (λ (z : over ≡ r.f). (let S : ℕ → Type 0 = λ m. Spans m (r.s + 1) in let p : (past : ℕ) × Spans over past = (r.s + 1, subst S (sym z) top_spans) in p))
+      (λ z. frame_spans z.0 over z.1 z.2 z.3)
+
   module _ (mark past : ℕ) (x : Spans mark past) where
     -- the mark in core
     pub has_mark : (m : Mscw) × IsMscw m × (slice_get core mark ≡ Some (mscw_word m))
-    has_mark = let g = part_mark core r a (slot x.holder) (outer x.holder) (whole core r a x.holder x.live).top x.frame x.below x.part in (mark_in core r a (slot x.holder) (outer x.holder) x.frame x.below, g.0, ap (slice_get core) x.mark_is ∙ g.1)
+    has_mark = let g = part_mark core r a x.stack x.outside x.top x.frame x.below x.part in (mark_in core r a x.stack x.outside x.frame x.below, g.0, ap (slice_get core) x.mark_is ∙ g.1)
 
-    all_words : height (x.frame ∷ x.below) ≡ suc (stack_words (acts core r a (slot x.holder) (outer x.holder) (x.frame ∷ x.below)))
-    all_words = height-is a.plan a.member.constants.number a.member.progress.job (slot x.holder) (outer x.holder) (x.frame ∷ x.below)
+    all_words : height (x.frame ∷ x.below) ≡ suc (stack_words (acts core r a x.stack x.outside (x.frame ∷ x.below)))
+    all_words = height-is a.plan a.member.constants.number a.member.progress.job x.stack x.outside (x.frame ∷ x.below)
 
-    pub ends_inside : past ≤ (whole core r a x.holder x.live).top + 1
+    pub ends_inside : past ≤ x.top + 1
     ends_inside = let n = all_words in let e = x.past_is in let low = x.part.low in omega (arith, n, e, low)
 
     -- it lies in a slot
@@ -157,98 +188,118 @@ module _ (core : List Tagged) (r : Regs) (a : LiveContext core r) where
         let j = a.member.constants.number in
         let fs = x.frame ∷ x.below in
         let cells = x.frame.cells in
-        let within = map known_of fs ++ known x.holder in
-        let spot = spot_in (slot x.holder) (outer x.holder) fs in
-        let below = acts core r a (slot x.holder) (outer x.holder) x.below in
-        let first = head (spot_in (slot x.holder) (outer x.holder) x.below) x.frame.standing in
-        let under = headed (slot x.holder) first below (words (slot x.holder) below) in
-        let count : length under ≡ head_size first + length (words (slot x.holder) below) = headed-length (slot x.holder) first below (words (slot x.holder) below) in
-        let lower : length (words (slot x.holder) below) ≡ stack_words below = words-length (slot x.holder) below in
-        let high : height x.below ≡ suc (stack_words below) = height-is a.plan j job (slot x.holder) (outer x.holder) x.below in
-        let two : head_size first ≤ 2 = two_words (spot_in (slot x.holder) (outer x.holder) x.below) x.frame.standing in
+        let within = map known_of fs ++ x.seen in
+        let spot = spot_in x.stack x.outside fs in
+        let below = acts core r a x.stack x.outside x.below in
+        let first = head (spot_in x.stack x.outside x.below) x.frame.standing in
+        let under = headed x.stack first below (words x.stack below) in
+        let count : length under ≡ head_size first + length (words x.stack below) = headed-length x.stack first below (words x.stack below) in
+        let lower : length (words x.stack below) ≡ stack_words below = words-length x.stack below in
+        let high : height x.below ≡ suc (stack_words below) = height-is a.plan j job x.stack x.outside x.below in
+        let two : head_size first ≤ 2 = two_words (spot_in x.stack x.outside x.below) x.frame.standing in
         let many : length (map (shape a.plan j job spot) cells) ≡ length cells = length-map cells (shape a.plan j job spot) in
         let n : height fs ≡ suc (stack_words below + (head_size first + length (map (shape a.plan j job spot) cells))) = all_words in
         let m = x.mark_is in
         let e = x.past_is in
-        let i = k - (suc (base core r a (slot x.holder)) + length under) in
+        let i = k - (suc (base core r a x.stack) + length under) in
         let inside : i < length cells = omega (arith, count, lower, high, two, many, n, m, e, low, up) in
-        let at : suc (base core r a (slot x.holder)) + length under + i ≡ k = omega (arith, count, lower, high, two, m, low) in
+        let at : suc (base core r a x.stack) + length under + i ≡ k = omega (arith, count, lower, high, two, m, low) in
         let c = end_some cells i inside in
         let has : Has cells c.0 = has_reverse_back cells c.0 (has_get (reverse cells) i c.0 (get_reverse cells i ∙ c.1)) in
         let order : WordInOrder P job.arrays within x.frame.identity c.0 = all_in (WordInOrder P job.arrays within x.frame.identity) cells c.0 x.order.0.0 has in
-        let l = end_lies (Fits a.storage.held) core (suc (base core r a (slot x.holder))) (shape a.plan j job spot) cells under i c.0 x.part.lies c.1 in
-        word_tag P job.arrays within x.frame.identity a.storage.held a.plan j job spot c.0 (suc (base core r a (slot x.holder)) + length under + i) l.0 order l.2
+        let l = end_lies (Fits a.storage.held) core (suc (base core r a x.stack)) (shape a.plan j job spot) cells under i c.0 x.part.lies c.1 in
+        word_tag P job.arrays within x.frame.identity a.storage.held a.plan j job spot c.0 (suc (base core r a x.stack) + length under + i) l.0 order l.2
         (ap (λ (z : Tagged). z.tag) (same_Some _ _ (sym l.1 ∙ ap (slice_get core) at ∙ there)) ∙ tag)
 
     -- the record below it, if there is one
     pub down : (m : Mscw) → ((k : Mscw) → IsMscw k → slice_get core mark ≡ Some (mscw_word k) → m ≡ k) → (m.back ≤ mark) × ((mark - m.back ≡ mark) ⊎ Spans (mark - m.back) mark)
     unfolding has_mark
     down m read = by_below x.below refl where
-      is : m ≡ mark_in core r a (slot x.holder) (outer x.holder) x.frame x.below
+      is : m ≡ mark_in core r a x.stack x.outside x.frame x.below
       is = let k = has_mark in read k.0 k.1 k.2
 
-      back : m.back ≡ top_size (acts core r a (slot x.holder) (outer x.holder) x.below)
-      back = ap (λ (k : Mscw). k.back) is ∙ back_of (slot x.holder) (spot_in (slot x.holder) (outer x.holder) x.below) x.frame.standing (acts core r a (slot x.holder) (outer x.holder) x.below)
+      back : m.back ≡ top_size (acts core r a x.stack x.outside x.below)
+      back = ap (λ (k : Mscw). k.back) is ∙ back_of x.stack (spot_in x.stack x.outside x.below) x.frame.standing (acts core r a x.stack x.outside x.below)
 
       by_below : (fs : List Frame) → x.below ≡ fs → (m.back ≤ mark) × ((mark - m.back ≡ mark) ⊎ Spans (mark - m.back) mark)
       by_below [] z =
-          let none : m.back ≡ 0 = back ∙ ap (λ (gs : List Frame). top_size (acts core r a (slot x.holder) (outer x.holder) gs)) z in
+          let none : m.back ≡ 0 = back ∙ ap (λ (gs : List Frame). top_size (acts core r a x.stack x.outside gs)) z in
           (omega (arith, none), inl (omega (arith, none)))
       by_below (g ∷ fs) z =
-          let P : List Frame → Type 0 = λ gs. Part core r a (slot x.holder) (outer x.holder) (whole core r a x.holder x.live).top gs in
-          let F : List Frame → Type 0 = λ gs. FramesInOrder (IsSegment a.member.constants) a.member.progress.job.arrays (known x.holder) gs in
-          let size : m.back ≡ State.words_of g = back ∙ ap (λ (gs : List Frame). top_size (acts core r a (slot x.holder) (outer x.holder) gs)) z ∙ size-is a.plan a.member.constants.number a.member.progress.job (slot x.holder) (outer x.holder) g fs in
+          let P : List Frame → Type 0 = λ gs. Part core r a x.stack x.outside x.top gs in
+          let F : List Frame → Type 0 = λ gs. FramesInOrder (IsSegment a.member.constants) a.member.progress.job.arrays (x.seen) gs in
+          let size : m.back ≡ State.words_of g = back ∙ ap (λ (gs : List Frame). top_size (acts core r a x.stack x.outside gs)) z ∙ size-is a.plan a.member.constants.number a.member.progress.job x.stack x.outside g fs in
           let high : height x.below ≡ height fs + State.words_of g = ap height z in
           let e = x.mark_is in (
             omega (arith, size, high, e),
             inr (record {
-              holder = x.holder;
-              live = x.live;
+              stack = x.stack;
+              outside = x.outside;
+              seen = x.seen;
+              top = x.top;
+              top_is = x.top_is;
               frame = g;
               below = fs;
-              part = subst P z (drop core r a (slot x.holder) (outer x.holder) (whole core r a x.holder x.live).top x.frame x.below x.part);
+              part = subst P z (drop core r a x.stack x.outside x.top x.frame x.below x.part);
               order = subst F z x.order.2;
               mark_is = omega (arith, size, high, e);
-              past_is = e ∙ ap (λ (gs : List Frame). base core r a (slot x.holder) + height gs) z;
+              past_is = e ∙ ap (λ (gs : List Frame). base core r a x.stack + height gs) z;
             }),
           )
 
+  -- the record under a mark: one further down, or, at the bottom of a stack, the mark's own again
+  module _ (mark past : ℕ) (x : Spans mark past) (m : Mscw) (read : (k : Mscw) → IsMscw k → slice_get core mark ≡ Some (mscw_word k) → m ≡ k) where
+    pub next_spans : (m.back ≤ mark) × ((p : ℕ) × Spans (mark - m.back) p)
+    next_spans =
+        let d = down mark past x m read in (
+          d.0,
+          ⊎_elim
+              (λ (same : mark - m.back ≡ mark). (let S : ℕ → Type 0 = λ n. Spans n past in let y : (p : ℕ) × Spans (mark - m.back) p = (past, subst S (sym same) x) in y))
+              (λ z. (let y : (p : ℕ) × Spans (mark - m.back) p = (mark, z) in y))
+              d.1,
+        )
+
+    -- where the first of a record's cells lies under that mark, the record ends there
+    pub under_spans : (from : ℕ) → mark - m.back ≡ from → from < mark → Spans from mark
+    under_spans from e low =
+        let S : ℕ → Type 0 = λ n. Spans n mark in
+        ⊎_elim (λ (same : mark - m.back ≡ mark). absurd (omega (arith, same, e, low))) (λ z. subst S e z) (down mark past x m read).1
+
   -- the record at a mark of the running stack, which an offset is looked up in
   module _ (q : Place) (f from offset past : ℕ) (n : NamesEntered (reach_of a.member.progress.job a.task) f) (e : from ≡ frame_address a.plan a.member a.task f) (own : 1 < f) (low : 2 ≤ offset) (x : Spans from past) where
-    under_top : IsUnder a from (whole core r a x.holder x.live).top
+    under_top : IsUnder a from x.top
     under_top =
-        let high = height-is a.plan a.member.constants.number a.member.progress.job (slot x.holder) (outer x.holder) x.below in
-        let some = one_word (spot_in (slot x.holder) (outer x.holder) x.below) x.frame.standing in
+        let high = height-is a.plan a.member.constants.number a.member.progress.job x.stack x.outside x.below in
+        let some = one_word (spot_in x.stack x.outside x.below) x.frame.standing in
         record {
-          slot = slot x.holder;
+          slot = x.stack;
           disp = height x.below;
           low = omega (arith, high, some, x.part.low, x.part.room);
           at = x.mark_is;
-          is = (whole core r a x.holder x.live).top_is;
+          is = x.top_is;
         }
 
-    same_top : (seat core r a f n.standing n.among own).top ≡ (whole core r a x.holder x.live).top
+    same_top : (seat core r a f n.standing n.among own).top ≡ x.top
     unfolding under_top
     same_top =
         let b = seat core r a f n.standing n.among own in
-        let w = whole core r a x.holder x.live in
-        let k : slot x.holder ≡ b.slot = same_slot core r a f n own from w.top under_top (sym e) in
-        (same_ends core r a b.slot (slot x.holder) b.top w.top (sym k) b.top_is w.top_is).0
+        let k : x.stack ≡ b.slot = same_slot core r a f n own from x.top under_top (sym e) in
+        (same_ends core r a b.slot x.stack b.top x.top (sym k) b.top_is x.top_is).0
 
     entered_there : IsEntered x.frame.standing
     entered_there =
         let b = seat core r a f n.standing n.among own in
         let mine = part_mark core r a b.slot b.outer b.top b.frame b.below b.part in
-        let its = part_mark core r a (slot x.holder) (outer x.holder) (whole core r a x.holder x.live).top x.frame x.below x.part in
-        let at : base core r a b.slot + height b.below ≡ base core r a (slot x.holder) + height x.below = sym (seat_address core r a q f n.standing b n.entered own) ∙ sym e ∙ x.mark_is in
-        same_mark b.slot (slot x.holder) (spot_in b.slot b.outer b.below) (spot_in (slot x.holder) (outer x.holder) x.below) b.frame.standing x.frame.standing (acts core r a b.slot b.outer b.below) (acts core r a (slot x.holder) (outer x.holder) x.below)
+        let its = part_mark core r a x.stack x.outside x.top x.frame x.below x.part in
+        let at : base core r a b.slot + height b.below ≡ base core r a x.stack + height x.below = sym (seat_address core r a q f n.standing b n.entered own) ∙ sym e ∙ x.mark_is in
+        same_mark b.slot x.stack (spot_in b.slot b.outer b.below) (spot_in x.stack x.outside x.below) b.frame.standing x.frame.standing (acts core r a b.slot b.outer b.below) (acts core r a x.stack x.outside x.below)
         (subst IsEntered (sym b.stands) n.entered) its.0 (same_Some _ _ (sym mine.1 ∙ ap (slice_get core) at ∙ its.1))
 
     past_head : from + 2 ≤ past
     past_head =
-        let two = entered_words (spot_in (slot x.holder) (outer x.holder) x.below) x.frame.standing entered_there in
+        let two = entered_words (spot_in x.stack x.outside x.below) x.frame.standing entered_there in
         let all = all_words from past x in
-        let high = height-is a.plan a.member.constants.number a.member.progress.job (slot x.holder) (outer x.holder) x.below in
+        let high = height-is a.plan a.member.constants.number a.member.progress.job x.stack x.outside x.below in
         let m = x.mark_is in
         let z = x.past_is in
         omega (arith, two, all, high, m, z)
@@ -261,11 +312,11 @@ module _ (core : List Tagged) (r : Regs) (a : LiveContext core r) where
 
     pub outside_misses : past ≤ from + offset → CellMeets a q f offset (Err InvalidAddress) (cell (here a.member a.task q) f offset)
     outside_misses far = ⊎_elim
-        (λ (z : base core r a (slot x.holder) + stack_words (acts core r a (slot x.holder) (outer x.holder) (x.frame ∷ x.below)) ≡ (whole core r a x.holder x.live).top).
+        (λ (z : base core r a x.stack + stack_words (acts core r a x.stack x.outside (x.frame ∷ x.below)) ≡ x.top).
         (let all = all_words from past x in let p = x.past_is in let top = same_top in task_misses core r a q f from offset n e own (inr (omega (arith, z, all, p, top, far)))))
         (λ z.
         (let all = all_words from past x in let p = x.past_is in
-        let at : past ≡ suc (base core r a (slot x.holder)) + stack_words (acts core r a (slot x.holder) (outer x.holder) (x.frame ∷ x.below)) = omega (arith, all, p) in
+        let at : past ≡ suc (base core r a x.stack) + stack_words (acts core r a x.stack x.outside (x.frame ∷ x.below)) = omega (arith, all, p) in
         task_marks core r a q f from offset n e own past z.0 past_head far (ap (slice_get core) at ∙ z.1) z.2))
         x.part.above
 
@@ -280,9 +331,6 @@ module _ (core : List Tagged) (r : Regs) (a : LiveContext core r) where
     pub over : ℕ
     pub spans : Spans mark over
     pub is : (past ≡ over) ⊎ (mark ≡ from → ⊥)
-
-  pub walk_start : (from : ℕ) → Walk from r.f (r.s + 1)
-  walk_start from = record { over = r.s + 1; spans = top_spans; is = inl refl }
 
   -- from the last mark of the stack in which a frame lies
   pub walk_under : (f from top : ℕ) (n : NamesEntered (reach_of a.member.progress.job a.task) f) (own : 1 < f) → from ≡ frame_address a.plan a.member a.task f → (under : IsUnder a from top) → Walk from under.is.mark (top + 1)

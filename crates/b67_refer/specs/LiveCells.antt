@@ -36,6 +36,10 @@ module _ {core : List Tagged} {r : Regs} (a : LiveContext core r) where
   abbrev pub frame_at_core : ℕ → ℕ
   frame_at_core f = frame_address a.plan a.member a.task f
 
+  -- the mark of the running stack's last frame stands at an address, or that of one of the tasks' frames that the task may name
+  abbrev pub IsMark : (over : ℕ) → Type 0
+  IsMark over = (over ≡ r.f) ⊎ ((g : ℕ) × NamesEntered reach g × (1 < g) × (over ≡ frame_at_core g))
+
   -- a word of core at an address is this one of a frame that the task may name
   abbrev pub StandsFor : (at owner : ℕ) → Tagged → Word → Type 0
   StandsFor at owner v (Intrinsic n) = (v ≡ intrinsic_word (record { number = n })) × (FIRST_INTRINSIC ≤ n) × (n ≤ LAST_INTRINSIC)

@@ -1,6 +1,7 @@
 //! The cell at an offset of an activation record. `near_cell` is what needs no call; `slot_cell` and `base_cell` find each cell.
 
-ghost use Rattle.std.specs.Prelude.{◌≡◌, ◌≢◌, ℕ, ◌+◌, ◌^◌, ◌<◌, ◌≤◌, Bool, Result, Ok, length};
+ghost use Rattle.std.specs.Prelude.{◌≡◌, ◌≢◌, ℕ, ◌+◌, ◌^◌, ◌<◌, ◌≤◌, Bool, List, Result, Ok, length};
+ghost use Rattle.b67_word.specs.Tagged.{Tagged};
 ghost use Rattle.b67_word.specs.declared.couples.Place.{Place};
 ghost use Rattle.b67_model.specs.InOrder.{NamesEntered};
 ghost use Rattle.b67_model.specs.Cells.{cell};
@@ -14,28 +15,11 @@ use b67_core::Core;
 use b67_ctl::{FIRST_INTRINSIC, LAST_INTRINSIC, Regs};
 use b67_word::Fault;
 
-/// Near activation records: so many of the running stack's, from the last one down.
-const NEAR_RECORDS: u32 = 3;
+/// Near activation records: so many of a stack, from the one under a mark down.
+const NEAR_RECORDS: u32 = 2;
 
 /// Few cells: those below this offset of an activation record. They are looked at one by one, from the first one up.
 const FEW_CELLS: u16 = 16;
-
-/// How far a cell is looked for, before the answer is that it may be anywhere: in the running stack's top activation record, or
-/// in its near ones and among the few first cells of one below them.
-#[derive(Clone, Copy, Debug, PartialEq, Eq)]
-pub enum Look {
-    Top,
-    Near,
-}
-
-/// How many of the running stack's activation records are told by their marks.
-#[inline(always)]
-fn records(look: Look) -> u32 {
-    match look {
-        Look::Top => 1,
-        Look::Near => NEAR_RECORDS,
-    }
-}
 
 /// Whether no word from an address up to another, with both, is a mark or a return word.
 #[inline(always)]
@@ -52,19 +36,35 @@ fn is_plain(core: &Core, from: u32, to: u32) -> bool
     true
 }
 
-/// The cell at an offset of an activation record, if it is near: that record is one of the running stack's last ones, each of
-/// which ends where the next one's mark stands, or at the top, so its cells need no search; or the cell is one of the few first
-/// ones of a record below them. Else 0: it may be anywhere. Nothing is called.
+/// The cell at an offset of the running stack's top activation record, which ends with the top word. Else 0: it may be anywhere.
 #[inline(always)]
-pub(crate) fn near_cell(core: &Core, regs: &Regs, base: u32, offset: u16, look: Look) -> u32
-    requires { (a : LiveContext core.now regs.now) × (f : ℕ) × NamesEntered (live.reach a) f × (base ≡ live.frame_at_core a f) × (2 ≤ offset) }
-    ensures { result ≢ 0 → (a : LiveContext core.now regs.now) (q : Place) (f : ℕ) → NamesEntered (live.reach a) f → base ≡ live.frame_at_core a f → 2 ≤ offset
+pub(crate) fn top_cell(regs: &Regs, base: u32, offset: u16) -> u32
+    requires { (core : List Tagged) × (a : LiveContext core regs.now) × (f : ℕ) × NamesEntered (live.reach a) f × (base ≡ live.frame_at_core a f) }
+    ensures { result ≢ 0 → (core : List Tagged) (a : LiveContext core regs.now) (q : Place) (f : ℕ) → NamesEntered (live.reach a) f → base ≡ live.frame_at_core a f → 2 ≤ offset
+        → live.CellMeets a q f offset (Ok result) (cell (here a.member a.task q) f offset) }
+{
+    if base != regs.f {
+        return 0;
+    }
+    let at = base + u32::from(offset);
+    if at > regs.s {
+        return 0;
+    }
+    at
+}
+
+/// The cell at an offset of an activation record that is one of the near ones under the mark at `over`, each of which ends where the
+/// next one's mark stands; or, if it is one of the few first ones, of any record of the running stack. Else 0: it may be anywhere.
+#[inline(always)]
+pub(crate) fn under_cell(core: &Core, regs: &Regs, base: u32, over: u32, offset: u16) -> u32
+    requires { (a : LiveContext core.now regs.now) × (f : ℕ) × NamesEntered (live.reach a) f × (base ≡ live.frame_at_core a f) × (2 ≤ offset) × live.IsMark a over }
+    ensures { result ≢ 0 → (a : LiveContext core.now regs.now) (q : Place) (f : ℕ) → NamesEntered (live.reach a) f → base ≡ live.frame_at_core a f → 2 ≤ offset → live.IsMark a over
         → live.CellMeets a q f offset (Ok result) (cell (here a.member a.task q) f offset) }
 {
     let at = base + u32::from(offset);
-    let mut mark = regs.f;
-    let mut past = regs.s + 1;
-    for _turn in 0..records(look) {
+    let mut past = over;
+    for _turn in 0..NEAR_RECORDS {
+        let mark = past - u32::from(mark_at(core, past).back);
         if mark == base {
             if at >= past {
                 return 0;
@@ -72,19 +72,29 @@ pub(crate) fn near_cell(core: &Core, regs: &Regs, base: u32, offset: u16, look: 
             return at;
         }
         past = mark;
-        mark -= u32::from(mark_at(core, mark).back);
     }
-    match look {
-        Look::Top => return 0,
-        Look::Near => {}
-    }
-    if offset >= FEW_CELLS || base < regs.bosr || base > regs.losr || at > regs.s {
+    if offset >= FEW_CELLS || base < regs.bosr || at > regs.s {
         return 0;
     }
     if !is_plain(core, base + 2, at) {
         return 0;
     }
     at
+}
+
+/// The cell at an offset of an activation record, if it is near: in the running stack's top record, or found under its last mark. Else
+/// 0: it may be anywhere. Nothing is called.
+#[inline(always)]
+pub(crate) fn near_cell(core: &Core, regs: &Regs, base: u32, offset: u16) -> u32
+    requires { (a : LiveContext core.now regs.now) × (f : ℕ) × NamesEntered (live.reach a) f × (base ≡ live.frame_at_core a f) × (2 ≤ offset) }
+    ensures { result ≢ 0 → (a : LiveContext core.now regs.now) (q : Place) (f : ℕ) → NamesEntered (live.reach a) f → base ≡ live.frame_at_core a f → 2 ≤ offset
+        → live.CellMeets a q f offset (Ok result) (cell (here a.member a.task q) f offset) }
+{
+    let top = top_cell(regs, base, offset);
+    if top != 0 {
+        return top;
+    }
+    under_cell(core, regs, base, regs.f, offset)
 }
 
 /// Whether an activation record of any stack has a cell at an offset: no mark lies between. Cells are looked at from the record's
@@ -129,7 +139,7 @@ pub(crate) fn slot_cell(core: &Core, regs: &Regs, base: u32, offset: u16) -> Res
     if offset < 2 {
         return Err(Fault::InvalidAddress);
     }
-    let at = near_cell(core, regs, base, offset, Look::Near);
+    let at = near_cell(core, regs, base, offset);
     if at != 0 {
         return Ok(at);
     }

@@ -1,17 +1,20 @@
 //! The cell that a couple names, which the running level splits.
 
-ghost use Rattle.std.specs.Prelude.{◌≡◌, ◌≢◌, ◌≤◌, ◌<◌, ◌^◌, length};
+ghost use Rattle.std.specs.Prelude.{◌≡◌, ◌≢◌, ◌≤◌, ◌<◌, ◌^◌, List, length};
+ghost use Rattle.b67_word.specs.Tagged.{Tagged};
 ghost use Rattle.b67_word.specs.Couples.{couple};
 ghost use Rattle.b67_word.specs.declared.couples.Place.{Place};
 ghost use Rattle.b67_ctl.specs.declared.references.Irw.{Irw};
 ghost use Rattle.b67_ctl.specs.Layout.{irw_word, IsIrw};
 ghost use Rattle.b67_model.specs.Cells.{named};
 ghost use Rattle.b67_layout.specs.Meets.{here};
-ghost use Rattle.b67_refer.specs.RunningContext.{RunningContext, IsShown};
+ghost use Rattle.b67_refer.specs.RunningContext.{RunningContext, IsShown, live_of};
+ghost use Rattle.b67_refer.specs.LiveCells as live;
 ghost use Rattle.b67_refer.specs.Cells.{FindsCell};
-ghost use Rattle.b67_refer.specs.Own.{NamesCell};
+ghost use Rattle.b67_refer.specs.Own.{NamesCell, LeadsTo};
+ghost use Rattle.b67_refer.specs.declared.ends.End.TheVariants as end;
 
-use crate::cells::{Look, base_cell, near_cell, slot_cell};
+use crate::cells::{base_cell, slot_cell, top_cell, under_cell};
 use b67_core::Core;
 use b67_ctl::{Irw, Regs};
 use b67_word::{Couple, Fault, Word};
@@ -47,20 +50,24 @@ pub fn couple_at(bits: u16, level: u8) -> Couple
     }
 }
 
-/// The level below which no couple's cell is looked for: those of the dictionary and the MCP aren't near. The top record's mark is
-/// never theirs, so there no test is needed.
+/// A mark under which the activation record of a level of the running environment most likely lies: that of the next level's, or, at
+/// the running level, the running stack's last one.
 #[inline(always)]
-fn lowest(look: Look) -> u8 {
-    match look {
-        Look::Top => 0,
-        Look::Near => 2,
+fn mark_over(regs: &Regs, display: &[u32; 32], level: u8) -> u32
+    requires { regs.now.level ≤ 31 }
+    ensures { (core : List Tagged) (a : RunningContext core regs.now) → IsShown a display.now → 2 ≤ level → live.IsMark (live_of a) result }
+{
+    if level < regs.level {
+        display[level as usize + 1]
+    } else {
+        regs.f
     }
 }
 
-/// The core address of the cell that a couple's word names, if it is near, or, as `look` asks, one of the top activation record.
-/// Else 0: the word may name another cell, or none. Nothing is called.
+/// The core address of the cell that a couple's word names, if it is near. Else 0: the word may name another cell, or none. Nothing
+/// is called.
 #[inline(always)]
-pub fn near_place(core: &Core, regs: &Regs, display: &[u32; 32], w: Word, look: Look) -> u32
+pub fn near_place(core: &Core, regs: &Regs, display: &[u32; 32], w: Word) -> u32
     requires { (a : RunningContext core.now regs.now) × IsShown a display.now }
     ensures names { result ≢ 0 → NamesCell core.now regs.now display.now w result }
     ensures inside { result ≢ 0 → result < length core.now }
@@ -72,10 +79,35 @@ pub fn near_place(core: &Core, regs: &Regs, display: &[u32; 32], w: Word, look: 
         None => return 0,
     };
     let c = couple_at(name.couple, regs.level);
-    if c.level > regs.level || c.disp < 2 || c.level < lowest(look) {
+    if c.level > regs.level || c.disp < 2 {
         return 0;
     }
-    near_cell(core, regs, display[c.level as usize], c.disp, look)
+    let base = display[c.level as usize];
+    let top = top_cell(regs, base, c.disp);
+    if top != 0 {
+        return top;
+    }
+    if c.level < 2 {
+        return 0;
+    }
+    under_cell(core, regs, base, mark_over(regs, display, c.level), c.disp)
+}
+
+/// The core address of the operand's cell that a couple's word names, if it is near. Else 0: the word may lead anywhere.
+#[inline(always)]
+pub fn near_operand(core: &Core, regs: &Regs, display: &[u32; 32], w: Word) -> u32
+    requires { (a : RunningContext core.now regs.now) × IsShown a display.now }
+    ensures leads { result ≢ 0 → LeadsTo core.now regs.now display.now w (end.Cell result) }
+    ensures couple { result ≢ 0 → w.tag ≡ 1 }
+{
+    let at = near_place(core, regs, display, w);
+    if at == 0 {
+        return 0;
+    }
+    if core.get(at).tag() != 0 {
+        return 0;
+    }
+    at
 }
 
 /// The core address of the cell that a couple names in the running environment. INVALID ADDRESS exactly if the level

@@ -14,7 +14,6 @@ ghost use Rattle.b67_refer.specs.LiveEnds.{IsReference, EndMeets, LinkMeets};
 ghost use Rattle.b67_refer.specs.Ends.{IsCopyOf, HasTagAt};
 ghost use Rattle.b67_refer.specs.Own.{NamesCell, FollowsTo, LeadsTo};
 
-use crate::cells::Look;
 use crate::couples::{cell_of, couple_at, near_place};
 use crate::stuffed::cell_at;
 use b67_core::Core;
@@ -173,18 +172,42 @@ fn chase_reference(
     Err(Fault::Loop)
 }
 
-/// Where a couple's word leads, if the cell that it names is near, or, as `look` asks, one of the top activation record, and holds
-/// no reference. Else None: the word may lead anywhere.
+/// Where a couple's word leads, if the cell that it names is near, and holds no reference. Else None: the word may lead anywhere.
 #[inline(always)]
-pub fn near_end(core: &Core, regs: &Regs, display: &[u32; 32], w: Word, look: Look) -> Option<End>
+pub fn near_end(core: &Core, regs: &Regs, display: &[u32; 32], w: Word) -> Option<End>
     requires { (a : RunningContext core.now regs.now) × IsShown a display.now }
     ensures leads { (end : End) → result ≡ Some end → LeadsTo core.now regs.now display.now w end }
     ensures couple { (end : End) → result ≡ Some end → w.tag ≡ 1 }
 {
-    let at = near_place(core, regs, display, w, look);
+    let at = near_place(core, regs, display, w);
     if at == 0 {
         return None;
     }
+    match end_at(core, regs, at) {
+        Ok(end) => end,
+        Err(_) => None,
+    }
+}
+
+/// Where a couple's word leads that names a cell of level 0, which holds an intrinsic. Else None: the word may lead anywhere.
+#[inline(always)]
+pub fn mcp_end(core: &Core, regs: &Regs, display: &[u32; 32], w: Word) -> Option<End>
+    requires { (a : RunningContext core.now regs.now) × IsShown a display.now }
+    ensures leads { (end : End) → result ≡ Some end → LeadsTo core.now regs.now display.now w end }
+    ensures couple { (end : End) → result ≡ Some end → w.tag ≡ 1 }
+{
+    let name = match Irw::from_word(w) {
+        Some(name) => name,
+        None => return None,
+    };
+    let c = couple_at(name.couple, regs.level);
+    if c.level > 0 {
+        return None;
+    }
+    let at = match cell_of(core, regs, display, c) {
+        Ok(at) => at,
+        Err(_) => return None,
+    };
     match end_at(core, regs, at) {
         Ok(end) => end,
         Err(_) => None,

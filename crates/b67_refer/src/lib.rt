@@ -17,9 +17,8 @@ mod spots;
 mod stuffed;
 
 pub use activation::{Activation, Enclosure, enclosure_of};
-pub use cells::Look;
-pub use couples::{cell_of, couple_at, near_place};
-pub use ends::{End, chase, chase_from, element_of, near_end, owner};
+pub use couples::{cell_of, couple_at, near_operand, near_place};
+pub use ends::{End, chase, chase_from, element_of, mcp_end, near_end, owner};
 pub use environment::{rebuild, rebuild_entered, rebuild_known};
 pub use spots::{Spot, spot_of};
 pub use stuffed::{cell_at, stuffed_operand};

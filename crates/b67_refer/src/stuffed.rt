@@ -12,7 +12,7 @@ ghost use Rattle.b67_refer.specs.Cells.{StandsFor};
 ghost use Rattle.b67_refer.specs.Own.{EndsAt};
 ghost use Rattle.b67_refer.specs.declared.ends.End.TheVariants as end;
 
-use crate::cells::{Look, base_cell, near_cell, slot_cell};
+use crate::cells::{base_cell, near_cell, slot_cell};
 use crate::environment::address_of;
 use b67_core::Core;
 use b67_ctl::{Irw, Regs, SLOTS, Sirw};
@@ -53,7 +53,7 @@ pub fn stuffed_operand(core: &Core, regs: &Regs, w: Word) -> u32
         return 0;
     }
     let base = address_of(core, regs, r.stack, r.disp);
-    let at = near_cell(core, regs, base, r.offset, Look::Near);
+    let at = near_cell(core, regs, base, r.offset);
     if at == 0 {
         return 0;
     }

@@ -1,4 +1,4 @@
-use Rattle.std.proofs.Common.{◌≡◌, [], ◌+◌, ◌<◌, length, Ok, Some, refl, sym, ◌∙◌, ap, arith, subst}
+use Rattle.std.proofs.Common.{◌≡◌, [], ◌+◌, ◌<◌, length, Ok, refl, sym, ◌∙◌, ap, arith, subst}
 use Rattle.std.proofs.lemmas.Option.{none-some, same_Some, slice_get_within}
 use Rattle.b67_word.specs.Tagged.{Tagged}
 use Rattle.b67_model.specs.Common.{follow, enters, entr, top_of, top, called_on}
@@ -39,13 +39,13 @@ overflow_add-cpu c =
     let within : c.args.cpu.now.regs.f + 1 < length c.args.cpu.now.core = slice_get_within _ _ _ f.there in
     omega (arith, within, h.holds.memory.directory.small)
 
-pub near_end-requires : goal.near_end-requires
-near_end-requires c =
+pub near_procedure-cell-requires : goal.near_procedure-cell-requires
+near_procedure-cell-requires c =
     let r = c.requires.runs in let x = r.storage in let plan = r.plan in let s = r.session in let m = r.member in let t = r.task in let o = r.ordered in let h = r.stands in let runs = r.running in
     (scene [] x c.args.cpu.now.core c.args.cpu.now.regs c.args.cpu.now.critical plan s m t o h.holds runs, h.shows m t runs)
 
-pub returns-in-None : goal.returns-in-None
-returns-in-None c = record { row = λ step e. absurd (none-some step e); kept = λ e. refl }
+pub returns-then-cell-eq0 : goal.returns-then-cell-eq0
+returns-then-cell-eq0 c = record { row = λ step e. absurd (none-some step e); kept = λ e. refl }
 
 pub enter-step-requires-clause-procedure : goal.enter-step-requires-clause-procedure
 enter-step-requires-clause-procedure c =
@@ -53,27 +53,24 @@ enter-step-requires-clause-procedure c =
     let k = c.top_mark.ensures x (machine_view plan s.jobs) (stack_of_task plan m.constants.number m.progress.job plan.running t) h.holds.memory (runs_here x c.args.cpu.now plan s m t h runs) in
     let f = facing x c.args.cpu.now plan s m t c.args.next o h runs c.top_mark.result k c.if-top_mark.false c.if-cpu.false in
     let word : c.get-first.result ≡ f.word = same_Some _ _ (sym c.get-first.ensures ∙ f.there) in
-    let tag : f.word.tag ≡ 1 = ap (λ (w : Tagged). w.tag) (sym word) ∙ c.near_end.ensures.couple (end.Proc c.in-Proc.cell) (c.in-Some.is ∙ ap Some c.in-Proc.is) in
+    let tag : f.word.tag ≡ 1 = ap (λ (w : Tagged). w.tag) (sym word) ∙ c.near_procedure-cell.ensures.couple c.if-cell-eq0.false in
     let a = scene [] x c.args.cpu.now.core c.args.cpu.now.regs c.args.cpu.now.critical plan s m t o h.holds runs in
     let stands : StandsFor a (c.args.cpu.now.regs.f + 1) (top t.frames).identity c.get-first.result f.first = subst (λ (w : Tagged). StandsFor a (c.args.cpu.now.regs.f + 1) (top t.frames).identity w f.first) (sym word) (first_stands x c.args.cpu.now plan s m t c.args.next o h runs c.top_mark.result k c.if-top_mark.false c.if-cpu.false tag) in
-    let e : EndMeets a c.args.next (Ok (end.Proc c.in-Proc.cell)) (follow (here m t c.args.next) f.first) = c.near_end.ensures.leads (end.Proc c.in-Proc.cell) (c.in-Some.is ∙ ap Some c.in-Proc.is) a c.args.next (h.shows m t runs) (c.args.cpu.now.regs.f + 1) (top t.frames).identity f.first stands in
-    let p = proc_found a c.args.next c.in-Proc.cell (follow (here m t c.args.next) f.first) e in
+    let e : EndMeets a c.args.next (Ok (end.Proc c.near_procedure-cell.result)) (follow (here m t c.args.next) f.first) = c.near_procedure-cell.ensures.leads c.if-cell-eq0.false a c.args.next (h.shows m t runs) (c.args.cpu.now.regs.f + 1) (top t.frames).identity f.first stands in
+    let p = proc_found a c.args.next c.near_procedure-cell.result (follow (here m t c.args.next) f.first) e in
     (a, p.f, p.segment, p.level, p.place, f.first, f.arguments, record { ordered = o; stands = h; procedure = p.procedure }, calling x c.args.cpu.now plan s m t c.args.next o h runs c.top_mark.result k c.if-top_mark.false c.if-cpu.false tag)
 
-pub returns-in_default : goal.returns-in_default
-returns-in_default c = record { row = λ step e. absurd (none-some step e); kept = λ e. refl }
-
-pub returns-in-Proc : goal.returns-in-Proc
-returns-in-Proc c = record {
+pub returns : goal.returns
+returns c = record {
   row = λ step is x plan s m t o h runs.
       let k = c.top_mark.ensures x (machine_view plan s.jobs) (stack_of_task plan m.constants.number m.progress.job plan.running t) h.holds.memory (runs_here x c.args.cpu.now plan s m t h runs) in
       let f = facing x c.args.cpu.now plan s m t c.args.next o h runs c.top_mark.result k c.if-top_mark.false c.if-cpu.false in
       let word : c.get-first.result ≡ f.word = same_Some _ _ (sym c.get-first.ensures ∙ f.there) in
-      let tag : f.word.tag ≡ 1 = ap (λ (w : Tagged). w.tag) (sym word) ∙ c.near_end.ensures.couple (end.Proc c.in-Proc.cell) (c.in-Some.is ∙ ap Some c.in-Proc.is) in
+      let tag : f.word.tag ≡ 1 = ap (λ (w : Tagged). w.tag) (sym word) ∙ c.near_procedure-cell.ensures.couple c.if-cell-eq0.false in
       let a = scene [] x c.args.cpu.now.core c.args.cpu.now.regs c.args.cpu.now.critical plan s m t o h.holds runs in
       let stands : StandsFor a (c.args.cpu.now.regs.f + 1) (top t.frames).identity c.get-first.result f.first = subst (λ (w : Tagged). StandsFor a (c.args.cpu.now.regs.f + 1) (top t.frames).identity w f.first) (sym word) (first_stands x c.args.cpu.now plan s m t c.args.next o h runs c.top_mark.result k c.if-top_mark.false c.if-cpu.false tag) in
-      let e : EndMeets a c.args.next (Ok (end.Proc c.in-Proc.cell)) (follow (here m t c.args.next) f.first) = c.near_end.ensures.leads (end.Proc c.in-Proc.cell) (c.in-Some.is ∙ ap Some c.in-Proc.is) a c.args.next (h.shows m t runs) (c.args.cpu.now.regs.f + 1) (top t.frames).identity f.first stands in
-      let p = proc_found a c.args.next c.in-Proc.cell (follow (here m t c.args.next) f.first) e in
+      let e : EndMeets a c.args.next (Ok (end.Proc c.near_procedure-cell.result)) (follow (here m t c.args.next) f.first) = c.near_procedure-cell.ensures.leads c.if-cell-eq0.false a c.args.next (h.shows m t runs) (c.args.cpu.now.regs.f + 1) (top t.frames).identity f.first stands in
+      let p = proc_found a c.args.next c.near_procedure-cell.result (follow (here m t c.args.next) f.first) e in
       let made = c.enter-step.ensures.row a p.f p.segment p.level p.place f.first f.arguments (record { ordered = o; stands = h; procedure = p.procedure }) (calling x c.args.cpu.now plan s m t c.args.next o h runs c.top_mark.result k c.if-top_mark.false c.if-cpu.false tag) in
       let row = goes x c.args.cpu.now plan s m t c.args.next o h runs c.top_mark.result k c.if-top_mark.false c.if-cpu.false tag (Ok (Chase.AtProc p.f p.segment p.level p.place)) p.is in
       subst (λ (z : Step). CallsOrMeets x plan s m z c.args.cpu.now c.enter-step.new.cpu (called_on (here m t c.args.next) (top_of (here m t c.args.next)).standing) (entr (here m t c.args.next) (top_of (here m t c.args.next)).standing)) (same_Some _ _ is)

@@ -1,77 +1,14 @@
-use Rattle.std.proofs.Common.{◌+◌, ◌-◌, refl, sym, arith, subst, ℕ, Bool, Ok}
-use Rattle.b67_model.specs.Cells.{cell}
-use Rattle.b67_layout.specs.Meets.{here}
-use Rattle.b67_refer.specs.LiveCells.{CellMeets, IsPlain, cell_or_none}
-use Rattle.b67_refer.proofs.Founds.{mark_small, top_runs, task_plain, top_inside}
-use Rattle.b67_refer.proofs.Unders.{is_slot, is_running}
-use Rattle.b67_refer.proofs.Walks.{top_small, has_mark, mark_high, inside_lands, Walk, walk_start, walk_there, walk_down}
+use Rattle.std.proofs.Common.{inl, refl}
 use Rattle.b67_refer.proofs.cells.near_cell.Goals as goal
 
-pub overflow_add-at : goal.overflow_add-at
-overflow_add-at c =
-    let (a, f, n, e, low) = c.requires in
-    omega (arith, mark_small c.args.core.now c.args.regs.now a f c.args.base n e, c.from.ensures, c.ranges.offset.fits)
+pub top_cell-top-requires : goal.top_cell-top-requires
+top_cell-top-requires c = let (a, f, n, e, low) = c.requires in (c.args.core.now, a, f, n, e)
 
-pub overflow_add-past : goal.overflow_add-past
-overflow_add-past c = omega (arith, top_small c.args.core.now c.args.regs.now c.requires.0)
+pub returns-then-top-ne0 : goal.returns-then-top-ne0
+returns-then-top-ne0 c = λ some a q f n e low. c.top_cell-top.ensures some c.args.core.now a q f n e low
 
-pub loop-turn-init : goal.loop-turn-init
-loop-turn-init c = λ a. walk_start c.args.core.now c.args.regs.now a c.args.base
-
-pub returns-then-at-past : goal.returns-then-at-past
-returns-then-at-past c = λ some. absurd (some refl)
-
-pub returns-then-mark-base : goal.returns-then-mark-base
-returns-then-mark-base c = λ some a q f n e low.
-    let there = walk_there c.args.core.now c.args.regs.now a c.args.base c.loop-turn.mark c.loop-turn.past (c.loop-turn.invariant a) c.if-mark-base.true in
-    let own = is_slot c.args.core.now c.args.regs.now a f c.args.base n e (mark_high c.args.core.now c.args.regs.now a c.args.base c.loop-turn.past there) in
-    subst (λ (i : ℕ). CellMeets a q f c.args.offset (Ok (c.args.base + i)) (cell (here a.member a.task q) f c.args.offset)) (sym c.from.ensures)
-    (inside_lands c.args.core.now c.args.regs.now a q f c.args.base c.args.offset c.loop-turn.past n e own low there (omega (arith, c.if-at-past.false, c.from.ensures)))
-
-pub mark_at-requires : goal.mark_at-requires
-mark_at-requires c =
-    let a = c.requires.0 in
-    let w = c.loop-turn.invariant a in
-    has_mark c.args.core.now c.args.regs.now a c.loop-turn.mark w.over w.spans
-
-pub overflow_sub-mark : goal.overflow_sub-mark
-overflow_sub-mark c =
-    let a = c.requires.0 in
-    let next = walk_down c.args.core.now c.args.regs.now a c.args.base c.loop-turn.mark c.loop-turn.past (c.loop-turn.invariant a) c.if-mark-base.false c.mark_at.result c.mark_at.ensures in
-    omega (arith, next.0, c.from-mark.ensures)
-
-pub loop-turn-preserved : goal.loop-turn-preserved
-loop-turn-preserved c = λ a.
-    let next = walk_down c.args.core.now c.args.regs.now a c.args.base c.loop-turn.mark c.loop-turn.past (c.loop-turn.invariant a) c.if-mark-base.false c.mark_at.result c.mark_at.ensures in
-    subst (λ (n : ℕ). Walk c.args.core.now c.args.regs.now a c.args.base (c.loop-turn.mark - n) c.loop-turn.mark) (sym c.from-mark.ensures) next.1
-
-pub returns-in-Top : goal.returns-in-Top
-returns-in-Top c = λ some. absurd (some refl)
-
-pub returns-then-offset-ge-FEW_CELLS : goal.returns-then-offset-ge-FEW_CELLS
-returns-then-offset-ge-FEW_CELLS c = λ some. absurd (some refl)
-
-pub is_plain-requires-clause-inside : goal.is_plain-requires-clause-inside
-is_plain-requires-clause-inside c =
-    let (a, f, n, e, low) = c.requires in
-    let own = is_running c.args.core.now c.args.regs.now a f c.args.base n e (omega (arith, c.if-base-regs.false)) in
-    let t = top_runs c.args.core.now c.args.regs.now a a.task.place f c.args.base c.args.offset n e own (omega (arith, c.if-base-regs.false)) (omega (arith, c.if-base-regs-2.false)) in
-    omega (arith, t, (top_inside c.args.core.now c.args.regs.now a a.task.place f c.args.base c.args.offset n e own).0, c.if-at-regs.false)
-
-pub is_plain-requires-clause-small : goal.is_plain-requires-clause-small
-is_plain-requires-clause-small c =
-    let (a, f, n, e, low) = c.requires in
-    let own = is_running c.args.core.now c.args.regs.now a f c.args.base n e (omega (arith, c.if-base-regs.false)) in
-    (top_inside c.args.core.now c.args.regs.now a a.task.place f c.args.base c.args.offset n e own).1
-
-pub returns-then-not-is_plain : goal.returns-then-not-is_plain
-returns-then-not-is_plain c = λ some. absurd (some refl)
+pub under_cell-requires : goal.under_cell-requires
+under_cell-requires c = let (a, f, n, e, low) = c.requires in (a, f, n, e, low, inl refl)
 
 pub returns : goal.returns
-returns c = λ some a q f n e low.
-    let own = is_running c.args.core.now c.args.regs.now a f c.args.base n e (omega (arith, c.if-base-regs.false)) in
-    let t = top_runs c.args.core.now c.args.regs.now a q f c.args.base c.args.offset n e own (omega (arith, c.if-base-regs.false)) (omega (arith, c.if-base-regs-2.false)) in
-    let plain = subst (λ (i : ℕ). IsPlain c.args.core.now (c.args.base + 2) (c.args.base + i) c.is_plain.result) c.from.ensures c.is_plain.ensures in
-    let found = task_plain c.args.core.now c.args.regs.now a q f c.args.base c.args.offset n e own low (omega (arith, t, c.if-at-regs.false, c.from.ensures)) c.is_plain.result plain in
-    let same = subst (λ (b : Bool). CellMeets a q f c.args.offset (cell_or_none b (c.args.base + c.args.offset)) (cell (here a.member a.task q) f c.args.offset)) c.if-not-is_plain.false found in
-    subst (λ (i : ℕ). CellMeets a q f c.args.offset (Ok (c.args.base + i)) (cell (here a.member a.task q) f c.args.offset)) (sym c.from.ensures) same
+returns c = λ some a q f n e low. c.under_cell.ensures some a q f n e low (inl refl)

@@ -45,30 +45,64 @@ returns-then-c-regs-clause-word c = λ some. absurd (some refl)
 pub bounds-display-c : goal.bounds-display-c
 bounds-display-c c = let a = c.requires.0 in omega (arith, c.if-c-regs.false, level_is c.args.core.now c.args.regs.now a, level_small c.args.core.now c.args.regs.now a)
 
-pub near_cell-requires : goal.near_cell-requires
-near_cell-requires c =
+pub top_cell-top-requires : goal.top_cell-top-requires
+top_cell-top-requires c =
     let (a, shown) = c.requires in
     let q = a.task.place in
-    let low : c.couple_at-c.result.level ≤ c.args.regs.now.level = omega (arith, c.if-c-regs.false) in (
-      live_of a,
-      (frame_at (here a.member a.task q) c.couple_at-c.result.level).identity,
-      names_level c.args.core.now c.args.regs.now a q c.args.display.now shown c.couple_at-c.result low,
-      display_at c.args.core.now c.args.regs.now a q c.args.display.now shown c.couple_at-c.result low,
-      omega (arith, c.if-c-lt2.false),
+    let low : c.couple_at-c.result.level ≤ c.args.regs.now.level = omega (arith, c.if-c-regs.false) in
+    (c.args.core.now, live_of a, (frame_at (here a.member a.task q) c.couple_at-c.result.level).identity, names_level c.args.core.now c.args.regs.now a q c.args.display.now shown c.couple_at-c.result low, display_at c.args.core.now c.args.regs.now a q c.args.display.now shown c.couple_at-c.result low)
+
+pub returns-then-top-ne0-clause-names : goal.returns-then-top-ne0-clause-names
+returns-then-top-ne0-clause-names c = λ some a q shown at owner v stands.
+    let low : c.couple_at-c.result.level ≤ c.args.regs.now.level = omega (arith, c.if-c-regs.false) in
+    let f = (frame_at (here a.member a.task q) c.couple_at-c.result.level).identity in
+    let is = named_at c.args.core.now c.args.regs.now a q c.args.display.now shown c.couple_at-c.result low in
+    let found = c.top_cell-top.ensures c.if-top-ne0.true c.args.core.now (live_of a) q f (names_level c.args.core.now c.args.regs.now a q c.args.display.now shown c.couple_at-c.result low) (display_at c.args.core.now c.args.regs.now a q c.args.display.now shown c.couple_at-c.result low) (omega (arith, c.if-c-lt2.false)) in
+    let i = c.in-Some.ensures.some in
+    let ref = is_reference c.args.core.now c.args.regs.now (live_of a) at owner c.args.w v stands (ap (λ (x : Tagged). x.tag) i.1) in
+    let e = irw_is c.args.core.now c.args.regs.now (live_of a) at owner c.args.w v c.in-Some.name stands ref i.0 i.1 in (
+      ref,
+      finds_name c.args.core.now c.args.regs.now (live_of a) q v c.in-Some.name.couple c.couple_at-c.result (Ok c.top_cell-top.result) e c.couple_at-c.ensures
+          (subst (λ (y : Answer (ℕ × ℕ)). FindsCell a q (Ok c.top_cell-top.result) y) (sym is) found),
     )
+
+pub returns-then-top-ne0-clause-inside : goal.returns-then-top-ne0-clause-inside
+returns-then-top-ne0-clause-inside c = λ some.
+    let (a, shown) = c.requires in
+    let q = a.task.place in
+    let low : c.couple_at-c.result.level ≤ c.args.regs.now.level = omega (arith, c.if-c-regs.false) in
+    let f = (frame_at (here a.member a.task q) c.couple_at-c.result.level).identity in
+    cell_inside c.args.core.now c.args.regs.now a q f c.couple_at-c.result.disp c.top_cell-top.result
+    (c.top_cell-top.ensures c.if-top-ne0.true c.args.core.now (live_of a) q f (names_level c.args.core.now c.args.regs.now a q c.args.display.now shown c.couple_at-c.result low) (display_at c.args.core.now c.args.regs.now a q c.args.display.now shown c.couple_at-c.result low) (omega (arith, c.if-c-lt2.false)))
+
+pub returns-then-top-ne0-clause-couple : goal.returns-then-top-ne0-clause-couple
+returns-then-top-ne0-clause-couple c = λ some. ap (λ (x : Tagged). x.tag) c.in-Some.ensures.some.1
+
+pub returns-then-top-ne0-clause-word : goal.returns-then-top-ne0-clause-word
+returns-then-top-ne0-clause-word c = λ some. (c.in-Some.name, c.in-Some.ensures.some.0, c.in-Some.ensures.some.1)
+
+pub mark_over-requires : goal.mark_over-requires
+mark_over-requires c = let a = c.requires.0 in omega (arith, level_is c.args.core.now c.args.regs.now a, level_small c.args.core.now c.args.regs.now a)
+
+pub under_cell-requires : goal.under_cell-requires
+under_cell-requires c =
+    let (a, shown) = c.requires in
+    let q = a.task.place in
+    let low : c.couple_at-c.result.level ≤ c.args.regs.now.level = omega (arith, c.if-c-regs.false) in
+    (live_of a, (frame_at (here a.member a.task q) c.couple_at-c.result.level).identity, names_level c.args.core.now c.args.regs.now a q c.args.display.now shown c.couple_at-c.result low, display_at c.args.core.now c.args.regs.now a q c.args.display.now shown c.couple_at-c.result low, omega (arith, c.if-c-lt2.false), c.mark_over.ensures c.args.core.now a shown (omega (arith, c.if-c-lt2-2.false)))
 
 pub returns-clause-names : goal.returns-clause-names
 returns-clause-names c = λ some a q shown at owner v stands.
     let low : c.couple_at-c.result.level ≤ c.args.regs.now.level = omega (arith, c.if-c-regs.false) in
     let f = (frame_at (here a.member a.task q) c.couple_at-c.result.level).identity in
     let is = named_at c.args.core.now c.args.regs.now a q c.args.display.now shown c.couple_at-c.result low in
-    let found = c.near_cell.ensures some (live_of a) q f (names_level c.args.core.now c.args.regs.now a q c.args.display.now shown c.couple_at-c.result low) (display_at c.args.core.now c.args.regs.now a q c.args.display.now shown c.couple_at-c.result low) (omega (arith, c.if-c-lt2.false)) in
+    let found = c.under_cell.ensures some (live_of a) q f (names_level c.args.core.now c.args.regs.now a q c.args.display.now shown c.couple_at-c.result low) (display_at c.args.core.now c.args.regs.now a q c.args.display.now shown c.couple_at-c.result low) (omega (arith, c.if-c-lt2.false)) (c.mark_over.ensures c.args.core.now a shown (omega (arith, c.if-c-lt2-2.false))) in
     let i = c.in-Some.ensures.some in
     let ref = is_reference c.args.core.now c.args.regs.now (live_of a) at owner c.args.w v stands (ap (λ (x : Tagged). x.tag) i.1) in
     let e = irw_is c.args.core.now c.args.regs.now (live_of a) at owner c.args.w v c.in-Some.name stands ref i.0 i.1 in (
       ref,
-      finds_name c.args.core.now c.args.regs.now (live_of a) q v c.in-Some.name.couple c.couple_at-c.result (Ok c.near_cell.result) e c.couple_at-c.ensures
-          (subst (λ (y : Answer (ℕ × ℕ)). FindsCell a q (Ok c.near_cell.result) y) (sym is) found),
+      finds_name c.args.core.now c.args.regs.now (live_of a) q v c.in-Some.name.couple c.couple_at-c.result (Ok c.under_cell.result) e c.couple_at-c.ensures
+          (subst (λ (y : Answer (ℕ × ℕ)). FindsCell a q (Ok c.under_cell.result) y) (sym is) found),
     )
 
 pub returns-clause-inside : goal.returns-clause-inside
@@ -77,8 +111,8 @@ returns-clause-inside c = λ some.
     let q = a.task.place in
     let low : c.couple_at-c.result.level ≤ c.args.regs.now.level = omega (arith, c.if-c-regs.false) in
     let f = (frame_at (here a.member a.task q) c.couple_at-c.result.level).identity in
-    cell_inside c.args.core.now c.args.regs.now a q f c.couple_at-c.result.disp c.near_cell.result
-    (c.near_cell.ensures some (live_of a) q f (names_level c.args.core.now c.args.regs.now a q c.args.display.now shown c.couple_at-c.result low) (display_at c.args.core.now c.args.regs.now a q c.args.display.now shown c.couple_at-c.result low) (omega (arith, c.if-c-lt2.false)))
+    cell_inside c.args.core.now c.args.regs.now a q f c.couple_at-c.result.disp c.under_cell.result
+    (c.under_cell.ensures some (live_of a) q f (names_level c.args.core.now c.args.regs.now a q c.args.display.now shown c.couple_at-c.result low) (display_at c.args.core.now c.args.regs.now a q c.args.display.now shown c.couple_at-c.result low) (omega (arith, c.if-c-lt2.false)) (c.mark_over.ensures c.args.core.now a shown (omega (arith, c.if-c-lt2-2.false))))
 
 pub returns-clause-couple : goal.returns-clause-couple
 returns-clause-couple c = λ some. ap (λ (x : Tagged). x.tag) c.in-Some.ensures.some.1
