@@ -2,8 +2,8 @@
 //! followed to their ends.
 //!
 //! For all operators that follow a word: `cell_of`, `cell_at`, `chase`, `chase_from`, `element_of`, `owner`, `enclosure_of`;
-//! short ways: `near_place` (`names`), `near_end` (`leads`), `stuffed_operand`. For entries: `rebuild`, `rebuild_known`,
-//! `rebuild_entered`.
+//! short ways, which call nothing: `near_place` (`names`), `near_operand`, `near_end` and `mcp_end` (`leads`),
+//! `stuffed_operand`. For entries: `rebuild`, `rebuild_known`, `rebuild_entered`.
 //!
 //! Begin with `chase`, which follows a reference to its end.
 #![tactic(auto)]
