@@ -1,5 +1,6 @@
 pub mod Six
 pub mod NamesLaw
+pub mod Laid
 pub mod Taking
 pub mod Parts
 pub mod Program

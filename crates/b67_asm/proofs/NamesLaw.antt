@@ -92,9 +92,29 @@ grown old new d rest all step before q =
 
 -- ---- labels that ENTRY cards name
 
+pub or_false : (b : Bool) → b ≡ (b || false)
+or_false true = refl
+or_false false = refl
+
 or_assoc : (a b c : Bool) → ((a || b) || c) ≡ (a || (b || c))
 or_assoc true b c = refl
 or_assoc false b c = refl
+
+some_of_two : {X : Type 0} (a b : Option X) → is_some (option_or a b) ≡ (is_some a || is_some b)
+some_of_two None b = refl
+some_of_two (Some x) b = refl
+
+one_name : {X : Type 0} (q name : List ℕ) (v : X) → is_some (lookup (bytes_eq q) ((name, v) ∷ [])) ≡ bytes_eq q name
+one_name q name v = by_test (bytes_eq q name)
+  where
+    by_test : (b : Bool) → is_some (cond b (Some v) None) ≡ b
+    by_test true = refl
+    by_test false = refl
+
+-- one name more is there
+pub one_more : {X : Type 0} (old new : List (List ℕ × X)) (name : List ℕ) (v : X) (q : List ℕ) → lookup (bytes_eq q) new ≡ option_or (lookup (bytes_eq q) old) (lookup (bytes_eq q) ((name, v) ∷ [])) → is_some (lookup (bytes_eq q) new) ≡ (is_some (lookup (bytes_eq q) old) || bytes_eq q name)
+one_more old new name v q e =
+    ap is_some e ∙ some_of_two (lookup (bytes_eq q) old) (lookup (bytes_eq q) ((name, v) ∷ [])) ∙ ap (λ (b : Bool). is_some (lookup (bytes_eq q) old) || b) (one_name q name v)
 
 pub or_rest : (a b c now all : Bool) → now ≡ (a || b) → (a || (b || c)) ≡ all → (now || c) ≡ all
 or_rest a b c now all e h = ap (λ (x : Bool). x || c) e ∙ or_assoc a b c ∙ h

@@ -16,6 +16,15 @@ six_more (a ∷ b ∷ c ∷ d ∷ []) le = absurd (omega arith)
 six_more (a ∷ b ∷ c ∷ d ∷ e ∷ []) le = absurd (omega arith)
 six_more (a ∷ b ∷ c ∷ d ∷ e ∷ f ∷ more) le = refl
 
+pub no_six : (xs : List ℕ) → length xs < 6 → packed_words xs ≡ []
+no_six [] lt = refl
+no_six (a ∷ []) lt = refl
+no_six (a ∷ b ∷ []) lt = refl
+no_six (a ∷ b ∷ c ∷ []) lt = refl
+no_six (a ∷ b ∷ c ∷ d ∷ []) lt = refl
+no_six (a ∷ b ∷ c ∷ d ∷ e ∷ []) lt = refl
+no_six (a ∷ b ∷ c ∷ d ∷ e ∷ f ∷ more) lt = absurd (omega arith)
+
 pub next_word : (words : List Tagged) (w : Tagged) (rest all : List ℕ) (new : List Tagged) → 6 ≤ length rest → new ≡ words ++ w ∷ [] → w.bits ≡ ((((get_or rest 0 0 * 256 + get_or rest 1 0) * 256 + get_or rest 2 0) * 256 + get_or rest 3 0) * 256 + get_or rest 4 0) * 256 + get_or rest 5 0 → contents words ++ packed_words rest ≡ packed_words all → contents new ++ packed_words (take (length rest - 6) (drop 6 rest)) ≡ packed_words all
 next_word words w rest all new le grown bits h =
     let cut = ap packed_words (rest_is 6 rest) in

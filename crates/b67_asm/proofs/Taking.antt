@@ -1,5 +1,5 @@
 -- Definitions and labels, card by card.
-use Rattle.std.proofs.Common.{◌≡◌, ◌<◌, ◌≤◌, ◌+◌, ◌-◌, ◌*◌, ℕ, zero, suc, Bool, true, List, [], ◌∷◌, length, take, drop, get_or, ◌||◌, ◌&&◌, not, ◌++◌, Option, Result, Ok, Err, append_assoc, refl, sym, ap, subst, ◌∙◌, arith}
+use Rattle.std.proofs.Common.{◌≡◌, ◌<◌, ◌≤◌, ◌+◌, ◌-◌, ◌*◌, ℕ, zero, suc, Bool, true, false, List, [], ◌∷◌, length, take, drop, get_or, ◌||◌, ◌&&◌, not, ◌++◌, Option, Result, Ok, Err, append_assoc, refl, sym, ap, subst, ◌∙◌, arith}
 use Rattle.std.specs.Prelude.{slice_get, unwrap_or}
 use Rattle.std.proofs.Math.Seq.{drop-cons}
 use Rattle.std.proofs.lemmas.List.{append-nil, length-append}
@@ -58,6 +58,14 @@ begun (Ok (statements.Operator label own)) cards rest e = absurd (let z : ⊥ = 
 begun (Ok (statements.Entry label)) cards rest e = absurd (let z : ⊥ = cc in z)
 begun (Err reason) cards rest e = absurd (let z : ⊥ = cc in z)
 
+pub not_begun : (says : Answer statement.Statement) (cards : List Line) (rest : List (List Line)) → begins_segment says ≡ false → with_cards says cards rest ≡ rest
+not_begun (Ok (statements.Segment name level)) cards rest e = absurd (let z : ⊥ = cc in z)
+not_begun (Ok (statements.Row name)) cards rest e = refl
+not_begun (Ok (statements.Values first more)) cards rest e = refl
+not_begun (Ok (statements.Operator label own)) cards rest e = refl
+not_begun (Ok (statements.Entry label)) cards rest e = refl
+not_begun (Err reason) cards rest e = refl
+
 -- the labels of the first segments are held, and with the others they are all
 abbrev pub HeldSoFar : List Labels → (rest all : List Line) → Type 0
 HeldSoFar held rest all = (done : List (List Line)) × HoldLabels held done × (done ++ cards_of_segments rest ≡ cards_of_segments all)
@@ -73,6 +81,9 @@ one_held_behind held now labels (l ∷ more) all item lines some is o begins one
     let cut : take (length (l ∷ more) - 1) more ≡ more = rest_is 1 (l ∷ more) in
     subst (λ (ls : List Line). HeldSoFar now ls all) (sym cut)
     (one_held held now labels l more all h (ap (λ (x : Line). begins_segment x.says) (sym is) ∙ begins) (subst (HoldsLabels labels) (o ∙ ap own cut) one) grown)
+
+pub none_held : (held : List Labels) (l : Line) (more all : List Line) → HeldSoFar held (l ∷ more) all → begins_segment l.says ≡ false → HeldSoFar held more all
+none_held held l more all h begins = (h.0, h.1, ap (λ (rest : List (List Line)). h.0 ++ rest) (sym (not_begun l.says (own more) (cards_of_segments more) begins)) ∙ h.2)
 
 -- a label's syllable is that of the segment's own cards
 pub syllable_is : (held : List Labels) (cards : List (List Line)) (n : ℕ) (q : List ℕ) → HoldLabels held cards → label_syllable (slice_get held n) q ≡ meaning (labels 0 (unwrap_or (slice_get cards n) [])) q
