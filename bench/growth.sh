@@ -1,8 +1,7 @@
 #!/bin/sh
 # What an operator, a call or a store costs as something grows, in instructions counted by valgrind: the displacement of a cell,
 # also of a parent's that a child uses, the level of a call, the tasks that are ready, and areas that nobody uses any more. Each figure
-# is the difference of two runs
-# of a loop, so what a run costs before the loop isn't in it. Takes the built program's path (default crates/b67/out/b67):
+# is the difference of two runs of a loop, so what a run costs before the loop isn't in it. Takes the built program's path (default crates/b67/out/b67):
 # `sh bench/growth.sh [PROGRAM]`. It wants valgrind, and takes some minutes.
 set -eu
 here=$(cd "$(dirname "$0")" && pwd)

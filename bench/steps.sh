@@ -44,9 +44,6 @@ done
 for deck in sieve outer-cells outer-arrays quicksort small-arrays intrinsic hand-over prints; do
     row $deck "$here/$deck.deck" 8192
 done
-for deck in sieve outer-cells outer-arrays quicksort small-arrays intrinsic hand-over prints; do
-    row $deck "$here/$deck.deck" 8192
-done
 # each operator is a turn of its own
 for deck in count calls; do
     sed 's/^?JOB/?QUANTUM 1\n?JOB/' "$here/$deck.deck" >"$room/turns"
