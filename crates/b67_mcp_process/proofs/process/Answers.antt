@@ -33,10 +33,10 @@ answer-requires-clause-call g c =
     let q = k.runs in
     record { runs = q; may = (c.in-Ok.ensures q.storage q.plan q.session q.member q.task q.ordered q.stands.session q.running k.reference k.arguments k.call).may }
 
-pub returns-then-live-ge15-clause-row : goal.returns-then-live-ge15-clause-row
-returns-then-live-ge15-clause-row g c = λ x told plan s m t o h runs r arguments call.
+pub returns-then-live-ge-MOST_TASKS-clause-row : goal.returns-then-live-ge-MOST_TASKS-clause-row
+returns-then-live-ge-MOST_TASKS-clause-row g c = λ x told plan s m t o h runs r arguments call.
     (let a = c.in-Ok.ensures x plan s m t o h.session runs r arguments call in
-    let many : 15 ≤ length m.progress.job.tasks = omega (arith, c.if-live-ge15.true, c.tasks_of_job-live.ensures x told plan s m t o h runs) in (
+    let many : 15 ≤ length m.progress.job.tasks = omega (arith, c.if-live-ge-MOST_TASKS.true, c.tasks_of_job-live.ensures x told plan s m t o h runs) in (
       record {
         meets = λ says.
             answered_none plan m t arguments c.in-Ok.asked.cell c.in-Ok.asked.count a many c.args.next x told _ s o c.answer.new.machine (content_same told (g.B.Backing.holds c.args.backing.now) says)
@@ -46,8 +46,8 @@ returns-then-live-ge15-clause-row g c = λ x told plan s m t o h runs r argument
       λ w. absurd (starts_none plan m t arguments c.in-Ok.asked.cell c.in-Ok.asked.count a many c.args.next w),
     ))
 
-pub returns-then-live-ge15-clause-device : goal.returns-then-live-ge15-clause-device
-returns-then-live-ge15-clause-device g c = record { calls = Served-none g.B.Backing.holds g.B.Backing.size g.B.Backing.calls g.B.Backing.faults c.args.backing.now; cause = λ e. absurd (let b : ⊥ = cc in b) }
+pub returns-then-live-ge-MOST_TASKS-clause-device : goal.returns-then-live-ge-MOST_TASKS-clause-device
+returns-then-live-ge-MOST_TASKS-clause-device g c = record { calls = Served-none g.B.Backing.holds g.B.Backing.size g.B.Backing.calls g.B.Backing.faults c.args.backing.now; cause = λ e. absurd (let b : ⊥ = cc in b) }
 
 pub start_asked-requires-clause-call : goal.start_asked-requires-clause-call
 start_asked-requires-clause-call g c =
@@ -57,13 +57,13 @@ start_asked-requires-clause-call g c =
       runs = q;
       arguments = k.arguments;
       asks = c.in-Ok.ensures q.storage q.plan q.session q.member q.task q.ordered q.stands.session q.running k.reference k.arguments k.call;
-      few = omega (arith, c.if-live-ge15.false, c.tasks_of_job-live.ensures q.storage q.told q.plan q.session q.member q.task q.ordered q.stands q.running);
+      few = omega (arith, c.if-live-ge-MOST_TASKS.false, c.tasks_of_job-live.ensures q.storage q.told q.plan q.session q.member q.task q.ordered q.stands q.running);
       place = c.requires.place;
     }
 
 pub returns-clause-row : goal.returns-clause-row
 returns-clause-row g c = λ x told plan s m t o h runs r arguments call. (
   c.start_asked.ensures.row x told plan s m t o h runs arguments (c.in-Ok.ensures x plan s m t o h.session runs r arguments call)
-      (omega (arith, c.if-live-ge15.false, c.tasks_of_job-live.ensures x told plan s m t o h runs)),
+      (omega (arith, c.if-live-ge-MOST_TASKS.false, c.tasks_of_job-live.ensures x told plan s m t o h runs)),
   c.start_asked.ensures.fits x told plan s m t o h runs arguments,
 )
