@@ -13,8 +13,8 @@ use Rattle.b67_exec_cells.specs.Tops.{StaysInSegment}
 use Rattle.b67_exec.specs.Operators.{CutsRecord}
 use Rattle.b67_exec.specs.Near.{SaysDone}
 use Rattle.b67_exec.specs.Far.{RowAnswers, RowMade, RowRefused, MadeOn, MadeAway, MadeWent, MadeLeaving, SaysOn, SaysAway, SaysMade, ShortlyOn, ShortlyAway, OnShortly, AwayShortly, WentShortly, LeavesShortly}
-use Rattle.b67_exec.specs.declared.far.Went.{Went}
-use Rattle.b67_exec.specs.declared.far.Went.TheVariants as wents
+use Rattle.b67_exec.specs.declared.apart.Went.{Went}
+use Rattle.b67_exec.specs.declared.apart.Went.TheVariants as wents
 use Rattle.b67_exec.proofs.Nears.{unmade}
 
 module _ (op : Op) (next : Place) (old new : Cpu) (r : RunsSome old) where

@@ -19,10 +19,10 @@ use Rattle.b67_exec_cells.proofs.Put.{room}
 use Rattle.b67_layout_step.specs.Keeping.{is_leaving}
 use Rattle.b67_exec.specs.Operators.{is_on_top, goes_behind, may_enter, leaves_record}
 use Rattle.b67_exec.specs.declared.reader.Reader.{Reader}
-use Rattle.b67_exec.specs.declared.far.Went.{Went}
-use Rattle.b67_exec.specs.declared.far.Went.TheVariants as wents
-use Rattle.b67_exec.specs.declared.near.Made.{Made}
-use Rattle.b67_exec.specs.declared.near.Made.TheVariants as outcome
+use Rattle.b67_exec.specs.declared.apart.Went.{Went}
+use Rattle.b67_exec.specs.declared.apart.Went.TheVariants as wents
+use Rattle.b67_exec.specs.declared.arms.Made.{Made}
+use Rattle.b67_exec.specs.declared.arms.Made.TheVariants as outcome
 use Rattle.b67_exec.specs.Near.{HoldsCode, ReaderBehind, reader_place, NearMade, MadeNear, FarMade, Makes, StopsHere, outcome_of}
 use Rattle.b67_exec.specs.Far.{RowMade, RowRefused, MadeOn, MadeAway, MadeWent, MadeLeaving, LeavesBy, LeadsTo}
 use Rattle.b67_exec.proofs.Readings.{read_fits, operator_read}

@@ -11,10 +11,10 @@ use Rattle.b67_exec_cells.specs.Tops.{StaysInSegment}
 use Rattle.b67_entry.specs.Procedures.{CallsOrMeets}
 use Rattle.b67_exec.specs.Operators.{CutsRecord}
 use Rattle.b67_exec.specs.declared.reader.Reader.{Reader}
-use Rattle.b67_exec.specs.declared.far.Went.{Went}
-use Rattle.b67_exec.specs.declared.far.Went.TheVariants as went
-use Rattle.b67_exec.specs.declared.near.Made.{Made}
-use Rattle.b67_exec.specs.declared.near.Made.TheVariants as outcome
+use Rattle.b67_exec.specs.declared.apart.Went.{Went}
+use Rattle.b67_exec.specs.declared.apart.Went.TheVariants as went
+use Rattle.b67_exec.specs.declared.arms.Made.{Made}
+use Rattle.b67_exec.specs.declared.arms.Made.TheVariants as outcome
 
 -- what a step answers is the operator's row, at such a place behind it
 abbrev pub RowAnswers : Op → Place → Cpu → Cpu → Step → Type 0

@@ -17,8 +17,8 @@ use Rattle.b67_layout.specs.Meets.{ForEach}
 use Rattle.b67_exec_cells.specs.Running.{GivesSegment}
 use Rattle.b67_exec.specs.Operators.{is_quick, OperatorMeets, leaves_record, CutsRecord}
 use Rattle.b67_exec.specs.declared.reader.Reader.{Reader}
-use Rattle.b67_exec.specs.declared.near.Made.{Made}
-use Rattle.b67_exec.specs.declared.near.Made.TheVariants as outcome
+use Rattle.b67_exec.specs.declared.arms.Made.{Made}
+use Rattle.b67_exec.specs.declared.arms.Made.TheVariants as outcome
 
 -- the running segment is present, and this is its descriptor
 abbrev pub HoldsCode : Cpu → SegDesc → Type 0

@@ -6,16 +6,16 @@
 //! Begin with `operate`: its arms are by the first syllable.
 #![tactic(auto)]
 
-mod assigning;
-mod evaluating;
-mod far;
+mod apart;
+mod arms;
+mod entering;
+mod entering_under;
 mod firsts;
-mod near;
 mod operators;
-mod own;
 mod reader;
+mod short_ways;
 
-pub use far::Went;
-pub use near::{Made, operate};
+pub use apart::Went;
+pub use arms::{Made, operate};
 pub use operators::operator;
 pub use reader::{Reader, reader_here};

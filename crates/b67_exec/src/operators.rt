@@ -11,8 +11,8 @@ ghost use Rattle.b67_entry.specs.Procedures.{CallsOrMeets};
 ghost use Rattle.b67_exec.specs.Operators.{ParametersHaveBits, is_on_top, is_read_whole, ReadsWhole, OperatorMeets};
 ghost use Rattle.b67_exec.specs.Near.{MadeOrNot};
 
-use crate::far::is_done;
-use crate::near::{Made, operate};
+use crate::apart::is_done;
+use crate::arms::{Made, operate};
 use crate::reader::reader_here;
 use b67_exec_cells::{
     Binary, Unary, branch_if, branch_to, on_one, on_two, present_segment, read_in,

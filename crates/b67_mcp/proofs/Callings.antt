@@ -13,7 +13,7 @@ use Rattle.b67_layout.specs.Meets.{here}
 use Rattle.b67_mcp_calls.specs.Calls.{IsCall, CallSome}
 use Rattle.b67_task_tables.specs.declared.tables.Machine.{Machine}
 use Rattle.b67_mcp.specs.Called.{CallsSome}
-use Rattle.b67_mcp.specs.Running.{ReadsOperator}
+use Rattle.b67_mcp.specs.Running.{StandsAtEntr}
 
 -- the call, and the row of the operator
 pub record Calling (m : SessionJob) (t : Task) (n : ℕ) : Type 0 where
@@ -86,10 +86,10 @@ pub calling : (m : SessionJob) (t : Task) (n : ℕ) → called_in m t ≡ Some n
 calling m t n c = by_reading m t n (reading_of m.constants t) refl c
 
 -- what a function that calls another asks of the machine
-abbrev pub reads_of : (k : Machine) (n : ℕ) → CallsSome k n → ReadsOperator k
+abbrev pub reads_of : (k : Machine) (n : ℕ) → CallsSome k n → StandsAtEntr k
 reads_of k n q =
     let c = calling q.runs.member q.runs.task n q.called in
-    record { runs = q.runs; code = q.code; next = c.next; behind = (Plain Entr, c.reading) }
+    record { runs = q.runs; code = q.code; next = c.next; behind = c.reading }
 
 abbrev pub call_some : (k : Machine) (n : ℕ) → CallsSome k n → CallSome k.cpu
 call_some k n q =

@@ -1,26 +1,16 @@
 -- The whole machine without a call, for the session without it.
-use Rattle.std.proofs.Common.{◌≡◌, ℕ, List, [], map, Option, refl, sym, ◌∙◌, ap, Ok, Err, subst}
+use Rattle.std.proofs.Common.{◌≡◌, ℕ, List, [], map, Option, refl, sym, subst}
 use Rattle.b67_word.specs.Tagged.{Tagged}
 use Rattle.b67_word.specs.declared.couples.Place.{Place}
-use Rattle.b67_model.specs.Common.{Task, SessionJob, Reading, answered, Session}
+use Rattle.b67_model.specs.Common.{Task, SessionJob, answered, Session}
 use Rattle.b67_layout.specs.Common.{IsInOrderButCounts, Placement, IsRunning, RepresentsStorage, here, with_job}
 use Rattle.b67_stack.specs.Represents.{Storage}
 use Rattle.b67_mcp_calls.specs.Calls.{MayCut, job_cut}
 use Rattle.b67_task_tables.specs.declared.tables.Machine.{Machine}
 use Rattle.b67_task_tables.specs.declared.tables.Tasks.{Tasks}
 use Rattle.b67_task_tables.specs.Tables.{task_row, job_row, counts_of, TasksShow}
-use Rattle.b67_mcp.specs.Running.{IsBehind}
 use Rattle.b67_mcp.proofs.Tables.{jobs_kept, tables_after}
 use Rattle.b67_mcp.proofs.Frames.{replaces_cut, waits_cut}
-
--- one operator is read, and one place is behind it
-pub one_behind : (m : SessionJob) (t : Task) (p q : Place) → IsBehind m t p → IsBehind m t q → p ≡ q
-one_behind m t p q (a, e) (b, f) =
-    let same : ◌≡◌ {A = Reading} (Ok (a, p)) (Ok (b, q)) = sym e ∙ f in ap place_in same
-  where
-    place_in : Reading → Place
-    place_in (Ok read) = read.1
-    place_in (Err why) = p
 
 module _ (plan : Placement) (s : Session) (m : SessionJob) (t : Task) (o : IsInOrderButCounts s) (runs : IsRunning plan s.jobs m t) (may : MayCut m t) (q : Place) where
   pub tables_cut : (tasks : Tasks) → TasksShow plan s tasks → TasksShow plan (with_job s m (job_cut m t q)) tasks

@@ -1,7 +1,8 @@
 -- The operator that the running task makes, over the whole machine, and what a call keeps of the machine.
 use Rattle.std.specs.Prelude.{◌≡◌, ◌≢◌, ℕ, ◌≤◌, List, Option, Some, None, Result, Ok, Err}
 use Rattle.b67_word.specs.declared.couples.Place.{Place}
-use Rattle.b67_model.specs.declared.operators.Op.{Op}
+use Rattle.b67_model.specs.declared.operators.Op.TheVariants.{Plain}
+use Rattle.b67_model.specs.declared.operators.Code.TheVariants.{Entr}
 use Rattle.b67_model.specs.Common.{Task, SessionJob, reading_of, Session}
 use Rattle.b67_stack.specs.Represents.{Storage}
 use Rattle.b67_layout.specs.Placement.{Placement}
@@ -26,12 +27,12 @@ ForRuns k P = ForEachRun k (λ x told plan s m t. code_area x plan m t ≢ None 
 abbrev pub ForCalls : Machine → ℕ → (Storage → Option (List (List ℕ)) → Placement → Session → SessionJob → Task → Type 0) → Type 0
 ForCalls k n P = ForRuns k (λ x told plan s m t. called_in m t ≡ Some n → P x told plan s m t)
 
--- an operator is read at the running place, and this is the place behind it
+-- ENTR stands at the running place, and this is the place behind it
 abbrev pub IsBehind : SessionJob → Task → Place → Type 0
-IsBehind m t next = (op : Op) × (reading_of m.constants t ≡ Ok (op, next))
+IsBehind m t next = reading_of m.constants t ≡ Ok (Plain Entr, next)
 
--- the machine represents some session in order, and an operator is read at its running place
-pub record ReadsOperator (k : Machine) : Type 0 where
+-- the machine represents some session in order, and ENTR stands at its running place
+pub record StandsAtEntr (k : Machine) : Type 0 where
   pub runs : RunsTask k
   pub code : code_area runs.storage runs.plan runs.member runs.task ≢ None
   pub next : Place
@@ -39,7 +40,7 @@ pub record ReadsOperator (k : Machine) : Type 0 where
 
 -- and its top activation record is a call that may be cut
 pub record CutsSome (k : Machine) : Type 0 where
-  pub reads : ReadsOperator k
+  pub reads : StandsAtEntr k
   pub may : MayCut reads.runs.member reads.runs.task
 
 -- the jobs' rows have room: numbers that are told stay within their types, and each job's next task can be numbered

@@ -7,7 +7,7 @@ ghost use Rattle.b67_session_lines.specs.Parts.{TookRest, TookMore};
 ghost use Rattle.b67_model.specs.Steps.{Value};
 ghost use Rattle.b67_mcp.specs.declared.ends.Stop.TheVariants.{BackingFault};
 ghost use Rattle.b67_mcp.specs.Called.{printed_text, CallsSome, CallMeets, CallTouches, ChangesStack};
-ghost use Rattle.b67_mcp.specs.Running.{ForRuns, ForCalls, ReadsOperator, Keeps, IsHeard};
+ghost use Rattle.b67_mcp.specs.Running.{ForRuns, ForCalls, StandsAtEntr, Keeps, IsHeard};
 
 use crate::running::{cut, running_row};
 use crate::{CallEnd, Stop};
@@ -25,7 +25,7 @@ fn say_value<K: Sink>(
     printed: &mut u64,
     paper: &mut K,
 ) -> Result<(), Failed>
-    requires { ReadsOperator machine.now }
+    requires { StandsAtEntr machine.now }
     ensures whole { OnOk result (ForRuns machine.now (λ x told plan s m t. TookRest K.taken paper.old paper.new (printed_text m t (Value value ∷ [])) printed.old)) }
     ensures part { OnErr result (ForRuns machine.now (λ x told plan s m t. TookMore K.taken paper.old paper.new (printed_text m t (Value value ∷ [])) printed.old printed.new)) }
     ensures cause { HasCause K.faults paper.old paper.new result }

@@ -8,7 +8,7 @@ ghost use Rattle.b67_model.specs.Steps.{Values};
 ghost use Rattle.b67_mcp_calls.specs.Texts.{values_of};
 ghost use Rattle.b67_mcp.specs.declared.ends.Stop.TheVariants.{BackingFault};
 ghost use Rattle.b67_mcp.specs.Called.{printed_text, CallsSome, CallMeets, CallTouches, ChangesStack};
-ghost use Rattle.b67_mcp.specs.Running.{ForRuns, ForCalls, ReadsOperator, Keeps, IsHeard};
+ghost use Rattle.b67_mcp.specs.Running.{ForRuns, ForCalls, StandsAtEntr, Keeps, IsHeard};
 
 use crate::running::{cut, running_row};
 use crate::{CallEnd, Stop};
@@ -27,7 +27,7 @@ fn say_words<K: Sink>(
     printed: &mut u64,
     paper: &mut K,
 ) -> Result<(), Failed>
-    requires reads { ReadsOperator machine.now }
+    requires reads { StandsAtEntr machine.now }
     requires inside { at + count ≤ length machine.now.cpu.core }
     requires whole { (values : List ℤ) × (values_of (slice_range machine.now.cpu.core at (at + count)) ≡ Some values) }
     ensures whole { OnOk result (ForRuns machine.now (λ x told plan s m t. (values : List ℤ) → values_of (slice_range machine.now.cpu.core at (at + count)) ≡ Some values

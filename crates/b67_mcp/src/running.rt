@@ -1,37 +1,50 @@
 //! The running task, and the operator at which it stands.
 
-ghost use Rattle.std.specs.Prelude.{◌≡◌};
+ghost use Rattle.std.specs.Prelude.{◌≡◌, ◌+◌, ◌^◌, ◌<◌};
+ghost use Rattle.b67_model.specs.Operators.{count_at};
 ghost use Rattle.b67_ctl.specs.Layout.{IsPlace};
 ghost use Rattle.b67_layout.specs.Meets.{with_job};
 ghost use Rattle.b67_mcp_calls.specs.Calls.{MayCut, job_cut};
 ghost use Rattle.b67_word.specs.declared.couples.Place.{Place};
 ghost use Rattle.b67_task_tables.specs.Tables.{MachineRepresents};
 ghost use Rattle.b67_mcp.specs.Called.{ChangesStack};
-ghost use Rattle.b67_mcp.specs.Running.{ForRuns, IsBehind, ReadsOperator, CutsSome, Keeps};
+ghost use Rattle.b67_mcp.specs.Running.{ForRuns, IsBehind, StandsAtEntr, CutsSome, Keeps};
 
-use b67_exec_cells::reading;
 use b67_mcp_calls::cut_call;
 use b67_task_tables::{Machine, TaskRow};
 use b67_word::Place;
 
-/// The place behind the operator at the running place.
-pub(crate) fn next_place(machine: &Machine) -> Place
-    requires { ReadsOperator machine.now }
-    ensures place { IsPlace result }
-    ensures behind { ForRuns machine.now (λ x told plan s m t. IsBehind m t result) }
+/// The place one syllable behind another.
+fn one_behind(at: Place) -> Place
+    requires in_word { at.syllable < 6 }
+    requires fits { at.word < 2 ^ 13 }
+    ensures in_word { result.syllable < 6 }
+    ensures count { count_at result ≡ count_at at + 1 }
 {
-    match reading(&machine.cpu) {
-        Some(read) => match read {
-            Ok((_, next)) => next,
-            Err(_) => unreachable!(),
-        },
-        None => unreachable!(),
+    if at.syllable == 5 {
+        return Place {
+            word: at.word + 1,
+            syllable: 0,
+        };
     }
+    Place {
+        word: at.word,
+        syllable: at.syllable + 1,
+    }
+}
+
+/// The place behind the operator at the running place, which is ENTR: it takes one syllable, so none is read again.
+pub(crate) fn next_place(machine: &Machine) -> Place
+    requires { StandsAtEntr machine.now }
+    ensures place { IsPlace result }
+    ensures behind { ForRuns machine.now (λ x told plan s m t. (next : Place) → IsBehind m t next → result ≡ next) }
+{
+    one_behind(machine.cpu.regs.place)
 }
 
 /// The running task's entry in the table of tasks.
 pub(crate) fn running_row(machine: &Machine) -> TaskRow
-    requires { ReadsOperator machine.now }
+    requires { StandsAtEntr machine.now }
     ensures job { ForRuns machine.now (λ x told plan s m t. result.job ≡ m.constants.number) }
     ensures number { ForRuns machine.now (λ x told plan s m t. result.number ≡ t.number) }
 {

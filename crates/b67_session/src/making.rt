@@ -3,7 +3,7 @@
 ghost use Rattle.std.specs.Prelude.{◌≡◌, ◌≢◌};
 ghost use Rattle.b67_stack.specs.declared.Step.TheVariants.{Done};
 ghost use Rattle.b67_exec.specs.Near.{ReaderBehind, StopsHere};
-ghost use Rattle.b67_exec.specs.declared.far.Went.TheVariants.{On, Not};
+ghost use Rattle.b67_exec.specs.declared.apart.Went.TheVariants.{On, Not};
 ghost use Rattle.b67_task_tables.specs.Runs.{RunsTask, Keeps};
 ghost use Rattle.b67_session.specs.Makes.{MakesInSegment, ForEachReady};
 

@@ -2,8 +2,6 @@ use Rattle.std.proofs.Common.{List, length, refl, sym, ap, ◌∙◌, subst}
 use Rattle.std.proofs.lemmas.Result.{err_from_is_err_and}
 use Rattle.b67_word.specs.Tagged.{Tagged}
 use Rattle.b67_word.specs.declared.couples.Place.{Place}
-use Rattle.b67_model.specs.declared.operators.Op.TheVariants.{Plain}
-use Rattle.b67_model.specs.declared.operators.Code.TheVariants.{Entr}
 use Rattle.b67_model.specs.Common.{with_array, all_zero, SessionJob}
 use Rattle.b67_layout.specs.Common.{array_object, machine_view, with_job}
 use Rattle.b67_mcp_calls.specs.Lengthening.{job_emptied}
@@ -14,7 +12,6 @@ use Rattle.b67_mcp.specs.Called.{is_emptied}
 use Rattle.b67_task_tables.specs.declared.tables.Machine.{Machine}
 use Rattle.b67_task_tables.specs.Tables.{MachineRepresents}
 use Rattle.b67_mcp.proofs.Callings.{calling, reads_of, call_some}
-use Rattle.b67_mcp.proofs.Cut.{one_behind}
 use Rattle.b67_mcp.proofs.Cutting.{zeros_fit, order_changed, runs_changed, may_changed, cuts, stands_cut}
 use Rattle.b67_mcp.proofs.Renumbered.{seen}
 use Rattle.b67_mcp.proofs.Lengthened.{zeros_renumber, is_array, objects_zeroed, zero_place, stands_emptied}
@@ -84,7 +81,7 @@ returns-clause-row c = λ x told plan s m t o h runs code called.
     let may1 = may_changed plan s m t o runs a.identity all_zero zeros_renumber zeros_fit r.may y told mid stands in
     let m1 : SessionJob = record m { progress = record m.progress { job = with_array m.progress.job a.identity all_zero } } in
     let q = c.next_place-next.result in
-    let same = one_behind m t q k.next (c.next_place-next.ensures.behind x told plan s m t o h runs code) (Plain Entr, k.reading) in
+    let same = c.next_place-next.ensures.behind x told plan s m t o h runs code k.next k.reading in
     let new : Machine = record mid { cpu = c.cut_call.new.cpu } in
     let P : Place → Type 0 = λ z. MachineRepresents y told new plan (with_job s m (job_emptied m t a.identity z)) in (
       record {

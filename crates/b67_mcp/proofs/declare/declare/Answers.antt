@@ -2,8 +2,6 @@ use Rattle.std.proofs.Common.{◌≡◌, ℕ, refl, sym, ◌∙◌, subst}
 use Rattle.std.proofs.lemmas.Result.{err_from_is_err_and}
 use Rattle.b67_word.specs.declared.couples.Place.{Place}
 use Rattle.b67_layout.specs.Meets.{with_job}
-use Rattle.b67_model.specs.declared.operators.Op.TheVariants.{Plain}
-use Rattle.b67_model.specs.declared.operators.Code.TheVariants.{Entr}
 use Rattle.b67_mcp_calls.specs.Declaring.{job_declared, with_home, storage_without}
 use Rattle.std.proofs.lemmas.Bool.{eq-eqb}
 use Rattle.b67_layout.specs.Placement.{Placement}
@@ -13,7 +11,6 @@ use Rattle.b67_mcp.specs.Called.{is_new}
 use Rattle.b67_task_tables.specs.declared.tables.Machine.{Machine}
 use Rattle.b67_task_tables.specs.Tables.{MachineRepresents}
 use Rattle.b67_mcp.proofs.Callings.{calling, reads_of, call_some}
-use Rattle.b67_mcp.proofs.Cut.{one_behind}
 use Rattle.b67_mcp.proofs.Sizes.{same_size}
 use Rattle.b67_mcp.proofs.Answered.{tables_declared}
 use Rattle.b67_mcp.proofs.declare.declare.Goals as goal
@@ -63,7 +60,7 @@ returns-clause-row c = λ x told plan s m t o h runs code called.
     let r = c.in_ok-length.ensures.row x plan s m t o h.session runs k.reference k.arguments k.call in
     let q = c.next_place-next.result in
     let there = with_home plan m.constants.number m.progress.job.next_array cpu.regs.s in
-    let same = one_behind m t q k.next (c.next_place-next.ensures.behind x told plan s m t o h runs code) (Plain Entr, k.reading) in
+    let same = c.next_place-next.ensures.behind x told plan s m t o h runs code k.next k.reading in
     let session = c.answer_array.ensures.stands x plan s m t o h.session runs r.2 in
     let size = same_size x (storage_without x cpu.regs.s) old.cpu cpu plan there s (with_job s m (job_declared m t n q)) h.session session refl refl in
     let P : Place → Type 0 = λ p. MachineRepresents (storage_without x cpu.regs.s) told new there (with_job s m (job_declared m t n p)) in (

@@ -2,8 +2,6 @@ use Rattle.std.proofs.Common.{inl, ℤ, refl, ◌∙◌, [], ◌∷◌, None, su
 use Rattle.std.proofs.lemmas.Int.{to_z-of_z}
 use Rattle.b67_session_lines.specs.Parts.{TookRest, TookMore}
 use Rattle.b67_mcp.specs.Called.{printed_text}
-use Rattle.b67_model.specs.declared.operators.Op.TheVariants.{Plain}
-use Rattle.b67_model.specs.declared.operators.Code.TheVariants.{Entr}
 use Rattle.b67_model.specs.Steps.{Value}
 use Rattle.b67_mcp_calls.specs.Calls.{job_cut}
 use Rattle.b67_mcp.proofs.Callings.{calling, reads_of, call_some}
@@ -49,7 +47,7 @@ returns-in-Ok-say_value-clause-row g c = λ x told plan s m t o h runs code call
         storage = x;
         plan = plan;
         stands = stands_peak x told c.cut.new.machine plan s m (job_cut m t k.next) o.peak_low (as_many m t 9 k (inl (omega arith)) (job_cut m t k.next) (Value c.in-Ok.value ∷ []) None (k.is ∙ r.0 k.next))
-            (c.cut.ensures.stands x told plan s m t o h runs code r.1 k.next (Plain Entr, k.reading));
+            (c.cut.ensures.stands x told plan s m t o h runs code r.1 k.next k.reading);
         text = subst (λ (v : ℤ). TookRest g.K.Sink.taken c.args.paper.now c.say_value.new.paper (printed_text m t (Value v ∷ [])) c.args.machine.now.tasks.printed) (to_z-of_z w64 c.in-Ok.value f) (c.in-Ok-say_value.ensures.whole x told plan s m t o h runs code);
         reset = c.cut.ensures.printed;
       },

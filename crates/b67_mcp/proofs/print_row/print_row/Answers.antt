@@ -1,6 +1,4 @@
 use Rattle.std.proofs.Common.{inl, [], ◌∷◌, Some, Ok, refl, ◌∙◌, ap, subst, arith}
-use Rattle.b67_model.specs.declared.operators.Op.TheVariants.{Plain}
-use Rattle.b67_model.specs.declared.operators.Code.TheVariants.{Entr}
 use Rattle.b67_model.specs.Steps.{Values, Goes}
 use Rattle.b67_stack.specs.declared.What.TheVariants as what
 use Rattle.b67_mcp_calls.specs.Calls.{job_cut}
@@ -67,7 +65,7 @@ returns-in-Ok-say_words-clause-row g c = λ x told plan s m t o h runs code call
         storage = x;
         plan = plan;
         stands = stands_peak x told c.cut.new.machine plan s m (job_cut m t k.next) o.peak_low (as_many m t 10 k (inl (omega arith)) (job_cut m t k.next) (Values row.values ∷ []) (Some row.array) (k.is ∙ row.makes k.next))
-            (c.cut.ensures.stands x told plan s m t o h runs code row.may k.next (Plain Entr, k.reading));
+            (c.cut.ensures.stands x told plan s m t o h runs code row.may k.next k.reading);
         text = c.in-Ok-say_words.ensures.whole x told plan s m t o h runs code row.values row.lies;
         reset = c.cut.ensures.printed;
       },

@@ -1,7 +1,5 @@
 use Rattle.std.proofs.Common.{◌≡◌, None, Ok, Err, length, sym, ◌∙◌, ap, subst}
 use Rattle.b67_word.specs.declared.couples.Place.{Place}
-use Rattle.b67_model.specs.declared.operators.Op.TheVariants.{Plain}
-use Rattle.b67_model.specs.declared.operators.Code.TheVariants.{Entr}
 use Rattle.b67_layout_storage.specs.Machine.{content_after}
 use Rattle.b67_layout_storage.proofs.Untold.{untold}
 use Rattle.b67_mcp_process.specs.Process.{ProcessMeets, ProcessWrites, ProcessFits}
@@ -10,7 +8,6 @@ use Rattle.b67_mcp.specs.declared.ends.Stop.TheVariants.{BackingFault, PrintFaul
 use Rattle.b67_mcp.specs.Called.{CallTouches, CallWrites, CallFits}
 use Rattle.b67_mcp.specs.Answers.{SilentMeets}
 use Rattle.b67_mcp.proofs.Callings.{calling, reads_of}
-use Rattle.b67_mcp.proofs.Cut.{one_behind}
 use Rattle.b67_mcp.proofs.Renumbered.{stands_silent}
 use Rattle.b67_mcp.proofs.Starting.{process_meets, process_stops, process_stands, process_touches, stops_touch, process_fits, stops_fit, process_writes, stops_write, stop_faults, stop_silent}
 use Rattle.b67_mcp.proofs.process.start.Goals as goal
@@ -39,7 +36,7 @@ returns-in-Ok-clause-row g c = λ x told plan s m t o h runs code called says.
     let d = content_after told (B.holds c.process.new.backing) in
     let old = c.args.machine.now in
     let new = c.process.new.machine in
-    let same = one_behind m t c.next_place-next.result k.next (c.next_place-next.ensures.behind x told plan s m t o h runs code) (Plain Entr, k.reading) in
+    let same = c.next_place-next.ensures.behind x told plan s m t o h runs code k.next k.reading in
     let R : Place → Type 0 = λ z. ProcessMeets d plan s m t z k.arguments (Ok c.in-Ok.done) old new in
     let row = subst R same ((c.in-Ok.ensures.row x told plan s m t o h runs k.reference k.arguments k.call).0.meets says) in
     let S : CallEnd → Type 0 = λ e. SilentMeets x d (B.size c.args.backing.now) plan s m t (Ok e) old new in
@@ -52,7 +49,7 @@ returns-in-Ok-clause-reaches g c = λ x told plan s m t o h runs code called.
     let d = content_after None (B.holds c.process.new.backing) in
     let old = c.args.machine.now in
     let new = c.process.new.machine in
-    let same = one_behind m t c.next_place-next.result k.next (c.next_place-next.ensures.behind x told plan s m t o h runs code) (Plain Entr, k.reading) in
+    let same = c.next_place-next.ensures.behind x told plan s m t o h runs code k.next k.reading in
     let R : Place → Type 0 = λ z. ProcessMeets d plan s m t z k.arguments (Ok c.in-Ok.done) old new in
     let F : Place → Type 0 = λ z. ProcessFits (length old.cpu.core) s m t z k.arguments (Ok c.in-Ok.done) in
     let row = subst R same ((c.in-Ok.ensures.row (untold x) None plan s m t o (stands_silent x told old plan s h) runs k.reference k.arguments k.call).0.meets tt) in
@@ -74,7 +71,7 @@ returns-in-Err-clause-row g c = λ x told plan s m t o h runs code called says.
     let d = content_after told (B.holds c.process.new.backing) in
     let old = c.args.machine.now in
     let new = c.process.new.machine in
-    let same = one_behind m t c.next_place-next.result k.next (c.next_place-next.ensures.behind x told plan s m t o h runs code) (Plain Entr, k.reading) in
+    let same = c.next_place-next.ensures.behind x told plan s m t o h runs code k.next k.reading in
     let R : Place → Type 0 = λ z. ProcessMeets d plan s m t z k.arguments (Err c.in-Err.fault) old new in
     let row = subst R same ((c.in-Err.ensures.row x told plan s m t o h runs k.reference k.arguments k.call).0.meets says) in
     process_stops x told old plan s m t o h runs k d (B.size c.args.backing.now) new c.in-Err.fault c.stop_for.result code (c.requires.same ∙ sym c.process.ensures.kept.sectors) c.stop_for.ensures row)
@@ -86,7 +83,7 @@ returns-in-Err-clause-reaches g c = λ x told plan s m t o h runs code called.
     let d = content_after None (B.holds c.process.new.backing) in
     let old = c.args.machine.now in
     let new = c.process.new.machine in
-    let same = one_behind m t c.next_place-next.result k.next (c.next_place-next.ensures.behind x told plan s m t o h runs code) (Plain Entr, k.reading) in
+    let same = c.next_place-next.ensures.behind x told plan s m t o h runs code k.next k.reading in
     let R : Place → Type 0 = λ z. ProcessMeets d plan s m t z k.arguments (Err c.in-Err.fault) old new in
     let F : Place → Type 0 = λ z. ProcessFits (length old.cpu.core) s m t z k.arguments (Err c.in-Err.fault) in
     let row = subst R same ((c.in-Err.ensures.row (untold x) None plan s m t o (stands_silent x told old plan s h) runs k.reference k.arguments k.call).0.meets tt) in

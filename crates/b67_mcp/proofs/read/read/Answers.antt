@@ -2,8 +2,6 @@ use Rattle.std.proofs.Common.{ℕ, ◌-◌, Ok, refl, sym, ◌∙◌, ap, arith,
 use Rattle.std.proofs.lemmas.Result.{err_from_is_err_and}
 use Rattle.std.specs.List.{slice_get}
 use Rattle.b67_word.specs.declared.couples.Place.{Place}
-use Rattle.b67_model.specs.declared.operators.Op.TheVariants.{Plain}
-use Rattle.b67_model.specs.declared.operators.Code.TheVariants.{Entr}
 use Rattle.b67_model.specs.Intrinsics.{read_from}
 use Rattle.b67_layout.specs.Meets.{with_job}
 use Rattle.b67_mcp_calls.specs.Reads.{job_read}
@@ -11,7 +9,6 @@ use Rattle.b67_task_tables.specs.declared.tables.Machine.{Machine}
 use Rattle.b67_task_tables.specs.declared.tables.Tasks.{Tasks}
 use Rattle.b67_task_tables.specs.Tables.{MachineRepresents}
 use Rattle.b67_mcp.proofs.Callings.{calling, reads_of, call_some}
-use Rattle.b67_mcp.proofs.Cut.{one_behind}
 use Rattle.b67_mcp.proofs.Sizes.{same_size, kept_is}
 use Rattle.b67_mcp.proofs.Numbers.{job_in, tasks_same, same_given, tables_read}
 use Rattle.b67_task_tables.specs.Tables.{given_of}
@@ -91,7 +88,7 @@ returns-clause-row c = λ x told plan s m t o h runs code called.
     let meets = did.takes x plan s m t o h.session runs k.reference k.arguments k.call j.shows in
     let taken = read_from m.progress.job.numbers in
     let q = c.next_place-next.result in
-    let same = one_behind m t q k.next (c.next_place-next.ensures.behind x told plan s m t o h runs code) (Plain Entr, k.reading) in
+    let same = c.next_place-next.ensures.behind x told plan s m t o h runs code k.next k.reading in
     let session = c.answer_call.ensures.stands x plan s m t o h.session runs taken.0 taken.1 meets.may meets.is in
     let size = same_size x x old.cpu cpu plan plan s (with_job s m (job_read m t q)) h.session session refl refl in
     let is = did.is ∙ ap (λ (n : ℕ). slice_set old.tasks.jobs (n - 1) did.new) ej in

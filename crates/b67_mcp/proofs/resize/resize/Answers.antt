@@ -2,8 +2,6 @@ use Rattle.std.proofs.Common.{◌<◌, List, length, Some, None, Ok, refl, sym, 
 use Rattle.std.proofs.lemmas.Bool.{cases_lt}
 use Rattle.b67_word.specs.Tagged.{Tagged}
 use Rattle.b67_word.specs.declared.couples.Place.{Place}
-use Rattle.b67_model.specs.declared.operators.Op.TheVariants.{Plain}
-use Rattle.b67_model.specs.declared.operators.Code.TheVariants.{Entr}
 use Rattle.b67_model.specs.Common.{Answer, Done, touched_of, SessionJob, with_array, resized}
 use Rattle.b67_layout.specs.Meets.{with_job}
 use Rattle.b67_layout_storage.specs.Machine.{content_after}
@@ -16,7 +14,6 @@ use Rattle.b67_task_tables.specs.declared.tables.Tasks.{Tasks}
 use Rattle.b67_task_tables.specs.Tables.{MachineRepresents}
 use Rattle.b67_mcp.specs.Called.{is_resized}
 use Rattle.b67_mcp.proofs.Callings.{calling, reads_of, call_some}
-use Rattle.b67_mcp.proofs.Cut.{one_behind}
 use Rattle.b67_mcp.proofs.Cutting.{resized_fit, order_changed, runs_changed, may_changed, cuts, stands_cut}
 use Rattle.b67_mcp.proofs.Present.{faults_untouched}
 use Rattle.b67_mcp.proofs.Renumbered.{stands_silent}
@@ -98,7 +95,7 @@ returns-in-Ok-set_length-clause-row g c = λ x told plan s m t o h runs code cal
     let runs1 = runs_changed plan s m t o runs a.identity f keeps fits q.0.may y d mid stands in
     let may1 = may_changed plan s m t o runs a.identity f keeps fits q.0.may y d mid stands in
     let p = c.next_place-next.result in
-    let same = one_behind m t p k.next (c.next_place-next.ensures.behind x told plan s m t o h runs code) (Plain Entr, k.reading) in
+    let same = c.next_place-next.ensures.behind x told plan s m t o h runs code k.next k.reading in
     let new : Machine = record mid { cpu = c.cut_call.new.cpu } in
     let S : Place → Type 0 = λ z. MachineRepresents y d new plan (with_job s m (job_resized m t a.identity n z)) in
     let touched = ap (λ (answer : Answer Done). touched_of m.constants m.progress.job t answer) (k.is ∙ q.0.makes k.next) in (

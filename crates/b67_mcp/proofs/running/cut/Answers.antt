@@ -6,7 +6,7 @@ use Rattle.b67_layout.specs.Meets.{with_job}
 use Rattle.b67_mcp_calls.specs.Calls.{job_cut}
 use Rattle.b67_task_tables.specs.declared.tables.Machine.{Machine}
 use Rattle.b67_task_tables.specs.Tables.{MachineRepresents}
-use Rattle.b67_mcp.proofs.Cut.{one_behind, tables_cut, storage_same}
+use Rattle.b67_mcp.proofs.Cut.{tables_cut, storage_same}
 use Rattle.b67_mcp.proofs.running.cut.Goals as goal
 
 pub cut_call-requires-clause-call : goal.cut_call-requires-clause-call
@@ -19,7 +19,7 @@ returns-clause-stands c = λ x told plan s m t o h runs code may next behind.
     (let k = c.args.machine.now in
     let new : Machine = record k { cpu = c.cut_call.new.cpu; tasks = record k.tasks { printed = 0 } } in
     let P : Place → Type 0 = λ q. MachineRepresents x told new plan (with_job s m (job_cut m t q)) in
-    subst P (one_behind m t c.next_place-next.result next (c.next_place-next.ensures.behind x told plan s m t o h runs code) behind) (record {
+    subst P (c.next_place-next.ensures.behind x told plan s m t o h runs code next behind) (record {
       session = c.cut_call.ensures.stands x plan s m t o h.session runs may;
       storage = storage_same x told k c.cut_call.new.cpu.core c.cut_call.ensures.core h.storage;
       tables = tables_cut plan s m t o runs may c.next_place-next.result k.tasks h.tables;

@@ -1,5 +1,5 @@
 use Rattle.std.proofs.Common.{◌≡◌, ◌≢◌, ◌+◌, ◌-◌, refl, sym, ◌∙◌, subst, arith}
-use Rattle.b67_exec.specs.declared.far.Went.TheVariants as wents
+use Rattle.b67_exec.specs.declared.apart.Went.TheVariants as wents
 use Rattle.b67_exec.specs.Near.{StopsHere}
 use Rattle.b67_task_tables.specs.declared.tables.Machine.{Machine}
 use Rattle.b67_session.proofs.Begins.{begins_none, begins_same, begins_more, begins_runs}

@@ -1,7 +1,0 @@
-use Rattle.b67_model.specs.declared.operators.Op.TheVariants.{Plain}
-use Rattle.b67_model.specs.declared.operators.Code.TheVariants as codes
-use Rattle.b67_exec.proofs.Fars.{on_by}
-use Rattle.b67_exec.proofs.far.makes_far_indx.Goals as goal
-
-pub returns : goal.returns
-returns c = on_by (Plain codes.Indx) c.args.next c.args.cpu.now c.indx-step.new.cpu c.requires c.indx-step.result c.is_done.result c.is_done.new.why c.is_done.ensures c.indx-step.ensures.row c.indx-step.ensures.stays
