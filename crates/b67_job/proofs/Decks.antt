@@ -27,9 +27,10 @@ use Rattle.b67_job.specs.declared.summaries.Closing.{Closing}
 use Rattle.b67_job.specs.Texts.{only}
 use Rattle.b67_job.specs.Finishing.{refused_status, refused_line, SessionRan}
 use Rattle.b67_job.specs.Runs.{run_of, memory_refused, opening_wants_core, opening_wants_sectors, opening_fails, WasOpened, unopened, opened, DeckRunEnds, run_stops, step_is_cut, StepsEnd, steps_stop, next_is_cut}
+use Rattle.b67_session.proofs.FoundLeast.{stays_ordered}
 use Rattle.b67_session.proofs.Openings.{stands_opened}
 use Rattle.b67_session.proofs.Pausing.{says_retold}
-use Rattle.b67_job.proofs.Opened.{states_in_order, stays_ordered, known_after, known_later}
+use Rattle.b67_job.proofs.Opened.{states_in_order, known_after, known_later}
 use Rattle.b67_job.proofs.Ran.{closes_only, ran}
 use Rattle.b67_job.proofs.Closings.{none_printed}
 use Rattle.b67_model.specs.declared.limits.TheConstants.{MOST_MADE}
@@ -55,7 +56,7 @@ deck_ends : {K B : Type 0} {taken : K → Option (List ℕ)} {faults : K → ℕ
 deck_ends {k = k} opens (steps_stop status text none stops ends) = run_stops status text (opened k refl opens none stops) ends
 deck_ends {k = k} opens (next_is_cut text cut a rose part) = step_is_cut text k.tasks.printed (record { left = k; is = refl; opens = opens; counts = refl; cut = cut }) a rose part
 
-still_told : {B : Type 0} (holds : B → Option (List (List ℕ))) (b b' : B) → Changes holds b b' (λ before after. length after ≡ length before) → holds b ≢ None → holds b' ≢ None
+pub still_told : {B : Type 0} (holds : B → Option (List (List ℕ))) (b b' : B) → Changes holds b b' (λ before after. length after ≡ length before) → holds b ≢ None → holds b' ≢ None
 still_told holds b b' c some none = by_told (holds b) refl
   where
     by_told : (o : Option (List (List ℕ))) → holds b ≡ o → ⊥

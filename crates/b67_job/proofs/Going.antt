@@ -39,7 +39,8 @@ use Rattle.b67_dump.specs.Laws.{DumpsAreShown}
 use Rattle.b67_session_lines.specs.Ends.{EndsPrinting}
 use Rattle.b67_job.specs.declared.command.CommandLine.TheVariants as lines
 use Rattle.b67_job.specs.Due.{Serves, answered, image_due, dump_due, DumpEnds, is_dumped, isnt_read, reading_due, memory_due, reading_text, ImageRefusalEnds}
-use Rattle.b67_job.proofs.Opened.{stays_ordered, states_follow}
+use Rattle.b67_session.proofs.FoundLeast.{stays_ordered}
+use Rattle.b67_job.proofs.Opened.{states_follow}
 use Rattle.b67_job.proofs.Closings.{none_printed}
 use Rattle.b67_job.proofs.Ran.{ran, closes_only}
 use Rattle.b67_job.proofs.Finished.{is_finished}

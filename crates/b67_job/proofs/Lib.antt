@@ -14,3 +14,4 @@ pub mod Served
 pub mod Status
 pub mod Causes
 pub mod Passed
+pub mod LookedAt

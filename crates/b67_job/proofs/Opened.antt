@@ -6,12 +6,13 @@ use Rattle.b67_codefile.specs.Meaning.{program_of}
 use Rattle.b67_model_text.specs.declared.deck.Deck.{Deck}
 use Rattle.b67_model.specs.Common.{Session, RunLine, StepResult, after, after_from, next, lines, IsInOrder, IsInOrderButPlaces}
 use Rattle.b67_law_order.specs.Runs.{RunsAdmitted}
-use Rattle.b67_law_order.proofs.RunSessions.{runs_stay_in_order, sessions_stay_in_order, sessions_stay_in_order_but_places}
+use Rattle.b67_law_order.proofs.RunSessions.{runs_stay_in_order, sessions_stay_in_order}
 use Rattle.b67_law_sessions.proofs.Makers.{runs_make_their_words, sessions_keep_or_make_their_words}
 use Rattle.b67_layout_storage.specs.Machine.{content_after}
 use Rattle.b67_task_tables.specs.Tables.{switch_of}
 use Rattle.b67_session_open.specs.Decks.{openings_of, session_of, DeckInRange, IsLoaded}
 use Rattle.b67_session_open.proofs.Decks.{deck_within}
+use Rattle.b67_session.proofs.FoundLeast.{stays_ordered}
 use Rattle.b67_law_sessions.proofs.ApartLemmas.{jobs_apart, states_apart}
 use Rattle.b67_job.specs.States.{StatesInOrder, StatesFollow, JobsRunApart}
 
@@ -23,16 +24,7 @@ states_in_order d fs n range loaded = record {
   each = λ j less m t f. sessions_keep_or_make_their_words 1 (after j (session_of d (map program_of fs))) m t f;
 }
 
--- steps keep a session in order but for its places
-pub stays_ordered : (n : ℕ) (s : Session) → IsInOrderButPlaces s → IsInOrderButPlaces (after n s)
-stays_ordered zero s o = o
-stays_ordered (suc n) s o = by_next (λ s' o'. stays_ordered n s' o') (next s) refl
-  where
-    by_next : ((s' : Session) → IsInOrderButPlaces s' → IsInOrderButPlaces (after n s')) → (m : Option StepResult) → next s ≡ m → IsInOrderButPlaces (after_from (suc n) s m)
-    by_next rest None e = o
-    by_next rest (Some m) e = rest m.session (sessions_stay_in_order_but_places s m o e)
-
--- and in order, if its jobs run admitted programs
+-- steps keep a session in order, if its jobs run admitted programs
 stays_placed : (n : ℕ) (s : Session) → IsInOrder s → AllByRecursion RunsAdmitted s.jobs → IsInOrder (after n s)
 stays_placed zero s o admitted = o
 stays_placed (suc n) s o admitted = by_next (λ s' o' admitted'. stays_placed n s' o' admitted') (next s) refl

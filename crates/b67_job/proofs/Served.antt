@@ -43,7 +43,7 @@ use Rattle.b67_job.specs.Due.{WasGiven, CommandWasRead, ReadAll, ExerciseEnds, e
 
 -- ---- decks
 
-prepared_is : (text : List ℕ) (p : Prepared) → deck_prepared text ≡ Ok p → judgement text ≡ Runs p
+pub prepared_is : (text : List ℕ) (p : Prepared) → deck_prepared text ≡ Ok p → judgement text ≡ Runs p
 unfolding judgement
 prepared_is text p e = rw e refl
 

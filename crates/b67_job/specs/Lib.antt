@@ -12,3 +12,4 @@ pub mod Going
 pub mod Judgement
 pub mod Due
 pub mod Statuses
+pub mod Searches

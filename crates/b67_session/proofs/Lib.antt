@@ -52,3 +52,9 @@ pub mod Gives
 pub mod Openings
 pub mod Begins
 pub mod DoneTries
+pub mod SameTask
+pub mod InTurns
+pub mod Among
+pub mod Standing
+pub mod FoundLeast
+pub mod Onward

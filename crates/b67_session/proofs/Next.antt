@@ -22,7 +22,7 @@ use Rattle.b67_task_tables.specs.declared.tables.Tasks.{Tasks}
 use Rattle.b67_task_tables.specs.Tables.{task_row, TasksShow}
 use Rattle.b67_task_switch.specs.declared.counting.Chosen.{Chosen}
 use Rattle.b67_task_switch.specs.Counted.{choice_of}
-use Rattle.b67_task_switch.specs.Chosen.{IsReadyAt}
+use Rattle.b67_task_switch.specs.Chosen.{who_of, IsReadyAt}
 use Rattle.b67_session.specs.Slices.{NextFits}
 
 module _ (s : Session) (m : SessionJob) (t : Task) (n : IsNext s m t) where
@@ -61,19 +61,23 @@ module _ (s : Session) (m : SessionJob) (t : Task) (n : IsNext s m t) where
     pub at : slice_get tasks.rows.items c.row ≡ Some row
     pub shows : TaskShows plan m t (task_row row)
 
-  pub chose : (plan : Placement) (tasks : Tasks) (c : Chosen) → IsInOrderButPlaces s → TasksShow plan s tasks → n.chosen ≡ choice_of c → IsReadyAt tasks.rows.items c.row (choice_of c).who → Chose plan tasks c
-  chose plan tasks c o shows same a =
-      let shown : slice_get (map task_row tasks.rows.items) c.row ≡ Some (task_row a.row) = at_mapped task_row tasks.rows.items c.row a.row a.at in
-      let (y, u, iny, inu, w) = shows.tasks (task_row a.row) (has_get (map task_row tasks.rows.items) c.row (task_row a.row) shown) in
-      let job : y.constants.number ≡ n.chosen.who.job = sym w.job ∙ ap (λ (z : Who). z.job) a.is ∙ ap (λ (z : Choice). z.who.job) (sym same) in
-      let number : u.number ≡ n.chosen.who.task = sym w.number ∙ ap (λ (z : Who). z.task) a.is ∙ ap (λ (z : Choice). z.who.task) (sym same) in
+  -- as is each row of its numbers
+  pub chose_row : (plan : Placement) (tasks : Tasks) (i : ℕ) (r : TaskRow) → IsInOrderButPlaces s → TasksShow plan s tasks → slice_get tasks.rows.items i ≡ Some r → who_of r ≡ n.chosen.who → TaskShows plan m t (task_row r)
+  chose_row plan tasks i r o shows at is =
+      let shown : slice_get (map task_row tasks.rows.items) i ≡ Some (task_row r) = at_mapped task_row tasks.rows.items i r at in
+      let (y, u, iny, inu, w) = shows.tasks (task_row r) (has_get (map task_row tasks.rows.items) i (task_row r) shown) in
+      let job : y.constants.number ≡ n.chosen.who.job = sym w.job ∙ ap (λ (z : Who). z.job) is in
+      let number : u.number ≡ n.chosen.who.task = sym w.number ∙ ap (λ (z : Who). z.task) is in
       let member : y ≡ m = same_Some y m (sym (subst (λ (k : ℕ). keyed number_of k s.jobs ≡ Some y) job (keyed_member 1 s.jobs y o.numbered iny)) ∙ n.member) in
       let here : Has m.progress.job.tasks u = subst (λ (z : SessionJob). Has z.progress.job.tasks u) member inu in
       let j = all_in (λ (z : SessionJob). JobInOrder (IsSegment z.constants) z.constants z.progress) s.jobs m o.jobs in_session in
       let own : keyed (λ (v : Task). v.number) n.chosen.who.task m.progress.job.tasks ≡ Some u =
       subst (λ (k : ℕ). keyed (λ (v : Task). v.number) k m.progress.job.tasks ≡ Some u) number (keyed_falls (λ (v : Task). v.number) m.progress.job.next_task m.progress.job.tasks u j.tasks.numbers here) in
       let task : u ≡ t = same_Some u t (sym own ∙ n.task) in
-      record { row = a.row; at = a.at; shows = subst (λ (v : Task). TaskShows plan m v (task_row a.row)) task (subst (λ (z : SessionJob). TaskShows plan z u (task_row a.row)) member w) }
+      subst (λ (v : Task). TaskShows plan m v (task_row r)) task (subst (λ (z : SessionJob). TaskShows plan z u (task_row r)) member w)
+
+  pub chose : (plan : Placement) (tasks : Tasks) (c : Chosen) → IsInOrderButPlaces s → TasksShow plan s tasks → n.chosen ≡ choice_of c → IsReadyAt tasks.rows.items c.row (choice_of c).who → Chose plan tasks c
+  chose plan tasks c o shows same a = record { row = a.row; at = a.at; shows = chose_row plan tasks c.row a.row o shows a.at (a.is ∙ ap (λ (z : Choice). z.who) (sym same)) }
 
 -- over other numbers it is the next task too
 pub next_other : (plan : Placement) (s : Session) (m y : SessionJob) (t : Task) (jobs : List SessionJob) → RowsFit plan s.jobs → AllOtherNumbers s.jobs jobs → IsRunning plan s.jobs m t → IsRunning plan jobs y t → (n : IsNext s m t)

@@ -13,3 +13,4 @@ pub mod AttemptStops
 pub mod AttemptPassed
 pub mod Makes
 pub mod Openings
+pub mod Search

@@ -3,6 +3,7 @@ use Rattle.std.specs.Prelude.{◌≡◌, ◌≢◌, ℕ, ◌+◌, ◌≤◌, Lis
 use Rattle.b67_session_lines.specs.Moments.{first_part, last_part, due}
 use Rattle.b67_model.specs.Common.{RunLine, StepResult, next, after, lines, Session}
 use Rattle.b67_stack.specs.Represents.{Storage}
+use Rattle.b67_stack.specs.declared.Step.{Step}
 use Rattle.b67_layout.specs.Placement.{Placement}
 use Rattle.b67_task_tables.specs.declared.tables.Machine.{Machine}
 use Rattle.b67_session.specs.AttemptStops.{Stop}
@@ -72,6 +73,14 @@ pub record IsInOrderFor (k : Machine) : Type 0 where
   pub said : Option (List (List ℕ))
   pub session : Session
   pub stands : StandsAt said k session
+
+-- so many operators of a turn were made, of those that were asked for: none where none was. The turn is longer by them, and where all
+-- were made there is no other reason why it stops
+pub record CountsTurn (asked made : ℕ) (old new : Machine) (before after : Step) : Type 0 where
+  pub few : made ≤ asked
+  pub rests : asked ≡ 0 → new ≡ old
+  pub turn : new.tasks.turn ≡ old.tasks.turn + made
+  pub all : made ≡ asked → after ≡ before
 
 -- so many steps lead from a session to another, and a run that comes to the first one prints no more in them; core had the words
 -- that they need, and the halt wasn't reached before them

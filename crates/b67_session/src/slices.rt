@@ -32,7 +32,7 @@ pub enum Progress {
 
 /// Whether a slice goes no further: no task lives, or else the count of a halt is reached.
 #[inline(always)]
-fn pause(tasks: &Tasks, halt: Option<u64>) -> Option<Progress>
+pub(crate) fn pause(tasks: &Tasks, halt: Option<u64>) -> Option<Progress>
     ensures { Pauses tasks.now halt result }
 {
     if tasks.rows.is_empty() {

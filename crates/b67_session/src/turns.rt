@@ -15,7 +15,7 @@ ghost use Rattle.b67_task_tables.specs.Tables.{MachineRepresents};
 ghost use Rattle.b67_task_switch.specs.Standing.{HasRow};
 ghost use Rattle.b67_task_switch.specs.Lasting.{TurnLasts};
 ghost use Rattle.b67_session.specs.Slices.{StandsAt, Keeps};
-ghost use Rattle.b67_session.specs.Steps.{IsInOrderFor, GoesOnInTurn};
+ghost use Rattle.b67_session.specs.Steps.{IsInOrderFor, CountsTurn, GoesOnInTurn};
 ghost use Rattle.b67_session.specs.Makes.{MakesInSegment, MakesOne, ForEachReady};
 ghost use Rattle.b67_session.specs.InTurn.{BeginsWith, MayMake, TurnBegins, HasTurnLeft, MadeInTurn, LeavesToMake, SaysWhyFewer};
 
@@ -168,8 +168,7 @@ pub(crate) fn go_on_with_turn(machine: &mut Machine, most: u64, why: &mut Step) 
     requires stands { IsInOrderFor machine.old }
     requires unprinted { machine.old.tasks.printed ≡ 0 }
     requires done { why.old ≡ Done }
-    ensures few { result ≤ most }
-    ensures rests { most ≡ 0 → machine.new ≡ machine.old }
+    ensures counts { CountsTurn most result machine.old machine.new why.old why.new }
     ensures stops { why.new ≢ Done → StopsHere machine.new.cpu why.new }
     ensures row { (said : Option (List (List ℕ))) (s : Session) → StandsAt said machine.old s → GoesOnInTurn said result s machine.old machine.new }
     ensures keeps { Keeps machine.old machine.new }

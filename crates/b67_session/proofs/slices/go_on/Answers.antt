@@ -117,7 +117,7 @@ turn-preserved g c =
     let more = c.go_on_with_turn.result in
     let total : c.turn.made + (1 + more) ≡ c.turn.made + 1 + more = omega arith in
     record {
-      few = omega (arith, c.go_on_with_turn.ensures.few);
+      few = omega (arith, c.go_on_with_turn.ensures.counts.few);
       why = c.go_on_with_turn.ensures.stops;
       later = omega (arith, c.turn.invariant.later, c.step.ensures.leaves.causes.printer.later);
       device = Served-then g.B.Backing.holds g.B.Backing.size g.B.Backing.calls g.B.Backing.faults c.args.backing.now c.turn.backing c.step.new.backing c.turn.invariant.device c.step.ensures.leaves.served;
@@ -137,13 +137,13 @@ turn-preserved g c =
           ((present g a said s says h m t next (Ok progress.More) later (omega arith) (λ room. tt) (λ whole. not_full_ok progress.More) (λ sum size e. absurd cc)).hole tells few fits none).written;
       areas = λ said s m t h job says next few alone hand counted.
           let later = made_no_fewer (stepped g a said s says h (Ok tt) is) in
-          let same : c.go_on_with_turn.new.machine ≡ c.step.new.machine = c.go_on_with_turn.ensures.rests (omega (arith, few)) in
+          let same : c.go_on_with_turn.new.machine ≡ c.step.new.machine = c.go_on_with_turn.ensures.counts.rests (omega (arith, few)) in
           let there = (present g a said s says h m t next (Ok progress.More) later (omega arith) (λ room. tt) (λ whole. not_full_ok progress.More) (λ sum size e. absurd cc)).areas job few alone hand
           (ap (λ (z : Machine). z.tasks.made) (sym same) ∙ counted) in
           subst (λ (z : Machine). StepKeepsAreas h.storage h.plan s m t job z) (sym same) there;
       left = λ said s m t h says next few wants counted.
           let later = made_no_fewer (stepped g a said s says h (Ok tt) is) in
-          let same : c.go_on_with_turn.new.machine ≡ c.step.new.machine = c.go_on_with_turn.ensures.rests (omega (arith, few)) in
+          let same : c.go_on_with_turn.new.machine ≡ c.step.new.machine = c.go_on_with_turn.ensures.counts.rests (omega (arith, few)) in
           let there = (present g a said s says h m t next (Ok progress.More) later (omega arith) (λ room. tt) (λ whole. not_full_ok progress.More) (λ sum size e. absurd cc)).left few wants
           (ap (λ (z : Machine). z.tasks.made) (sym same) ∙ counted) in
           subst (λ (z : Machine). StepLeaves h.storage h.plan s m t z) (sym same) there;

@@ -1,4 +1,4 @@
-use Rattle.std.proofs.Common.{◌-◌, length, refl, sym, ap, ◌∙◌, subst, arith}
+use Rattle.std.proofs.Common.{◌-◌, ◌+◌, length, refl, sym, ap, ◌∙◌, subst, arith}
 use Rattle.b67_task_tables.specs.declared.tables.Tasks.{Tasks}
 use Rattle.b67_task_tables.specs.Tables.{given_of}
 use Rattle.b67_task_tables.proofs.Keeping.{rows_put, given_put}
@@ -66,3 +66,17 @@ returns-clause-keeps c =
 
 pub returns-clause-stops : goal.returns-clause-stops
 returns-clause-stops c = λ other. why_here c.turn_room-room.result c.make_in_turn-made.result c.make_in_turn-made.new.machine.cpu c.args.why.now c.make_in_turn-made.new.why c.make_in_turn-made.ensures.few c.requires.done c.make_in_turn-made.ensures.why other
+
+pub returns-then-room-eq0-clause-counts : goal.returns-then-room-eq0-clause-counts
+returns-then-room-eq0-clause-counts c = record { few = omega arith; rests = λ none. refl; turn = omega arith; all = λ e. refl }
+
+pub returns-clause-counts : goal.returns-clause-counts
+returns-clause-counts c =
+    let few = c.turn_room-room.ensures.few in
+    let made = c.make_in_turn-made.ensures.few in
+    record {
+      few = omega (arith, few, made);
+      rests = λ none. absurd (omega (arith, none, few));
+      turn = ap (λ (z : Tasks). z.turn) c.count_turn.ensures.rest ∙ ap (λ (z : Tasks). z.turn + c.make_in_turn-made.result) c.make_in_turn-made.ensures.tables;
+      all = λ e. c.make_in_turn-made.ensures.why.all (omega (arith, e, few, made));
+    }
