@@ -1,4 +1,4 @@
-use Rattle.std.proofs.Common.{◌≡◌, ◌≢◌, ℕ, ◌+◌, ◌<◌, ◌≤◌, List, [], ◌∷◌, Some, refl, ◌∙◌, arith, inl, inr, ⊎_elim, ◌⊎◌}
+use Rattle.std.proofs.Common.{◌≡◌, ◌≢◌, ℕ, ◌+◌, ◌<◌, ◌≤◌, List, [], ◌∷◌, Some, refl, arith, inl, inr, ◌⊎◌, rules}
 use Rattle.std.specs.List.{slice_get}
 use Rattle.b67_word.specs.Tagged.{Tagged}
 use Rattle.b67_area.specs.Spans.{Span, Area, Hole, end, first_hole, InHole}
@@ -28,17 +28,12 @@ Meet ds ss = NoHole ds ⊎ NoHole ss
 pub spans_opened : (ds ss : List Span) → AreSpans (unzip ds ss) → AreSpans ds × AreSpans ss × Meet ds ss
 spans_opened [] ss h = (tt, h, inl tt)
 spans_opened (Area a ∷ ds) ss h = let r = spans_opened ds (Area a ∷ ss) h in ((r.1.0, r.0), r.1.1, inl tt)
-spans_opened (Hole n ∷ ds) ss h =
-    let r = spans_opened ds (Hole n ∷ ss) h in
-    let alone : NoHole ds = ⊎_elim (λ g. g) (λ g. absurd g) r.2 in
-    ((r.1.0, alone, r.0), r.1.2, inr r.1.1)
+spans_opened (Hole n ∷ ds) ss h = grind (arith, spans_opened ds (Hole n ∷ ss) h)
 
 pub spans_closed : (ds ss : List Span) → AreSpans ds → AreSpans ss → Meet ds ss → AreSpans (unzip ds ss)
 spans_closed [] ss d s m = s
 spans_closed (Area a ∷ ds) ss d s m = spans_closed ds (Area a ∷ ss) d.1 (d.0, s) (inr tt)
-spans_closed (Hole n ∷ ds) ss d s m =
-    let alone : NoHole ss = ⊎_elim (λ g. absurd g) (λ g. g) m in
-    spans_closed ds (Hole n ∷ ss) d.2 (d.0, alone, s) (inl d.1)
+spans_closed (Hole n ∷ ds) ss d s m = grind (arith, spans_closed ds (Hole n ∷ ss) d.2)
 
 -- the link that is open at a place
 pub pending : (core : List Tagged) (b h at : ℕ) (ss : List Span) → Laid core b h at ss → slice_get core b ≡ Some (link_word h (first_hole at ss))
@@ -49,10 +44,8 @@ pending core b h at (Hole n ∷ ss) l = l.0
 -- the words from a place up stay, and the link to them may move
 pub Laid-move : (core new : List Tagged) (b h b' h' at : ℕ) (ss : List Span) → ((i : ℕ) → at ≤ i → slice_get new i ≡ slice_get core i) → slice_get new b' ≡ Some (link_word h' (first_hole at ss)) → Laid core b h at ss → Laid new b' h' at ss
 Laid-move core new b h b' h' at [] same link l = link
-Laid-move core new b h b' h' at (Area a ∷ ss) same link l =
-    (same at (omega arith) ∙ l.0, same (at + (a.words + 1)) (omega arith) ∙ l.1, Laid-move core new b h b' h' (at + (a.words + 2)) ss (λ i g. same i (omega arith)) link l.2)
-Laid-move core new b h b' h' at (Hole n ∷ ss) same link l =
-    (link, Laid-move core new at (hole_high n) at (hole_high n) (at + n) ss (λ i g. same i (omega arith)) (same at (omega arith) ∙ pending core at (hole_high n) (at + n) ss l.1) l.1)
+Laid-move core new b h b' h' at (Area a ∷ ss) same link l = grind (arith, Laid-move core new b h b' h' (at + (a.words + 2)) ss)
+Laid-move core new b h b' h' at (Hole n ∷ ss) same link l = grind (arith, pending, Laid-move core new at (hole_high n) at (hole_high n) (at + n) ss)
 
 -- where the open link stands
 pub low_top : (low : ℕ) (ds : List Span) → low ≤ spans_top low ds
@@ -67,12 +60,8 @@ link_place_low low (Hole n ∷ ds) h d = (omega (arith, d.0), inr (low_top low d
 -- the words below stay where no more changes than the open link
 pub Below-same : (core new : List Tagged) (low : ℕ) (ds : List Span) → 160 ≤ low → AreSpans ds → ((i : ℕ) → i < spans_top low ds → i ≢ link_place low ds → slice_get new i ≡ slice_get core i) → Below core low ds → Below new low ds
 Below-same core new low [] h d same b = tt
-Below-same core new low (Area a ∷ ds) h d same b =
-    let p = link_place_low low ds h d.1 in
-    (same (spans_top low ds) (omega arith) (λ e. omega (arith, p.0)) ∙ b.0, same (spans_top low ds + (a.words + 1)) (omega arith) (λ e. omega (arith, p.0)) ∙ b.1, Below-same core new low ds h d.1 (λ i g e. same i (omega arith) e) b.2)
-Below-same core new low (Hole n ∷ ds) h d same b =
-    let p = link_place_low low ds h d.2 in
-    (same (link_place low ds) (omega (arith, p.0)) (λ e. omega (arith, p.0)) ∙ b.0, Below-same core new low ds h d.2 (λ i g e. same i (omega arith) (λ q. omega arith)) b.1)
+Below-same core new low (Area a ∷ ds) h d same b = grind (arith, link_place_low, Below-same core new low ds h d.1)
+Below-same core new low (Hole n ∷ ds) h d same b = search (rules, arith, link_place_low, Below-same core new low ds h d.2)
 
 -- words of holes, seen from a cut
 pub InHole-above : (low : ℕ) (ds ss : List Span) (i : ℕ) → InHole (spans_top low ds) ss i → InHole low (unzip ds ss) i

@@ -1,6 +1,6 @@
-use Rattle.std.proofs.Common.{◌≡◌, ◌≢◌, ℕ, zero, suc, ◌+◌, ◌<◌, ◌≤◌, ◌^◌, List, [], ◌∷◌, length, Some, refl, sym, ◌∙◌, ap, arith, inl, ⊎_elim, ◌⊎◌, ◌==◌, slice_set}
+use Rattle.std.proofs.Common.{◌≡◌, ◌≢◌, ℕ, ◌+◌, ◌<◌, ◌≤◌, ◌^◌, List, [], ◌∷◌, length, Some, refl, sym, ◌∙◌, ap, arith, inl, ⊎_elim, ◌⊎◌, ◌==◌, slice_set, rules}
 use Rattle.std.specs.List.{slice_get}
-use Rattle.std.proofs.lemmas.Bool.{cond-true, cond-false, eq-eqb, ne_eqb}
+use Rattle.std.proofs.lemmas.Bool.{cond-true, eq-eqb}
 use Rattle.std.proofs.Math.ListN.{length-set}
 use Rattle.b67_word.specs.Tagged.{Tagged}
 use Rattle.b67_area.specs.declared.kinds.Info.{Info}
@@ -23,47 +23,29 @@ rejoin (Area a ∷ ds) ss = unzip ds (Area a ∷ ss)
 rejoin (Hole n ∷ ds) ss = unzip ds (join n ss)
 
 rejoin-area : (ds ss : List Span) (a : Info) → rejoin ds (Area a ∷ ss) ≡ unzip ds (Area a ∷ ss)
-rejoin-area [] ss a = refl
-rejoin-area (Area b ∷ ds) ss a = refl
-rejoin-area (Hole n ∷ ds) ss a = refl
+rejoin-area ds ss a = grind arith
 
 pub rejoin-alone : (ds ss : List Span) → NoHole ds → rejoin ds ss ≡ unzip ds ss
-rejoin-alone [] ss h = refl
-rejoin-alone (Area b ∷ ds) ss h = refl
-rejoin-alone (Hole n ∷ ds) ss h = absurd h
+rejoin-alone ds ss h = grind arith
 
 pub without-unzip : (low : ℕ) (ds ss : List Span) (x : ℕ) → spans_top low ds < x → AreSpans ds → without low x (unzip ds ss) ≡ rejoin ds (without (spans_top low ds) x ss)
 without-unzip low [] ss x h s = refl
-without-unzip low (Area b ∷ ds) ss x h s =
-    let past = cond-false (spans_top low ds + 1 == x) (join (b.words + 2) ss) (Area b ∷ without (spans_top low ds + (b.words + 2)) x ss) (ne_eqb (spans_top low ds + 1) x (λ e. omega arith)) in
-    without-unzip low ds (Area b ∷ ss) x (omega arith) s.1 ∙ ap (rejoin ds) past ∙ rejoin-area ds (without (spans_top low ds + (b.words + 2)) x ss) b
-without-unzip low (Hole n ∷ ds) ss x h s =
-    without-unzip low ds (Hole n ∷ ss) x (omega arith) s.2 ∙ rejoin-alone ds (join n (without (spans_top low ds + n) x ss)) s.1
+without-unzip low (Area b ∷ ds) ss x h s = grind (arith, without-unzip low ds (Area b ∷ ss) x)
+without-unzip low (Hole n ∷ ds) ss x h s = grind (arith, without-unzip low ds (Hole n ∷ ss) x)
 
 pub join-front : (n : ℕ) (ss : List Span) → join n ss ≡ Hole (n + front ss) ∷ behind ss
-join-front n [] = let e : n ≡ n + 0 = omega arith in ap (λ (k : ℕ). Hole k ∷ []) e
-join-front n (Area a ∷ ss) = let e : n ≡ n + 0 = omega arith in ap (λ (k : ℕ). Hole k ∷ Area a ∷ ss) e
-join-front n (Hole m ∷ ss) = refl
+join-front n ss = grind arith
 
 pub NoHole-behind : (ss : List Span) → AreSpans ss → NoHole (behind ss) × AreSpans (behind ss)
-NoHole-behind [] s = (tt, tt)
-NoHole-behind (Area a ∷ ss) s = (tt, s)
-NoHole-behind (Hole n ∷ ss) s = (s.1, s.2)
+NoHole-behind ss s = grind arith
 
 -- a hole at the front of spans
 module _ (core : List Tagged) (b h at next : ℕ) where
   pub front_hole : (ss : List Span) → IsAbove core b h at ss → next ≡ first_hole at ss → next ≡ at → (front ss < 2 ^ 20) × (first_hole (at + front ss) (behind ss) < 2 ^ 20) × (slice_get core next ≡ Some (link_word (hole_high (front ss)) (first_hole (at + front ss) (behind ss))))
-  front_hole [] i e is = absurd (omega (arith, i.some))
-  front_hole (Area a ∷ ss) i e is = absurd (⊎_elim (λ g. omega (arith, i.some)) (λ g. omega arith) (first_hole-low (at + (a.words + 2)) ss))
-  front_hole (Hole n ∷ ss) i e is =
-      (omega (arith, i.ends, low_end (at + n) ss, i.small), next-lt core at (at + n) ss i.spans.2 (omega (arith, i.ends)) i.small, rw is (pending core at (hole_high n) (at + n) ss i.laid.1))
+  front_hole ss i e is = grind (arith, ⊎_elim, first_hole-low, low_end, next-lt, pending)
 
   pub front_next : (ss : List Span) → IsAbove core b h at ss → (first_hole (at + front ss) (behind ss) < 2 ^ 20) × (at + front ss ≤ length core) × (end (at + front ss) (behind ss) ≡ length core)
-  front_next [] i = (omega arith, omega (arith, i.ends), let z : at + 0 ≡ at = omega arith in z ∙ i.ends)
-  front_next (Area a ∷ ss) i =
-      let z : at + 0 ≡ at = omega arith in
-      (rw z (next-lt core at at (Area a ∷ ss) i.spans (omega (arith, i.ends)) i.small), omega (arith, i.ends, low_end at (Area a ∷ ss)), rw z i.ends)
-  front_next (Hole n ∷ ss) i = (next-lt core at (at + n) ss i.spans.2 (omega (arith, i.ends)) i.small, omega (arith, i.ends, low_end (at + n) ss), i.ends)
+  front_next ss i = grind (arith, next-lt, low_end)
 
 -- where the hole at the last link ends
 pub link_room-end : (low : ℕ) (ds : List Span) → 160 ≤ low → AreSpans ds → link_place low ds + link_room ds ≤ spans_top low ds
@@ -74,19 +56,7 @@ link_room-end low (Hole n ∷ ds) h s = omega arith
 -- the parts of a vacancy
 module _ (core : List Tagged) (low : ℕ) (ss : List Span) (address at : ℕ) (a : Info) (r : Links) (d : IsDirectory core low ss) (t : Around low ss at a r) (is : address ≡ at + 1) where
   pub leaves : (room next : ℕ) → room ≡ front t.above → next ≡ first_hole (at + (a.words + 2) + front t.above) (behind t.above) → LeavesHole low ss address a (record { before = r.before; room = r.room; at = at; size = a.words + 2 + room; next = next })
-  leaves room next er en =
-      let z : at + (a.words + 2) + front t.above ≡ at + (a.words + 2 + room) = omega arith in
-      record {
-        below = t.below;
-        above = t.above;
-        is = t.is;
-        address_is = is;
-        at_is = t.at_is;
-        before = t.before;
-        room = t.room;
-        size = omega arith;
-        next = en ∙ ap (λ (k : ℕ). first_hole k (behind t.above)) z;
-      }
+  leaves room next er en = grind arith
 
 pub vacates : (core : List Tagged) (low : ℕ) (ss : List Span) (address : ℕ) (a : Info) (v : Vacancy) → IsDirectory core low ss → LeavesHole low ss address a v → Vacates core v
 vacates core low ss address a v d t =
@@ -117,14 +87,11 @@ behind_laid core b h at (Area a ∷ ss) l = let z : at + 0 ≡ at = omega arith 
 behind_laid core b h at (Hole n ∷ ss) l = (at, hole_high n, l.1)
 
 left-some : (n : ℕ) (ss : List Span) → 1 ≤ n → left n ss ≡ Hole n ∷ ss
-left-some zero ss h = absurd (omega arith)
-left-some (suc n) ss h = refl
+left-some n ss h = grind arith
 
 -- whether a hole lies just below a cut
 pub alone_below : (low : ℕ) (ds : List Span) → link_place low ds + link_room ds ≢ spans_top low ds → NoHole ds
-alone_below low [] h = tt
-alone_below low (Area a ∷ ds) h = tt
-alone_below low (Hole n ∷ ds) h = h refl
+alone_below low ds h = grind arith
 
 pub hole_below : (low : ℕ) (ds : List Span) → 160 ≤ low → AreSpans ds → link_place low ds + link_room ds ≡ spans_top low ds → (n : ℕ) × (es : List Span) × (ds ≡ Hole n ∷ es)
 hole_below low [] h s e = absurd (omega arith)
@@ -160,10 +127,7 @@ module _ (core : List Tagged) (low : ℕ) (ss : List Span) (address : ℕ) (a : 
   rest_spans = NoHole-behind t.above spans_here.1.1
 
   pub rest_end : end (v.at + v.size) (behind t.above) ≡ length core
-  rest_end =
-      let all : end (spans_top low t.below + (a.words + 2)) t.above ≡ length core = sym (end-unzip low t.below (Area a ∷ t.above)) ∙ rw t.is at d.all in
-      let i : IsAbove core (link_place low t.below) (link_high t.below) (spans_top low t.below + (a.words + 2)) t.above = record { laid = opened_here.1.2; spans = spans_here.1.1; ends = all; small = d.small; some = omega arith } in
-      rw z at (front_next core (link_place low t.below) (link_high t.below) (spans_top low t.below + (a.words + 2)) 0 t.above i).2
+  rest_end = search (rules, arith, end-unzip)
 
   pub below_hole : v.before + v.room ≡ v.at → (n : ℕ) × (es : List Span) × (t.below ≡ Hole n ∷ es)
   below_hole e = hole_below low t.below d.above spans_here.0 (omega (arith, t.before, t.room, t.at_is))
@@ -270,5 +234,4 @@ module _ (core : List Tagged) (low : ℕ) (ss : List Span) (address : ℕ) (a : 
     }
 
     pub outside_joined : OnlyHoles core new low (without low address ss)
-    outside_joined k m h = same_joined k
-        (λ e. h (rw gone_joined (InHole-above low es (Hole (n + v.size) ∷ behind t.above) k (inl (omega (arith, before_joined), omega (arith, before_joined, facts.some))))))
+    outside_joined k m h = grind (arith, same_joined, gone_joined, InHole-above)

@@ -1,4 +1,4 @@
-use Rattle.std.proofs.Common.{◌≡◌, ◌≢◌, ℕ, zero, suc, ◌+◌, ◌<◌, ◌≤◌, List, [], ◌∷◌, length, Some, None, refl, sym, ◌∙◌, ap, arith, leb, slice_set}
+use Rattle.std.proofs.Common.{◌≡◌, ◌≢◌, ℕ, zero, suc, ◌+◌, ◌<◌, ◌≤◌, List, [], ◌∷◌, length, Some, None, refl, ◌∙◌, ap, arith, leb, slice_set}
 use Rattle.std.specs.List.{slice_get}
 use Rattle.std.proofs.lemmas.Bool.{cond-false, lt-leb}
 use Rattle.std.proofs.Math.ListN.{length-set}
@@ -17,39 +17,26 @@ link_to at zero next = next
 link_to at (suc n) next = at
 
 pub with_hole-length : (core : List Tagged) (b h at n next : ℕ) → length (with_hole core b h at n next) ≡ length core
-with_hole-length core b h at zero next = length-set core b (link_word h next)
-with_hole-length core b h at (suc n) next = length-set (slice_set core at (link_word (hole_high (suc n)) next)) b (link_word h at) ∙ length-set core at (link_word (hole_high (suc n)) next)
+with_hole-length core b h at n next = grind (arith, length-set, slice_set)
 
 pub with_hole-other : (core : List Tagged) (b h at n next i : ℕ) → i ≢ b → (1 ≤ n → i ≢ at) → slice_get (with_hole core b h at n next) i ≡ slice_get core i
-with_hole-other core b h at zero next i nb na = slice_get-set_other core b i (link_word h next) nb
-with_hole-other core b h at (suc n) next i nb na =
-    slice_get-set_other (slice_set core at (link_word (hole_high (suc n)) next)) b i (link_word h at) nb ∙ slice_get-set_other core at i (link_word (hole_high (suc n)) next) (na (omega arith))
+with_hole-other core b h at n next i nb na = grind (arith, slice_get-set_other)
 
 pub with_hole-link : (core : List Tagged) (b h at n next : ℕ) → b < length core → slice_get (with_hole core b h at n next) b ≡ Some (link_word h (link_to at n next))
-with_hole-link core b h at zero next i = slice_get-set_same core b (link_word h next) i
-with_hole-link core b h at (suc n) next i =
-    slice_get-set_same (slice_set core at (link_word (hole_high (suc n)) next)) b (link_word h at) (rw length-set i)
+with_hole-link core b h at n next i = grind (arith, slice_get-set_same, length-set)
 
 pub with_hole-hole : (core : List Tagged) (b h at n next : ℕ) → 1 ≤ n → b ≢ at → at < length core → slice_get (with_hole core b h at n next) at ≡ Some (link_word (hole_high n) next)
-with_hole-hole core b h at zero next some nb i = absurd (omega arith)
-with_hole-hole core b h at (suc n) next some nb i =
-    slice_get-set_other (slice_set core at (link_word (hole_high (suc n)) next)) b at (link_word h at) (λ e. nb (sym e)) ∙ slice_get-set_same core at (link_word (hole_high (suc n)) next) i
+with_hole-hole core b h at n next some nb i = grind (arith, slice_get-set_other, slice_get-set_same)
 
 -- a hole of n words, or none, before spans that stay
 pub Laid-left : (core new : List Tagged) (b h b' h' at n next : ℕ) (ss : List Span) → ((i : ℕ) → at + n ≤ i → slice_get new i ≡ slice_get core i) → slice_get new b' ≡ Some (link_word h' (link_to at n next)) → (1 ≤ n → slice_get new at ≡ Some (link_word (hole_high n) next)) → next ≡ first_hole (at + n) ss → Laid core b h (at + n) ss → Laid new b' h' at (left n ss)
-Laid-left core new b h b' h' at zero next ss same link hole e l =
-    let here : at + 0 ≡ at = omega arith in
-    Laid-move core new b h b' h' at ss (λ i g. same i (omega arith)) (link ∙ ap (λ (k : ℕ). Some (link_word h' k)) (e ∙ ap (λ (k : ℕ). first_hole k ss) here)) (rw here at l)
-Laid-left core new b h b' h' at (suc n) next ss same link hole e l =
-    (link, Laid-move core new b h at (hole_high (suc n)) (at + suc n) ss same (hole (omega arith) ∙ ap (λ (k : ℕ). Some (link_word (hole_high (suc n)) k)) e) l)
+Laid-left core new b h b' h' at n next ss same link hole e l = grind (arith, Laid-move)
 
 pub end-left : (at n : ℕ) (ss : List Span) → end at (left n ss) ≡ end (at + n) ss
-end-left at zero ss = let e : at ≡ at + 0 = omega arith in ap (λ (k : ℕ). end k ss) e
-end-left at (suc n) ss = refl
+end-left at n ss = grind arith
 
 pub AreSpans-left : (n : ℕ) (ss : List Span) → NoHole ss → AreSpans ss → AreSpans (left n ss)
-AreSpans-left zero ss h s = s
-AreSpans-left (suc n) ss h s = (omega arith, h, s)
+AreSpans-left n ss h s = grind arith
 
 -- the lowest hole with room, seen from a cut below which there is none
 pub spot-unzip : (n low : ℕ) (ds ss : List Span) → NoFit n ds → spot n low (unzip ds ss) ≡ spot n (spans_top low ds) ss

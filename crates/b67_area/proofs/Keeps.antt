@@ -1,15 +1,13 @@
-use Rattle.std.proofs.Common.{◌≡◌, ◌≢◌, ℕ, ◌+◌, ◌-◌, ◌*◌, ◌<◌, ◌≤◌, ◌^◌, List, [], ◌∷◌, length, Some, None, refl, sym, ◌∙◌, ap, arith, inr, ⊎_elim, ◌⊎◌, ◌==◌, subst, slice_set}
+use Rattle.std.proofs.Common.{◌≡◌, ◌≢◌, ℕ, ◌+◌, ◌-◌, ◌<◌, ◌≤◌, ◌^◌, List, [], ◌∷◌, length, Some, None, refl, sym, ◌∙◌, ap, arith, inr, slice_set}
 use Rattle.std.specs.List.{slice_get}
-use Rattle.std.proofs.lemmas.Bool.{cond-true, cond-false, eq-eqb, ne_eqb, cases_lt}
-use Rattle.std.proofs.lemmas.Option.{same_Some, slice_get_within}
+use Rattle.std.proofs.lemmas.Bool.{cond-true, eq-eqb}
+use Rattle.std.proofs.lemmas.Option.{slice_get_within}
 use Rattle.std.proofs.Math.ListN.{length-set}
-use Rattle.b67_word.specs.Tagged.{Tagged, word, bits_at}
+use Rattle.b67_word.specs.Tagged.{Tagged, bits_at}
 use Rattle.b67_area.specs.declared.kinds.Info.{Info}
-use Rattle.b67_area.specs.declared.kinds.Kind.{Kind}
-use Rattle.b67_area.specs.declared.kinds.Kind.TheVariants.{Array, Row, Code}
-use Rattle.b67_area.specs.Spans.{Span, Area, Hole, end, first_hole, first_area, area_at, area_after, keeping}
-use Rattle.b67_area.specs.Words.{link_word, hole_high, kind_number, head_word}
-use Rattle.b67_area.specs.Directory.{NoHole, AreSpans, Laid, IsDirectory}
+use Rattle.b67_area.specs.Spans.{Span, Area, Hole, end, first_area, area_at, area_after, keeping}
+use Rattle.b67_area.specs.Words.{link_word, hole_high, head_word}
+use Rattle.b67_area.specs.Directory.{AreSpans, Laid, IsDirectory}
 use Rattle.b67_area.specs.Walk.{unzip, spans_top, link_place, link_high, Found, IsArea, IsAbove}
 use Rattle.b67_area.proofs.Cuts.{opened, closed, end-unzip, spans_opened, spans_closed, pending, low_top, link_place_low, Below-same, Laid-move}
 use Rattle.b67_core.proofs.Writes.{slice_get-set_same, slice_get-set_other}
@@ -23,14 +21,12 @@ area_here core low ss address a d e =
 
 keeping-unzip : (low : ℕ) (ds ss : List Span) (x first : ℕ) → spans_top low ds < x → keeping low x first (unzip ds ss) ≡ unzip ds (keeping (spans_top low ds) x first ss)
 keeping-unzip low [] ss x first h = refl
-keeping-unzip low (Area b ∷ ds) ss x first h =
-    keeping-unzip low ds (Area b ∷ ss) x first (omega arith) ∙ ap (unzip ds) (cond-false (spans_top low ds + 1 == x) _ _ (ne_eqb (spans_top low ds + 1) x (λ e. omega arith)))
+keeping-unzip low (Area b ∷ ds) ss x first h = grind (arith, keeping-unzip low ds (Area b ∷ ss) x first)
 keeping-unzip low (Hole n ∷ ds) ss x first h = keeping-unzip low ds (Hole n ∷ ss) x first (omega arith)
 
 area_after-unzip : (low : ℕ) (ds ss : List Span) (x : ℕ) → spans_top low ds < x → area_after low (unzip ds ss) x ≡ area_after (spans_top low ds) ss x
 area_after-unzip low [] ss x h = refl
-area_after-unzip low (Area b ∷ ds) ss x h =
-    area_after-unzip low ds (Area b ∷ ss) x (omega arith) ∙ cond-false (spans_top low ds + 1 == x) _ _ (ne_eqb (spans_top low ds + 1) x (λ e. omega arith))
+area_after-unzip low (Area b ∷ ds) ss x h = grind (arith, area_after-unzip low ds (Area b ∷ ss) x)
 area_after-unzip low (Hole n ∷ ds) ss x h = area_after-unzip low ds (Hole n ∷ ss) x (omega arith)
 
 module _ (core : List Tagged) (low : ℕ) (ss : List Span) (address : ℕ) (a : Info) (d : IsDirectory core low ss) (e : area_at low ss address ≡ Some a) where
@@ -50,13 +46,7 @@ module _ (core : List Tagged) (low : ℕ) (ss : List Span) (address : ℕ) (a : 
   pub above_here : (b : ℕ) × (h : ℕ) × (ss' : List Span) × IsAbove core b h (address + (a.words + 1)) ss' × (area_after low ss address ≡ first_area (address + (a.words + 1)) ss')
   above_here =
       let z : spans_top low there.below + (a.words + 2) ≡ address + (a.words + 1) = omega (arith, there.at) in
-      let h : spans_top low there.below + 1 ≡ address = sym there.at in (
-        link_place low there.below,
-        link_high there.below,
-        there.above,
-        subst (λ (k : ℕ). IsAbove core (link_place low there.below) (link_high there.below) k there.above) z (record { laid = laid.2; spans = spans.1.1; ends = ends; small = d.small; some = omega arith }),
-        ap (λ (s : List Span). area_after low s address) there.is ∙ area_after-unzip low there.below (Area a ∷ there.above) address (omega arith) ∙ cond-true (spans_top low there.below + 1 == address) _ _ (eq-eqb (spans_top low there.below + 1) address h) ∙ ap (λ (k : ℕ). first_area k there.above) z,
-      )
+      grind (arith, z, laid, spans, ends, area_after-unzip, cond-true, eq-eqb)
 
   module _ (first : ℕ) (low_first : first < 2 ^ 20) (new : List Tagged) (is : new ≡ slice_set core (address - 1 + (a.words + 1)) (link_word a.words first)) where
     same : (k : ℕ) → k ≢ address - 1 + (a.words + 1) → slice_get new k ≡ slice_get core k
@@ -72,9 +62,7 @@ module _ (core : List Tagged) (low : ℕ) (ss : List Span) (address : ℕ) (a : 
     tail_here = rw (sym z) (ap (λ (c : List Tagged). slice_get c (address - 1 + (a.words + 1))) is ∙ slice_get-set_same core (address - 1 + (a.words + 1)) (link_word a.words first) (omega (arith, z, ends, low_end (spans_top low there.below + (a.words + 2)) there.above)))
 
     kept : keeping low address first ss ≡ unzip there.below (Area (record a { kept = first }) ∷ there.above)
-    kept =
-        let h : spans_top low there.below + 1 ≡ address = sym there.at in
-        ap (keeping low address first) there.is ∙ keeping-unzip low there.below (Area a ∷ there.above) address first (omega arith) ∙ ap (unzip there.below) (cond-true (spans_top low there.below + 1 == address) _ _ (eq-eqb (spans_top low there.below + 1) address h))
+    kept = grind (arith, keeping-unzip)
 
     place : link_place low there.below < spans_top low there.below
     place = (link_place_low low there.below d.above spans.0).0
@@ -102,18 +90,12 @@ hole_kind : (n x : ℕ) → n < 2 ^ 20 → x < 2 ^ 20 → bits_at (link_word (ho
 hole_kind n x h g = omega arith
 
 area_kind : (a : Info) → a.words < 2 ^ 20 → a.owner < 2 ^ 20 → bits_at (head_word a) 46 2 ≢ 3
-area_kind a w o = by_kind a.kind where
-  by_kind : (k : Kind) → bits_at (word 3 (kind_number k * 2 ^ 46 + a.words * 2 ^ 20 + a.owner)) 46 2 ≢ 3
-  by_kind Array e = omega arith
-  by_kind Row e = omega arith
-  by_kind Code e = omega arith
+area_kind a w o = grind arith
 
 -- what a look at a place above an area tells
 module _ (core : List Tagged) (b h at : ℕ) where
   pub next_in : (ss : List Span) → IsAbove core b h at ss → at ≢ length core → at < length core
-  next_in ss i n = let low = low_end at ss in ⊎_elim (λ g. g) (λ g. absurd (n (omega (arith, i.ends)))) (lt_or at (length core)) where
-    lt_or : (m n : ℕ) → (m < n) ⊎ (n ≤ m)
-    lt_or = cases_lt
+  next_in ss i n = grind (arith, low_end)
 
   pub next_end : (ss : List Span) → IsAbove core b h at ss → at ≡ length core → None ≡ first_area at ss
   next_end [] i e = refl
@@ -123,27 +105,13 @@ module _ (core : List Tagged) (b h at : ℕ) where
   pub next_area_here : (ss : List Span) (w : Tagged) → IsAbove core b h at ss → slice_get core at ≡ Some w → bits_at w 46 2 ≢ 3 → Some (at + 1) ≡ first_area at ss
   next_area_here [] w i r k = absurd (omega (arith, i.ends, slice_get_within core at w r))
   next_area_here (Area a ∷ ss) w i r k = refl
-  next_area_here (Hole n ∷ ss) w i r k =
-      let is : w ≡ link_word (hole_high n) (first_hole (at + n) ss) = same_Some w _ (sym r ∙ pending core at (hole_high n) (at + n) ss i.laid.1) in
-      absurd (k (ap (λ (v : Tagged). bits_at v 46 2) is ∙ hole_kind n (first_hole (at + n) ss) (omega (arith, i.ends, low_end (at + n) ss, i.small)) (next-lt core at (at + n) ss i.spans.2 (omega (arith, i.ends)) i.small)))
+  next_area_here (Hole n ∷ ss) w i r k = grind (arith, pending, low_end, next-lt)
 
   -- a hole is there, and what lies behind it
   pub next_hole_here : (ss : List Span) (w : Tagged) → IsAbove core b h at ss → slice_get core at ≡ Some w → bits_at w 46 2 ≡ 3 → (n : ℕ) × (x : ℕ) × (n < 2 ^ 20) × (x < 2 ^ 20) × (slice_get core at ≡ Some (link_word (hole_high n) x)) × (at + n ≤ length core) × (at + n ≡ length core → None ≡ first_area at ss) × (at + n ≢ length core → Some (at + n + 1) ≡ first_area at ss)
   next_hole_here [] w i r k = absurd (omega (arith, i.ends, slice_get_within core at w r))
-  next_hole_here (Area a ∷ ss) w i r k =
-      let is : w ≡ head_word a = same_Some w _ (sym r ∙ i.laid.0) in
-      absurd (area_kind a (omega (arith, i.ends, low_end (at + (a.words + 2)) ss, i.small)) i.spans.0.owner (sym (ap (λ (v : Tagged). bits_at v 46 2) is) ∙ k))
-  next_hole_here (Hole n ∷ ss) w i r k =
-      (n, first_hole (at + n) ss, omega (arith, i.ends, low_end (at + n) ss, i.small), next-lt core at (at + n) ss i.spans.2 (omega (arith, i.ends)) i.small, pending core at (hole_high n) (at + n) ss i.laid.1, omega (arith, i.ends, low_end (at + n) ss), at_end ss i.spans.1 i.spans.2 i.ends, no_end ss i.spans.1 i.ends) where
-        at_end : (ss : List Span) → NoHole ss → AreSpans ss → end (at + n) ss ≡ length core → at + n ≡ length core → None ≡ first_area (at + n) ss
-        at_end [] x s e q = refl
-        at_end (Area a ∷ ss) x s e q = absurd (omega (arith, low_end (at + n + (a.words + 2)) ss))
-        at_end (Hole m ∷ ss) x s e q = absurd x
-
-        no_end : (ss : List Span) → NoHole ss → end (at + n) ss ≡ length core → at + n ≢ length core → Some (at + n + 1) ≡ first_area (at + n) ss
-        no_end [] x e q = absurd (q e)
-        no_end (Area a ∷ ss) x e q = refl
-        no_end (Hole m ∷ ss) x e q = absurd x
+  next_hole_here (Area a ∷ ss) w i r k = grind (arith, low_end)
+  next_hole_here (Hole n ∷ ss) w i r k = grind (arith, low_end, next-lt, pending)
 
 pub all_above : (core : List Tagged) (low : ℕ) (ss : List Span) → IsDirectory core low ss → IsAbove core 152 0 low ss
 all_above core low ss d = record { laid = d.laid; spans = d.spans; ends = d.all; small = d.small; some = omega (arith, d.above) }

@@ -13,29 +13,20 @@ use Rattle.b67_area.specs.Directory.{AreSpans, Laid, IsDirectory}
 use Rattle.b67_area.specs.Walk.{unzip, spans_top, link_place, link_high, front, behind, with_hole, LeavesHole, Vacates}
 use Rattle.b67_area.proofs.Cuts.{closed, end-unzip, spans_closed, Below-same, InHole-above, InHole-link}
 use Rattle.b67_area.proofs.Holes.{link_to, with_hole-length, with_hole-other, with_hole-link, with_hole-hole, Laid-left, end-left, AreSpans-left}
-use Rattle.b67_area.proofs.Frees.{join-front, opened_here, spans_here, facts, place_below, rest_laid, rest_spans, rest_end}
-use Rattle.b67_area.proofs.Laws.{area_at-join}
+use Rattle.b67_area.proofs.Frees.{opened_here, spans_here, facts, place_below, rest_laid, rest_spans, rest_end}
 
 -- an area there that has so many words or more, seen from its place
 pub shortened-unzip : (low : ℕ) (ds ss : List Span) (x n : ℕ) → spans_top low ds < x → shortened low x n (unzip ds ss) ≡ unzip ds (shortened (spans_top low ds) x n ss)
 shortened-unzip low [] ss x n h = refl
-shortened-unzip low (Area b ∷ ds) ss x n h =
-    shortened-unzip low ds (Area b ∷ ss) x n (omega arith) ∙ ap (unzip ds) (cond-false (spans_top low ds + 1 == x) _ _ (ne_eqb (spans_top low ds + 1) x (λ e. omega arith)))
+shortened-unzip low (Area b ∷ ds) ss x n h = grind (arith, shortened-unzip low ds (Area b ∷ ss) x n)
 shortened-unzip low (Hole m ∷ ds) ss x n h = shortened-unzip low ds (Hole m ∷ ss) x n (omega arith)
 
 -- the hole before what lies behind the hole at the front
 spaced-left : (n : ℕ) (ss : List Span) → AreSpans ss → spaced n ss ≡ left (n + front ss) (behind ss)
-spaced-left zero [] s = refl
-spaced-left zero (Area a ∷ ss) s = refl
-spaced-left zero (Hole zero ∷ ss) s = absurd (omega (arith, s.0))
-spaced-left zero (Hole (suc m) ∷ ss) s = let e : suc m ≡ 0 + suc m = omega arith in ap (λ (k : ℕ). left k ss) e
-spaced-left (suc n) ss s = join-front (suc n) ss ∙ some (front ss) where
-  some : (m : ℕ) → Hole (suc n + m) ∷ behind ss ≡ left (suc n + m) (behind ss)
-  some m = let e : suc n + m ≡ suc (n + m) = omega arith in rw e refl
+spaced-left n ss s = grind arith
 
 area_at-spaced : (at n : ℕ) (ss : List Span) (x : ℕ) → area_at at (spaced n ss) x ≡ area_at (at + n) ss x
-area_at-spaced at zero ss x = let e : at ≡ at + 0 = omega arith in ap (λ (k : ℕ). area_at k ss x) e
-area_at-spaced at (suc n) ss x = area_at-join at (suc n) ss x
+area_at-spaced at n ss x = grind arith
 
 -- which areas there are after a shrink
 pub area_at-shortened : (at x n : ℕ) (ss : List Span) (y : ℕ) → ((a : Info) → area_at at ss x ≡ Some a → n ≤ a.words) → area_at at (shortened at x n ss) y ≡ with_words x n y (area_at at ss y)

@@ -1,5 +1,5 @@
 -- A job's part of a run is its own run.
-use Rattle.std.proofs.Common.{◌≡◌, ◌≢◌, ℕ, zero, suc, true, false, eqb, List, [], ◌∷◌, ◌++◌, map, filter, Option, Some, None, refl, sym, ap, ap₂, ◌∙◌, subst, inl, inr}
+use Rattle.std.proofs.Common.{◌≡◌, ◌≢◌, ℕ, zero, suc, true, false, eqb, List, [], ◌∷◌, ◌++◌, Option, Some, None, refl, sym, ap, ap₂, ◌∙◌, subst, inl, inr, arith}
 use Rattle.std.proofs.lemmas.Bool.Decides.{eqb_tells}
 use Rattle.std.proofs.lemmas.List.Elements.{filter-append}
 use Rattle.std.proofs.lemmas.List.{map-append}
@@ -9,9 +9,7 @@ use Rattle.b67_law_sessions.specs.JobsApart.{alone_after, JobStatesApart}
 use Rattle.b67_lemmas.proofs.Keyed.{keyed-change_other, keyed-change_same}
 
 lines_of_job-append : (job : ℕ) (xs ys : List RunLine) → lines_of_job job (xs ++ ys) ≡ lines_of_job job xs ++ lines_of_job job ys
-lines_of_job-append job xs ys =
-    ap (map (λ (line : RunLine). (line.1, line.2))) (filter-append (λ (line : RunLine). eqb line.0 job) xs ys)
-    ∙ map-append (λ (line : RunLine). (line.1, line.2)) (filter (λ (line : RunLine). eqb line.0 job) xs) (filter (λ (line : RunLine). eqb line.0 job) ys)
+lines_of_job-append job xs ys = grind (arith, filter-append, map-append)
 
 own_lines : (i job : ℕ) → eqb i job ≡ true → (ls : List (ℕ × Line)) → lines_of_job job (of_job i ls) ≡ ls
 own_lines i job e [] = refl

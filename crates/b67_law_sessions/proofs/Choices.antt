@@ -1,8 +1,7 @@
 -- Which task is chosen.
-use Rattle.std.proofs.Common.{◌≡◌, ℕ, Bool, true, false, not, List, [], ◌∷◌, ◌++◌, filter, Option, Some, None, refl, sym, ap, ◌∙◌, subst}
+use Rattle.std.proofs.Common.{◌≡◌, ℕ, Bool, true, false, not, List, [], ◌∷◌, ◌++◌, filter, Option, Some, None, refl, sym, ap, ◌∙◌, subst, arith}
 use Rattle.std.specs.Prelude.{◌==◌, ◌&&◌, ◌||◌, nat_lt, find, flat_map}
 use Rattle.std.specs.List.{list_any}
-use Rattle.std.proofs.lemmas.Option.{same_Some}
 use Rattle.b67_lemmas.proofs.Members.{all_in, keyed_falls}
 use Rattle.b67_model.specs.Common.{Ready, Task, SessionJob, Who, Session, Choice, is_same, is_before, ready_of, ready, afresh, switched, first, choice_by, choice, number_of, IsSegment, JobInOrder, IsInOrderButPlaces}
 use Rattle.b67_model.specs.Keyed.{keyed}
@@ -15,8 +14,7 @@ use Rattle.b67_law_sessions.specs.Turns.{IsNext, ChoiceIgnoresNumbers, ChosenTas
 
 ready_others : (ms ns : List SessionJob) → AllOtherNumbers ms ns → flat_map ready_of ns ≡ flat_map ready_of ms
 ready_others [] [] o = refl
-ready_others (m ∷ ms) (n ∷ ns) o =
-    ap (λ (ws : List Who). ws ++ flat_map ready_of ns) (ap ready_of o.0.rest) ∙ ap (λ (ws : List Who). ready_of m ++ ws) (ready_others ms ns o.1)
+ready_others (m ∷ ms) (n ∷ ns) o = grind (arith, ready_others ms ns o.1)
 ready_others [] (n ∷ ns) o = absurd o
 ready_others (m ∷ ms) [] o = absurd o
 
@@ -26,9 +24,7 @@ by_ready last turn rs None true = Some (record { who = last; turn = turn })
 by_ready last turn rs None false = afresh (first (filter (is_before last) rs ++ filter (λ who. not (is_before last who)) rs))
 
 by_is : (s : Session) (o : Option Who) (on : Bool) → choice_by s o on ≡ by_ready s.last s.turn (ready s) o on
-by_is s (Some who) on = refl
-by_is s None true = refl
-by_is s None false = refl
+by_is s o on = grind arith
 
 abbrev chosen_from : Session → List Who → Option Choice
 chosen_from s rs =
@@ -61,11 +57,4 @@ chosen_tasks_are_ready s c o is =
 
 -- the same of the task that is known to be the next one
 pub next_is_ready : (s : Session) (m : SessionJob) (t : Task) → IsInOrderButPlaces s → IsNext s m t → t.condition ≡ Ready
-next_is_ready s m t o n =
-    let (m', t', n', same, ready) = chosen_tasks_are_ready s n.chosen o n.is in
-    let member : m' ≡ m = same_Some m' m (sym (subst (λ (c : Choice). keyed number_of c.who.job s.jobs ≡ Some m') same n'.member) ∙ n.member) in
-    let found : keyed (λ (u : Task). u.number) n.chosen.who.task m.progress.job.tasks ≡ Some t' =
-    subst (λ (x : SessionJob). keyed (λ (u : Task). u.number) n.chosen.who.task x.progress.job.tasks ≡ Some t') member
-    (subst (λ (c : Choice). keyed (λ (u : Task). u.number) c.who.task m'.progress.job.tasks ≡ Some t') same n'.task) in
-    let task : t' ≡ t = same_Some t' t (sym found ∙ n.task) in
-    subst (λ (u : Task). u.condition ≡ Ready) task ready
+next_is_ready s m t o n = grind (arith, chosen_tasks_are_ready)

@@ -1,5 +1,5 @@
 -- The tasks that are left, deepest first, and the endings of a step with DEADLOCK.
-use Rattle.std.proofs.Common.{◌≡◌, ℕ, zero, suc, Bool, true, false, not, List, [], ◌∷◌, ◌++◌, map, filter, reverse, length, refl, sym, ap, ◌∙◌, append-nil}
+use Rattle.std.proofs.Common.{◌≡◌, ℕ, zero, suc, Bool, true, false, not, List, [], ◌∷◌, ◌++◌, map, filter, length, refl, sym, ap, ◌∙◌, append-nil, arith}
 use Rattle.std.specs.Prelude.{◌==◌}
 use Rattle.std.specs.List.{list_all}
 use Rattle.std.proofs.lemmas.List.{map-append}
@@ -27,22 +27,12 @@ module _ (numbers : List ℕ) (depth : ℕ) where
   own ts = map (λ (t : Task). t.number) (filter at ts)
 
   depth_cons : (t : Task) (ts : List Task) → at_depth depth (t ∷ ts) ≡ at_depth depth ts ++ map (λ (u : Task). u.number) (filter at (t ∷ []))
-  depth_cons t ts =
-      ap (λ (us : List Task). map (λ (u : Task). u.number) (filter at us)) (reverse_cons t ts)
-      ∙ ap (λ (us : List Task). map (λ (u : Task). u.number) us) (filter-append at (reverse ts) (t ∷ []))
-      ∙ map-append (λ (u : Task). u.number) (filter at (reverse ts)) (filter at (t ∷ []))
+  depth_cons t ts = grind (arith, reverse_cons, filter-append, map-append)
 
   -- one task more
   with_one : (t : Task) (ts : List Task) → at_depth depth (left numbers ts) ≡ others numbers (at_depth depth ts) → (b : Bool) → stays t.number ≡ b → (d : Bool) → at t ≡ d
       → at_depth depth (left numbers (t ∷ ts)) ≡ others numbers (at_depth depth ts ++ map (λ (u : Task). u.number) (filter at (t ∷ [])))
-  with_one t ts e true s true a =
-      let u : Task = record t { condition = released numbers t.condition } in
-      rw s (depth_cons u (left numbers ts) ∙ rw a (ap (λ (ns : List ℕ). ns ++ (t.number ∷ [])) e ∙ sym (filter-append stays (at_depth depth ts) (t.number ∷ []) ∙ rw s refl)))
-  with_one t ts e true s false a =
-      let u : Task = record t { condition = released numbers t.condition } in
-      rw s (depth_cons u (left numbers ts) ∙ rw a (append-nil (at_depth depth (left numbers ts)) ∙ e ∙ sym (ap (others numbers) (append-nil (at_depth depth ts)))))
-  with_one t ts e false s true a = rw s (e ∙ sym (rw a (filter-append stays (at_depth depth ts) (t.number ∷ []) ∙ rw s (append-nil (others numbers (at_depth depth ts))))))
-  with_one t ts e false s false a = rw s (e ∙ sym (rw a (ap (others numbers) (append-nil (at_depth depth ts)))))
+  with_one t ts e b s d a = grind (arith, depth_cons, filter-append, append-nil)
 
   depth_left : (ts : List Task) → at_depth depth (left numbers ts) ≡ others numbers (at_depth depth ts)
   depth_left [] = refl
@@ -50,10 +40,7 @@ module _ (numbers : List ℕ) (depth : ℕ) where
 
 below_left : (numbers : List ℕ) (depth : ℕ) (ts : List Task) → deepest_below depth (left numbers ts) ≡ others numbers (deepest_below depth ts)
 below_left numbers zero ts = refl
-below_left numbers (suc depth) ts =
-    ap (λ (ns : List ℕ). ns ++ deepest_below depth (left numbers ts)) (depth_left numbers depth ts)
-    ∙ ap (λ (ns : List ℕ). others numbers (at_depth depth ts) ++ ns) (below_left numbers depth ts)
-    ∙ sym (filter-append (λ (n : ℕ). not (among numbers n)) (at_depth depth ts) (deepest_below depth ts))
+below_left numbers (suc depth) ts = grind (arith, depth_left, filter-append, below_left numbers depth ts)
 
 -- who is left of a job once these have ended
 pub deepest_left : (numbers : List ℕ) (ts : List Task) → deepest_first (left numbers ts) ≡ others numbers (deepest_first ts)

@@ -10,7 +10,7 @@ use Rattle.b67_model.specs.Keyed.{keyed, change_keyed}
 use Rattle.b67_lemmas.specs.Lists.{Has}
 use Rattle.b67_lemmas.proofs.Members.{change_found, change_other, keyed_has}
 use Rattle.b67_lemmas.proofs.Keyed.{change_is}
-use Rattle.b67_model.specs.Common.{Task, SessionJob, Reading, reading_of, JobMoment, step_of, Session, Choice, choice, StepResult, number_of, of_job, with_moment, moment_by, moment_for, next, after_from, after, IsInOrder}
+use Rattle.b67_model.specs.Common.{SessionJob, Reading, reading_of, JobMoment, step_of, Session, Choice, choice, StepResult, number_of, of_job, with_moment, moment_by, moment_for, next, after_from, after, IsInOrder, Task}
 use Rattle.b67_law_order.specs.Opening.{Opening, opened_from, opening}
 use Rattle.b67_law_order.proofs.Opens.{opens_in_order}
 use Rattle.b67_law_order.specs.Runs.{RunsAdmitted}
@@ -55,24 +55,16 @@ the_same s c job x op t chooses r =
 
 -- a session with no next step
 after_stays : (n : ℕ) (s : Session) → next s ≡ None → after n s ≡ s
-after_stays zero s e = refl
-after_stays (suc n) s e = rw e refl
+after_stays n s e = grind arith
 
 after_stop : (k : ℕ) (first s : Session) → after k first ≡ s → next s ≡ None → after (suc k) first ≡ s
 after_stop zero first s is e = let found : next first ≡ None = ap next is ∙ e in rw found is
-after_stop (suc k) first s is e = by (λ from. after_stop k from s) (next first) refl
-  where
-    by : ((from : Session) → after k from ≡ s → next s ≡ None → after (suc k) from ≡ s) → (o : Option StepResult) → next first ≡ o → after (suc (suc k)) first ≡ s
-    by rest None f = let stays : first ≡ s = rw f at is in rw f stays
-    by rest (Some n) f = let later : after k n.session ≡ s = rw f at is in rw f (rest n.session later e)
+after_stop (suc k) first s is e = grind (arith, after_stop k)
 
 -- where a task makes the next step there is one
 runs_on : (s : Session) (job x : ℕ) (op : Op) → MakesOperator s job x op → next s ≡ None → ⊥
 unfolding next
-runs_on s job x op r e =
-    let for_choice : moment_for s (Some r.chosen) ≡ None = subst (λ o. moment_for s o ≡ None) r.chooses e in
-    let by_member : moment_by s r.chosen (Some r.member) ≡ None = subst (λ o. moment_by s r.chosen o ≡ None) r.found for_choice in
-    cc
+runs_on s job x op r e = grind arith
 
 module _ (first : Session) where
   -- after so many steps those have ended that stepped at NVLD
@@ -191,10 +183,7 @@ module _ (first : Session) where
 
 none_ended : (number stack : ℕ) (openings : List Opening) (m : SessionJob) → Has (opened_from number stack openings) m → m.progress.ended ≡ []
 none_ended number stack [] m h = absurd h
-none_ended number stack (o ∷ more) m h = elim h [
-  | inl is ↦ sym (ap (λ (x : SessionJob). x.progress.ended) is)
-  | inr r ↦ none_ended (number + 1) stack more m r
-]
+none_ended number stack (o ∷ more) m h = grind (arith, none_ended (number + 1) stack more m)
 
 pub runs_end_exactly_at_nvld : RunsEndExactlyAtNvld
 runs_end_exactly_at_nvld n stack quantum switches openings job task m within found =

@@ -1,11 +1,11 @@
 -- A whole step ends a task with INVALID OPERATOR exactly if it is the task that steps, and its operator faults so.
-use Rattle.std.proofs.Common.{◌≡◌, ◌≢◌, ◌↔◌, ℕ, ◌+◌, Bool, true, false, not, eqb, List, [], ◌∷◌, ◌++◌, Some, Ok, Err, sym, ap, subst, inl, inr, ◌⊎◌}
+use Rattle.std.proofs.Common.{◌≡◌, ◌≢◌, ◌↔◌, ℕ, Bool, true, false, not, List, Some, Ok, Err, ap, ◌⊎◌, arith, [], ◌∷◌, sym, inl, inr}
 use Rattle.std.specs.List.{list_all}
 use Rattle.b67_word.specs.declared.faults.Fault.{Fault}
 use Rattle.b67_word.specs.declared.faults.Fault.TheVariants.{InvalidOperator}
 use Rattle.b67_word.specs.declared.faults.Ending.{Ending}
 use Rattle.b67_word.specs.declared.faults.Ending.TheVariants.{Ended, Parent, Deadlock, Limit, Faulted}
-use Rattle.b67_model.specs.Common.{Answer, Task, JobConstants, Job, JobProgress, with_task, Done, Goes, Leaves, Waits, step, Settled, is_ready, all_with, deepest_first, descendants, ends_task, ends_each_if, unsettled, settles, stepped, by_task, step_of}
+use Rattle.b67_model.specs.Common.{Answer, Task, JobConstants, Job, JobProgress, Done, Goes, Leaves, Waits, step, Settled, is_ready, all_with, ends_task, ends_each_if, settles, stepped, step_of, deepest_first, descendants}
 use Rattle.b67_model.specs.Keyed.{keyed}
 use Rattle.b67_lemmas.specs.Lists.{Has}
 use Rattle.b67_lemmas.proofs.Members.{has_append_cases, has_append_left, has_append_right, has_map_back}
@@ -23,9 +23,7 @@ limit_ne : Limit ≢ Faulted InvalidOperator
 limit_ne e = cc
 
 none_with : (ending : Ending) (numbers : List ℕ) (x : ℕ) → ending ≢ Faulted InvalidOperator → FaultIn (all_with ending numbers) x → ⊥
-none_with ending numbers x ne h =
-    let r = has_map_back (λ (n : ℕ). (n, ending)) numbers (x, Faulted InvalidOperator) h in
-    ne (ap (λ (e : ℕ × Ending). e.1) r.is)
+none_with ending numbers x ne h = grind (arith, has_map_back)
 
 each_exact : (test : Bool) (ending : Ending) (s : Settled) (x : ℕ) → ending ≢ Faulted InvalidOperator → FaultIn (ends_each_if test ending s).endings x ↔ FaultIn s.endings x
 each_exact true ending s x ne = (
@@ -57,16 +55,8 @@ task_exact job number ending x = (
 
 -- the endings of a step before the last part of its end
 settles_exact : (job : Job) (task : Task) (a : Answer Done) (x : ℕ) → FaultIn (settles job task a).settled.endings x ↔ ((x ≡ task.number) × (a ≡ Err InvalidOperator))
-settles_exact job task (Ok (Goes after printed touched)) x = (
-  λ h. absurd ((each_exact (list_all (λ (t : Task). not (is_ready t)) after.tasks) Deadlock (unsettled after) x deadlock_ne).0 h),
-  λ both. absurd (let is = both.1 in let z : ⊥ = cc in z),
-)
-settles_exact job task (Ok (Waits condition)) x = (
-  λ h.
-      let after = with_task job (record task { condition = condition }) in
-      absurd ((each_exact (list_all (λ (t : Task). not (is_ready t)) after.tasks) Deadlock (unsettled after) x deadlock_ne).0 h),
-  λ both. absurd (let is = both.1 in let z : ⊥ = cc in z),
-)
+settles_exact job task (Ok (Goes after printed touched)) x = grind (arith, each_exact)
+settles_exact job task (Ok (Waits condition)) x = grind (arith, each_exact)
 settles_exact job task (Ok Leaves) x = (
   λ h.
       let both = (task_exact job task.number Ended x).0 ((each_exact (list_all (λ (t : Task). not (is_ready t)) (ends_task job task.number Ended).job.tasks) Deadlock (ends_task job task.number Ended) x deadlock_ne).0 h) in
@@ -96,21 +86,4 @@ stepped_exact constants job task x = settles_exact job task (step constants job 
 pub step_exact : (constants : JobConstants) (c : JobProgress) (number : ℕ) (task : Task) (x : ℕ) → keyed (λ t. t.number) number c.job.tasks ≡ Some task →
     FaultIn (step_of constants c number).progress.ended x ↔ (FaultIn c.ended x ⊎ ((x ≡ task.number) × (step constants c.job task ≡ Err InvalidOperator)))
 unfolding step_of
-step_exact constants c number task x live =
-    subst (λ o. FaultIn (by_task constants c o).progress.ended x ↔ (FaultIn c.ended x ⊎ ((x ≡ task.number) × (step constants c.job task ≡ Err InvalidOperator)))) (sym live) (forward, back)
-  where
-    made : Settled
-    made = (stepped constants c.job task).settled
-
-    last : Settled
-    last = ends_each_if (eqb (c.made + 1) constants.limit) Limit made
-
-    forward : FaultIn (c.ended ++ last.endings) x → FaultIn c.ended x ⊎ ((x ≡ task.number) × (step constants c.job task ≡ Err InvalidOperator))
-    forward h = elim (has_append_cases c.ended last.endings (x, Faulted InvalidOperator) h) [
-      | inl old ↦ inl old
-      | inr new ↦ inr ((stepped_exact constants c.job task x).0 ((each_exact (eqb (c.made + 1) constants.limit) Limit made x limit_ne).0 new))
-    ]
-
-    back : FaultIn c.ended x ⊎ ((x ≡ task.number) × (step constants c.job task ≡ Err InvalidOperator)) → FaultIn (c.ended ++ last.endings) x
-    back (inl old) = has_append_left c.ended last.endings (x, Faulted InvalidOperator) old
-    back (inr new) = has_append_right c.ended last.endings (x, Faulted InvalidOperator) ((each_exact (eqb (c.made + 1) constants.limit) Limit made x limit_ne).1 ((stepped_exact constants c.job task x).1 new))
+step_exact constants c number task x live = grind (arith, has_append_cases, stepped_exact, each_exact, has_append_left, has_append_right)

@@ -1,15 +1,14 @@
 -- No row but NVLD's faults INVALID OPERATOR, and MPCW's at a literal that the loader refuses.
-use Rattle.std.proofs.Common.{◌≡◌, ◌≢◌, ℕ, zero, suc, ℤ, pos, negsuc, ◌+ℤ◌, ◌*ℤ◌, neg_ℤ, Bool, true, false, cond, List, [], ◌∷◌, reverse, length, Option, Some, None, Ok, Err, refl, inl, inr}
+use Rattle.std.proofs.Common.{◌≡◌, ◌≢◌, ℕ, zero, suc, ℤ, ◌+ℤ◌, ◌*ℤ◌, neg_ℤ, Bool, true, false, cond, List, [], ◌∷◌, length, Option, None, Ok, Err, refl, inl, arith}
 use Rattle.std.specs.Prelude.{int_div, int_rem}
 use Rattle.std.specs.Option.{ok_or}
-use Rattle.std.proofs.lemmas.Bool.{cases_Bool}
 use Rattle.b67_word.specs.declared.couples.Place.{Place}
 use Rattle.b67_word.specs.declared.faults.Fault.{Fault}
 use Rattle.b67_word.specs.declared.faults.Fault.TheVariants.{InvalidOperator, InvalidOperand, InvalidAddress, InvalidIndex, Loop, Exponent, IntegerOverflow, DivideByZero, MemoryProtect, MarkPending, Uplevel, CriticalBlock, StackUnderflow, StackOverflow}
 use Rattle.b67_model.specs.declared.operators.Op.TheVariants.{Valc, Namc, Lt8, Lt16, Lt48, Mpcw, Brun, Brtr, Brfl, Bset, Brst, Isol, Insr, Plain}
 use Rattle.b67_model.specs.declared.operators.Code.{Code}
 use Rattle.b67_model.specs.declared.operators.Code.TheVariants as codes
-use Rattle.b67_model.specs.Common.{Answer, ◌>>=◌, ◌>>◌, needs, Word, Operand, Name, Ref, Row, Element, Original, Proc, Intrinsic, operand, number, to_operand, Standing, Marked, Entered, Return, Task, Job, OperatorContext, place_of, cell, End, AtCell, AtElement, AtArray, AtProc, AtIntrinsic, Link, Stops, Leads, element_end, link_at, link_in, link_from, link, chase_on, chase, follow, follow_reference, array, array_at, array_of, index_below, indexed, in_order, Binary, on_numbers, compared, divided, add, subt, mult, idiv, rdiv, less, greq, grtr, lseq, equl, neql, land, lor, leqv, same, chsn, lnot, bset, brst, isol, insr, Line, Done, top_of, cells_of, result, with_cells, leaves_cells, pushes, accident, evaluates, enters, leaves, exit, returnable, returned, retn_word, answers, array_length, arraydec, print, row_copy, numbers_of, printrow, read, starts, process, awaits, await, status, waits_at, wait, causes, cause, deallocate, resize, intrinsic, CellRow, on_one, on_two, movable, dlet, exch, dupl, on_cells, branches, branch_if, valc, stff_word, stff, load_at, load, indx, nxlv, store_at, store, entr_at, entr_with, entr, is_proc, proc_of, plain}
+use Rattle.b67_model.specs.Common.{Answer, ◌>>=◌, ◌>>◌, needs, Word, Operand, Name, Ref, Row, Element, operand, number, to_operand, Standing, Marked, Entered, Return, Task, Job, OperatorContext, place_of, End, AtCell, AtElement, AtArray, AtProc, AtIntrinsic, Link, Stops, Leads, element_end, link_at, link_in, link_from, link, chase_on, chase, follow, follow_reference, array, array_at, array_of, index_below, indexed, Binary, on_numbers, compared, divided, add, subt, mult, idiv, rdiv, less, greq, grtr, lseq, equl, neql, land, lor, leqv, same, chsn, lnot, bset, brst, isol, insr, Line, Done, top_of, cells_of, result, with_cells, leaves_cells, pushes, accident, evaluates, enters, leaves, exit, returnable, returned, retn_word, answers, array_length, arraydec, print, row_copy, numbers_of, printrow, read, starts, process, awaits, await, status, waits_at, wait, causes, cause, deallocate, resize, intrinsic, CellRow, on_one, on_two, movable, dlet, exch, dupl, on_cells, branches, branch_if, valc, stff_word, stff, load_at, load, indx, nxlv, store_at, store, entr_at, entr_with, entr, plain}
 use Rattle.b67_model.specs.Words as Words
 use Rattle.b67_model.specs.Words.{whole}
 use Rattle.b67_law_sessions.specs.Faults.{InvalidOperatorIsNvld}
@@ -30,16 +29,13 @@ o_err : {A : Type 0} (fault : Fault) → fault ≢ InvalidOperator → Other {A 
 o_err fault ne = record { by = ne }
 
 o_bind : {A B : Type 0} (a : Answer A) (go : A → Answer B) → Other a → ((x : A) → Other (go x)) → Other (a >>= go)
-o_bind (Ok x) go first each = each x
-o_bind (Err fault) go first each = record { by = first.by }
+o_bind a go first each = grind arith
 
 o_then : {B : Type 0} (test : Bool) (fault : Fault) (rest : Answer B) → fault ≢ InvalidOperator → Other rest → Other (needs test fault >> rest)
-o_then true fault rest ne holds = holds
-o_then false fault rest ne holds = record { by = ne }
+o_then test fault rest ne holds = grind arith
 
 o_if : {A : Type 0} (test : Bool) (a b : Answer A) → Other a → Other b → Other (cond test a b)
-o_if true a b x y = x
-o_if false a b x y = y
+o_if test a b x y = grind arith
 
 operand_ne : InvalidOperand ≢ InvalidOperator
 operand_ne e = cc
@@ -83,8 +79,7 @@ over_ne e = cc
 ruleset other = (o_ok, o_err, o_bind, o_then, o_if, operand_ne, address_ne, index_ne, loop_ne, exponent_ne, overflow_ne, zero_ne, protect_ne, pending_ne, uplevel_ne, critical_ne, under_ne, over_ne)
 
 operand_o : (w : Word) → Other (operand w)
-operand_o (Operand bits) = o_ok bits
-operand_o w = o_err InvalidOperand operand_ne
+operand_o w = grind arith
 
 number_o : (bits : ℕ) → Other (number bits)
 number_o bits = search other
@@ -105,38 +100,28 @@ divided_o : (f : ℤ → ℤ → ℤ) (x y : ℤ) → Other (divided f x y)
 divided_o f x y = search other
 
 one_o : (f : ℕ → Answer ℕ) → ((x : ℕ) → Other (f x)) → (cells : List Word) → Other (on_one f cells)
-one_o f each [] = o_err _ under_ne
-one_o f each (a ∷ rest) = o_bind (operand a) _ (operand_o a) (λ x. o_bind (f x) _ (each x) (λ y. o_ok _))
+one_o f each cells = grind arith
 
 two_o : (f : Binary) → ((x y : ℕ) → Other (f x y)) → (cells : List Word) → Other (on_two f cells)
-two_o f each [] = o_err _ under_ne
-two_o f each (b ∷ []) = o_err _ under_ne
-two_o f each (b ∷ a ∷ rest) = o_bind (operand a) _ (operand_o a) (λ x. o_bind (operand b) _ (operand_o b) (λ y. o_bind (f x y) _ (each x y) (λ z. o_ok _)))
+two_o f each cells = grind arith
 
 movable_o : (w : Word) → Other (movable w)
 movable_o w = search other
 
 dlet_o : (cells : List Word) → Other (dlet cells)
-dlet_o [] = o_err _ under_ne
-dlet_o (a ∷ rest) = o_bind (movable a) _ (movable_o a) (λ v. o_ok _)
+dlet_o cells = grind arith
 
 exch_o : (cells : List Word) → Other (exch cells)
-exch_o [] = o_err _ under_ne
-exch_o (b ∷ []) = o_err _ under_ne
-exch_o (b ∷ a ∷ rest) = o_bind (movable a) _ (movable_o a) (λ u. o_bind (movable b) _ (movable_o b) (λ v. o_ok _))
+exch_o cells = grind arith
 
 dupl_o : (cells : List Word) → Other (dupl cells)
-dupl_o [] = o_err _ under_ne
-dupl_o (a ∷ rest) = o_bind (movable a) _ (movable_o a) (λ v. o_ok _)
+dupl_o cells = grind arith
 
 some_o : {A : Type 0} (o : Option A) → Other (ok_or o InvalidAddress)
-some_o None = o_err _ address_ne
-some_o (Some x) = o_ok x
+some_o o = grind arith
 
 place_o : (h : OperatorContext) (w : Word) → Other (place_of h w)
-place_o h (Name bits) = o_if _ _ _ (o_ok _) (o_err _ address_ne)
-place_o h (Ref f offset) = o_ok _
-place_o h w = o_err _ operand_ne
+place_o h w = grind arith
 
 abbrev LinkOther : Link → Type 0
 LinkOther (Stops end) = Other end
@@ -146,23 +131,13 @@ element_o : (h : OperatorContext) (a index : ℕ) → Other (element_end h a ind
 element_o h a index = o_if _ _ _ (o_ok _) (o_err _ index_ne)
 
 at_o : (h : OperatorContext) (f offset : ℕ) (w : Word) → LinkOther (link_at h f offset w)
-at_o h f offset (Operand bits) = o_ok _
-at_o h f offset (Name couple) = tt
-at_o h f offset (Ref g other') = tt
-at_o h f offset (Row a) = o_ok _
-at_o h f offset (Element a index) = element_o h a index
-at_o h f offset (Original a) = o_ok _
-at_o h f offset (Proc segment level place) = o_ok _
-at_o h f offset (Intrinsic n) = o_ok _
-at_o h f offset (Words.Segment n) = o_err _ operand_ne
+at_o h f offset w = grind arith
 
 in_o : (h : OperatorContext) (f offset : ℕ) (a : Answer Word) → Other a → LinkOther (link_in h f offset a)
-in_o h f offset (Err fault) g = record { by = g.by }
-in_o h f offset (Ok w) g = at_o h f offset w
+in_o h f offset a g = grind arith
 
 from_o : (h : OperatorContext) (a : Answer (ℕ × ℕ)) → Other a → LinkOther (link_from h a)
-from_o h (Err fault) g = record { by = g.by }
-from_o h (Ok at) g = in_o h at.0 at.1 (cell h at.0 at.1) (some_o _)
+from_o h a g = grind arith
 
 links_o : (h : OperatorContext) (links : ℕ) (l : Link) → LinkOther l → Other (chase_on h links l)
 links_o h links (Stops end) g = g
@@ -184,8 +159,7 @@ reference_o h (Ref f offset) = chase_o h (Ref f offset)
 reference_o h w = o_err _ operand_ne
 
 array_at_o : (end : End) → Other (array_at end)
-array_at_o (AtArray a) = o_ok a
-array_at_o end = o_err _ operand_ne
+array_at_o end = grind arith
 
 array_of_o : (h : OperatorContext) (w : Word) → Other (array_of h w)
 array_of_o h (Row a) = o_ok a
@@ -194,8 +168,7 @@ array_of_o h (Ref f offset) = o_bind (chase h (Ref f offset)) _ (chase_o h (Ref 
 array_of_o h w = o_err _ operand_ne
 
 index_o : (len : ℕ) (n : ℤ) → Other (index_below len n)
-index_o len (pos n) = o_if _ _ _ (o_ok n) (o_err _ index_ne)
-index_o len (negsuc n) = o_err _ index_ne
+index_o len n = grind arith
 
 indexed_o : (h : OperatorContext) (r i : Word) → Other (indexed h r i)
 indexed_o h r i = o_bind (operand i) _ (operand_o i) (λ bits. o_bind (array_of h r) _ (array_of_o h r) (λ a. o_bind (number bits) _ (number_o bits) (λ n. o_bind (index_below (length (array h.job a).numbers) n) _ (index_o (length (array h.job a).numbers) n) (λ index. o_ok _))))
@@ -209,30 +182,16 @@ on_cells_o f h g = o_bind (f (cells_of h)) _ g (λ cells. result_o h h.job (with
 ruleset steps = (other, result_o, on_cells_o, chase_o, follow_o, reference_o, operand_o, number_o, whole_o, indexed_o)
 
 accident_o : (h : OperatorContext) (cells : List Word) (back : Return) (end : End) → Other (accident h cells back end)
-accident_o h cells back (AtProc f segment level place) = search steps
-accident_o h cells back (AtCell f offset bits) = o_err _ operand_ne
-accident_o h cells back (AtElement a index) = o_err _ operand_ne
-accident_o h cells back (AtArray a) = o_err _ operand_ne
-accident_o h cells back (AtIntrinsic n) = o_err _ operand_ne
+accident_o h cells back end = grind arith
 
 evaluates_o : (h : OperatorContext) (end : End) → Other (evaluates h end)
-evaluates_o h (AtCell f offset bits) = search steps
-evaluates_o h (AtElement a index) = search steps
-evaluates_o h (AtProc f segment level place) = accident_o h _ _ (AtProc f segment level place)
-evaluates_o h (AtArray a) = o_err _ operand_ne
-evaluates_o h (AtIntrinsic n) = o_err _ operand_ne
+evaluates_o h end = grind arith
 
 enters_o : (h : OperatorContext) (arguments : List Word) (end : End) → Other (enters h arguments end)
-enters_o h arguments (AtProc f segment level place) = search steps
-enters_o h arguments (AtCell f offset bits) = o_err _ operand_ne
-enters_o h arguments (AtElement a index) = o_err _ operand_ne
-enters_o h arguments (AtArray a) = o_err _ operand_ne
-enters_o h arguments (AtIntrinsic n) = o_err _ operand_ne
+enters_o h arguments end = grind arith
 
 leaves_o : (h : OperatorContext) (standing : Standing) (go : OperatorContext → Bool → Answer Done) → ((k : OperatorContext) (value : Bool) → Other (go k value)) → Other (leaves h standing go)
-leaves_o h Marked go each = o_err _ pending_ne
-leaves_o h (Entered level environment None) go each = search steps
-leaves_o h (Entered level environment (Some back)) go each = search (steps, each)
+leaves_o h standing go each = grind arith
 
 returned_o : (h : OperatorContext) (w : Word) (value : Bool) → Other (returned h w value)
 returned_o h w false = search steps
@@ -240,12 +199,7 @@ returned_o h (Operand bits) true = search steps
 returned_o h w true = o_bind (follow h w) _ (follow_o h w) (λ end. evaluates_o h end)
 
 returnable_o : (job : Job) (n : ℕ) (w : Word) → Other (returnable job n w)
-returnable_o job n (Ref f offset) = search steps
-returnable_o job n (Row a) = search steps
-returnable_o job n (Element a index) = search steps
-returnable_o job n (Original a) = o_err _ operand_ne
-returnable_o job n (Name couple) = o_err _ operand_ne
-returnable_o job n w = o_ok w
+returnable_o job n w = grind arith
 
 retn_o : (h : OperatorContext) (standing : Standing) (cells : List Word) → Other (retn_word h standing cells)
 retn_o h Marked cells = o_err _ pending_ne
@@ -256,28 +210,19 @@ exit_o : (h : OperatorContext) → Other (exit h)
 exit_o h = leaves_o h (top_of h).standing _ (λ k value. result_o k k.job k.task [] None)
 
 branch_o : (wanted : Bool) (h : OperatorContext) (cells : List Word) (target : Place) → Other (branch_if wanted h cells target)
-branch_o wanted h [] target = o_err _ under_ne
-branch_o wanted h (a ∷ rest) target = search steps
+branch_o wanted h cells target = grind arith
 
 stff_word_o : (h : OperatorContext) (w : Word) → Other (stff_word h w)
-stff_word_o h (Ref f offset) = o_ok _
-stff_word_o h (Name couple) = o_bind (place_of h (Name couple)) _ (place_o h (Name couple)) (λ at. o_bind (cell h at.0 at.1) _ (some_o _) (λ w. o_ok _))
-stff_word_o h w = o_err _ operand_ne
+stff_word_o h w = grind arith
 
 stff_o : (h : OperatorContext) (cells : List Word) → Other (stff h cells)
-stff_o h [] = o_err _ under_ne
-stff_o h (w ∷ rest) = o_bind (stff_word h w) _ (stff_word_o h w) (λ v. o_ok _)
+stff_o h cells = grind arith
 
 load_at_o : (h : OperatorContext) (rest : List Word) (end : End) → Other (load_at h rest end)
-load_at_o h rest (AtCell f offset bits) = search steps
-load_at_o h rest (AtElement a index) = search steps
-load_at_o h rest (AtArray a) = search steps
-load_at_o h rest (AtProc f segment level place) = accident_o h _ _ (AtProc f segment level place)
-load_at_o h rest (AtIntrinsic n) = o_err _ operand_ne
+load_at_o h rest end = grind arith
 
 load_o : (h : OperatorContext) (cells : List Word) → Other (load h cells)
-load_o h [] = o_err _ under_ne
-load_o h (w ∷ rest) = o_bind (follow h w) _ (follow_o h w) (λ end. load_at_o h rest end)
+load_o h cells = grind (arith, follow_o, load_at_o)
 
 indx_o : (h : OperatorContext) (cells : List Word) → Other (indx h cells)
 indx_o h [] = o_err _ under_ne
@@ -290,27 +235,19 @@ nxlv_o h (b ∷ []) = o_err _ under_ne
 nxlv_o h (b ∷ a ∷ rest) = search steps
 
 store_at_o : (h : OperatorContext) (rest kept : List Word) (bits : ℕ) (end : End) → Other (store_at h rest kept bits end)
-store_at_o h rest kept bits (AtCell f offset old) = o_ok _
-store_at_o h rest kept bits (AtElement a index) = search steps
-store_at_o h rest kept bits (AtProc f segment level place) = accident_o h _ _ (AtProc f segment level place)
-store_at_o h rest kept bits (AtArray a) = o_err _ protect_ne
-store_at_o h rest kept bits (AtIntrinsic n) = o_err _ protect_ne
+store_at_o h rest kept bits end = grind arith
 
 store_o : (keeps : Bool) (h : OperatorContext) (cells : List Word) → Other (store keeps h cells)
-store_o keeps h [] = o_err _ under_ne
-store_o keeps h (b ∷ []) = o_err _ under_ne
-store_o keeps h (b ∷ a ∷ rest) = o_bind (operand (in_order b a).1) _ (operand_o (in_order b a).1) (λ bits. o_bind (follow h (in_order b a).0) _ (follow_o h (in_order b a).0) (λ end. store_at_o h rest _ bits end))
+store_o keeps h cells = grind (arith, follow_o, store_at_o)
 
 answers_o : (h : OperatorContext) (job : Job) (words : List Word) (printed : List Line) (touched : Option ℕ) → Other (answers h job words printed touched)
 answers_o h job words printed touched = search steps
 
 length_o : (n : ℤ) → Other (array_length n)
-length_o (pos n) = search other
-length_o (negsuc n) = o_err _ index_ne
+length_o n = grind arith
 
 row_o : (w : Word) → Other (row_copy w)
-row_o (Row a) = o_ok a
-row_o w = o_err _ operand_ne
+row_o w = grind arith
 
 numbers_of_o : (xs : List ℕ) → Other (numbers_of xs)
 numbers_of_o [] = o_ok _
@@ -319,14 +256,10 @@ numbers_of_o (bits ∷ more) = o_bind (number bits) _ (number_o bits) (λ n. o_b
 ruleset calls = (steps, answers_o, length_o, row_o, numbers_of_o)
 
 arraydec_o : (h : OperatorContext) (arguments : List Word) → Other (arraydec h arguments)
-arraydec_o h [] = o_err _ operand_ne
-arraydec_o h (w ∷ []) = search calls depth 8
-arraydec_o h (w ∷ v ∷ more) = o_err _ operand_ne
+arraydec_o h arguments = grind arith
 
 print_o : (h : OperatorContext) (arguments : List Word) → Other (print h arguments)
-print_o h [] = o_err _ operand_ne
-print_o h (w ∷ []) = search calls depth 8
-print_o h (w ∷ v ∷ more) = o_err _ operand_ne
+print_o h arguments = grind arith
 
 printrow_o : (h : OperatorContext) (arguments : List Word) → Other (printrow h arguments)
 printrow_o h [] = o_err _ operand_ne
@@ -334,8 +267,7 @@ printrow_o h (w ∷ []) = search calls depth 8
 printrow_o h (w ∷ v ∷ more) = o_err _ operand_ne
 
 read_o : (h : OperatorContext) (arguments : List Word) → Other (read h arguments)
-read_o h [] = search calls
-read_o h (w ∷ more) = o_err _ operand_ne
+read_o h arguments = grind arith
 
 starts_o : (h : OperatorContext) (words : List Word) (end : End) → Other (starts h words end)
 starts_o h words (AtProc f segment level place) = search calls depth 8
@@ -349,22 +281,16 @@ process_o h [] = o_err _ operand_ne
 process_o h (r ∷ words) = search (calls, starts_o) depth 8
 
 awaits_o : (h : OperatorContext) (n : ℤ) → Other (awaits h n)
-awaits_o h (pos n) = search calls
-awaits_o h (negsuc n) = search calls
+awaits_o h n = grind arith
 
 await_o : (h : OperatorContext) (arguments : List Word) → Other (await h arguments)
-await_o h [] = o_err _ operand_ne
-await_o h (w ∷ []) = search (calls, awaits_o)
-await_o h (w ∷ v ∷ more) = o_err _ operand_ne
+await_o h arguments = grind (arith, awaits_o)
 
 status_o : (h : OperatorContext) (arguments : List Word) → Other (status h arguments)
-status_o h [] = o_err _ operand_ne
-status_o h (w ∷ []) = search calls
-status_o h (w ∷ v ∷ more) = o_err _ operand_ne
+status_o h arguments = grind arith
 
 waits_at_o : (h : OperatorContext) (end : End) → Other (waits_at h end)
-waits_at_o h (AtCell f offset bits) = search calls
-waits_at_o h end = o_err _ operand_ne
+waits_at_o h end = grind arith
 
 wait_o : (h : OperatorContext) (arguments : List Word) → Other (wait h arguments)
 wait_o h [] = o_err _ operand_ne
@@ -372,8 +298,7 @@ wait_o h (w ∷ []) = search (calls, waits_at_o)
 wait_o h (w ∷ v ∷ more) = o_err _ operand_ne
 
 causes_o : (h : OperatorContext) (end : End) → Other (causes h end)
-causes_o h (AtCell f offset bits) = search calls
-causes_o h end = o_err _ operand_ne
+causes_o h end = grind arith
 
 cause_o : (h : OperatorContext) (arguments : List Word) → Other (cause h arguments)
 cause_o h [] = o_err _ operand_ne
@@ -381,9 +306,7 @@ cause_o h (w ∷ []) = search (calls, causes_o)
 cause_o h (w ∷ v ∷ more) = o_err _ operand_ne
 
 deallocate_o : (h : OperatorContext) (arguments : List Word) → Other (deallocate h arguments)
-deallocate_o h [] = o_err _ operand_ne
-deallocate_o h (w ∷ []) = search calls depth 8
-deallocate_o h (w ∷ v ∷ more) = o_err _ operand_ne
+deallocate_o h arguments = grind arith
 
 resize_o : (h : OperatorContext) (arguments : List Word) → Other (resize h arguments)
 resize_o h [] = o_err _ operand_ne
@@ -402,12 +325,10 @@ entr_at_o h arguments (AtElement a index) = o_err _ operand_ne
 entr_at_o h arguments (AtArray a) = o_err _ operand_ne
 
 entr_with_o : (h : OperatorContext) (cells : List Word) → Other (entr_with h cells)
-entr_with_o h [] = o_err _ under_ne
-entr_with_o h (r ∷ arguments) = o_bind (follow_reference h r) _ (reference_o h r) (λ end. entr_at_o h arguments end)
+entr_with_o h cells = grind (arith, reference_o, entr_at_o)
 
 entr_o : (h : OperatorContext) (standing : Standing) → Other (entr h standing)
-entr_o h Marked = entr_with_o h (reverse (cells_of h))
-entr_o h (Entered level environment back) = o_err _ operand_ne
+entr_o h standing = grind (arith, entr_with_o)
 
 one_at : (h : OperatorContext) (f : ℕ → Answer ℕ) → ((x : ℕ) → Other (f x)) → Other (on_cells (on_one f) h)
 one_at h f each = on_cells_o (on_one f) h (one_o f each (cells_of h))
@@ -453,16 +374,12 @@ plain_o codes.Push h ne = search steps
 plain_o codes.Noop h ne = search steps
 
 never : {A : Type 0} (a : Answer A) → Other a → a ≡ Err InvalidOperator → ⊥
-never (Ok x) g e = absurd (let z : ⊥ = cc in z)
-never (Err fault) g e = g.by (let same : fault ≡ InvalidOperator = cc in same)
+never a g e = grind arith
 
 pub invalid_operator_is_nvld : InvalidOperatorIsNvld
 invalid_operator_is_nvld (Plain codes.Nvld) h e = inl refl
 invalid_operator_is_nvld (Plain code) h e = absurd (never (plain code h) (plain_o code h (λ s. cc)) e)
-invalid_operator_is_nvld (Mpcw bits) h e = elim (cases_Bool (is_proc h bits)) [
-  | inl t ↦ let pushed : pushes h (proc_of bits) None ≡ Err InvalidOperator = rw t at e in absurd (never (pushes h (proc_of bits) None) (search steps) pushed)
-  | inr t ↦ inr (bits, refl, t)
-]
+invalid_operator_is_nvld (Mpcw bits) h e = grind arith
 invalid_operator_is_nvld (Valc couple) h e = absurd (never (valc h couple) (o_bind (chase h (Name couple)) _ (chase_o h (Name couple)) (λ end. evaluates_o h end)) e)
 invalid_operator_is_nvld (Namc couple) h e = absurd (never (pushes h (Name couple) None) (search steps) e)
 invalid_operator_is_nvld (Lt8 n) h e = absurd (never (pushes h (Operand n) None) (search steps) e)

@@ -1,7 +1,7 @@
 -- All tasks of a job stand under its first one, and end with it.
-use Rattle.std.proofs.Common.{◌≡◌, ◌≢◌, ℕ, Bool, true, false, not, List, [], ◌∷◌, ◌++◌, map, filter, refl, sym, ap, ◌∙◌, subst, inl, inr}
+use Rattle.std.proofs.Common.{◌≡◌, ◌≢◌, ℕ, Bool, true, false, not, List, [], ◌∷◌, ◌++◌, map, filter, refl, sym, ap, ◌∙◌, subst, inl, inr, arith}
 use Rattle.std.specs.Prelude.{◌==◌}
-use Rattle.std.proofs.lemmas.Bool.{true≢false, eq-eqb}
+use Rattle.std.proofs.lemmas.Bool.{eq-eqb, true≢false}
 use Rattle.b67_word.specs.declared.faults.Ending.{Ending}
 use Rattle.b67_word.specs.declared.faults.Ending.TheVariants.{Parent}
 use Rattle.b67_lemmas.specs.Lists.{Has}
@@ -12,9 +12,7 @@ use Rattle.b67_law_order.proofs.Deaths.{ends_task_good, all_among}
 -- a task's line of parents ends with the job's first task
 module _ (P : Starts) (constants : JobConstants) (job : Job) (g : TasksInOrder P constants job) where
   first_by : (parents : List ℕ) (t : Task) → Has job.tasks t → t.parents ≡ parents → (u : Task) × Has job.tasks u × (u.number ≡ 1)
-  first_by [] t here line =
-      let birth : BirthInOrder job t [] = subst (BirthInOrder job t) line (all_in (TaskInOrder P constants job) job.tasks t g.tasks here).birth in
-      (t, here, birth.0)
+  first_by [] t here line = grind (arith, all_in)
   first_by (p ∷ above) t here line =
       let birth : ParentInOrder job t p above = subst (BirthInOrder job t) line (all_in (TaskInOrder P constants job) job.tasks t g.tasks here).birth in
       first_by above birth.parent (keyed_has (λ (u : Task). u.number) p job.tasks birth.parent birth.found).0 birth.line

@@ -1,13 +1,12 @@
 -- Identities only grow: from the rows to whole steps.
-use Rattle.std.proofs.Common.{ℕ, Bool, true, false, List, Option, Some, None, Ok, Err, arith}
+use Rattle.std.proofs.Common.{ℕ, Bool, List, Ok, Err, arith, true, false}
 use Rattle.b67_word.specs.declared.faults.Ending.{Ending}
-use Rattle.b67_word.specs.declared.faults.Ending.TheVariants.{Ended, Faulted}
-use Rattle.b67_model.specs.Common.{Answer, Task, JobConstants, Job, JobProgress, with_task, Done, Goes, Leaves, Waits, read, reading_of, step_by, step, Reading, Settled, ends_all, ends_task, ends_each_if, unsettled, settles, stepped, by_task, step_of}
-use Rattle.b67_model.specs.Keyed.{keyed}
+use Rattle.b67_model.specs.Common.{Answer, Task, JobConstants, Job, JobProgress, Done, read, reading_of, step_by, step, Reading, Settled, ends_all, ends_each_if, settles, stepped, step_of, with_task, Goes, Leaves, Waits, ends_task, unsettled}
 use Rattle.b67_model.specs.Alone.{whole}
 use Rattle.b67_law_sessions.specs.Grown.{Grown, StepsGrow}
 use Rattle.b67_law_order.proofs.Posts.{Post, post_err}
 use Rattle.b67_law_order.proofs.Identities.{Grown as RowGrown, Keeps, row_good}
+use Rattle.b67_word.specs.declared.faults.Ending.TheVariants.{Ended, Faulted}
 
 -- a row's law, as what a job's law says
 of_row : {a b : Job} → RowGrown a b → Grown a b
@@ -21,8 +20,7 @@ ends_grown : (s : Settled) (endings : List (ℕ × Ending)) → Grown s.job (end
 ends_grown s endings = record { frames = omega arith; arrays = omega arith; tasks = omega arith }
 
 grown_on : {a b c : Job} → Grown a b → Grown b c → Grown a c
-grown_on first second =
-    record { frames = omega (arith, first.frames, second.frames); arrays = omega (arith, first.arrays, second.arrays); tasks = omega (arith, first.tasks, second.tasks) }
+grown_on first second = grind arith
 
 each_grown : (test : Bool) (ending : Ending) (s : Settled) → Grown s.job (ends_each_if test ending s).job
 each_grown true ending s = ends_grown s _
@@ -53,8 +51,4 @@ whole_grown constants c task = grown_on (stepped_grown constants c.job task) (ea
 
 pub steps_grow : StepsGrow
 unfolding step_of
-steps_grow constants c number = by_option (keyed (λ t. t.number) number c.job.tasks)
-  where
-    by_option : (found : Option Task) → Grown c.job (by_task constants c found).progress.job
-    by_option None = same c.job
-    by_option (Some task) = whole_grown constants c task
+steps_grow constants c number = grind (arith, whole_grown)

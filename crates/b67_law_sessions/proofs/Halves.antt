@@ -1,6 +1,6 @@
 -- What the attempt at an operator leaves, once it is counted: a step whose first part was made.
-use Rattle.std.proofs.Common.{◌≡◌, ℕ, List, map, Option, Some, ap, ◌∙◌, append-nil}
-use Rattle.b67_model.specs.Common.{Answer, moment_with, Settled, stepped, settles, deadlocked, unsettled, step, of_job, Session, Task, Job, SessionJob, Line, Done}
+use Rattle.std.proofs.Common.{◌≡◌, ℕ, List, map, Option, Some, ap, ◌∙◌, append-nil, arith}
+use Rattle.b67_model.specs.Common.{Answer, stepped, settles, deadlocked, unsettled, step, of_job, Session, Task, Job, SessionJob, Line, Done}
 use Rattle.b67_model.specs.Endings.{goes_on}
 use Rattle.b67_session_lines.specs.Moments.{first_part, first_part_by, first_part_in, first_part_of}
 use Rattle.b67_law_sessions.specs.Turns.{IsNext, part_of}
@@ -18,6 +18,4 @@ module _ (s : Session) (m : SessionJob) (t : Task) (n : IsNext s m t) where
   -- an operator after which a task is ready prints its own lines alone
   pub open_lines : (job : Job) (printed : List Line) (touched : Option ℕ) → deadlocked (unsettled job) ≡ unsettled job
       → (part_of s n.chosen m t (goes_on job printed touched)).lines ≡ of_job n.chosen.who.job (map (λ line. (t.number, line)) printed)
-  open_lines job printed touched e =
-      ap (λ (z : Settled). of_job n.chosen.who.job (moment_with m.progress t (goes_on job printed touched) z).lines) e
-      ∙ ap (of_job n.chosen.who.job) (append-nil (map (λ line. (t.number, line)) printed))
+  open_lines job printed touched e = grind (arith, append-nil)

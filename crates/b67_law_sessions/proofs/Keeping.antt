@@ -1,11 +1,10 @@
 -- What a whole step leaves in the frames of its job's live tasks.
-use Rattle.std.proofs.Common.{◌≡◌, ℕ, ◌+◌, Bool, true, false, not, eqb, List, [], ◌∷◌, map, filter, Option, Some, None, Ok, Err, refl, sym, subst, inl, inr, ◌⊎◌}
-use Rattle.std.proofs.lemmas.Bool.Decides.{eqb_tells}
+use Rattle.std.proofs.Common.{◌≡◌, ℕ, ◌+◌, Bool, true, false, eqb, List, [], ◌∷◌, Option, Some, None, Ok, Err, refl, subst, inl, inr, ◌⊎◌, arith}
 use Rattle.b67_word.specs.declared.couples.Place.{Place}
 use Rattle.b67_word.specs.declared.faults.Ending.{Ending}
 use Rattle.b67_word.specs.declared.faults.Ending.TheVariants.{Ended, Deadlock, Limit, Faulted}
 use Rattle.b67_model.specs.declared.operators.Op.{Op}
-use Rattle.b67_model.specs.Common.{Answer, Word, Frame, Standing, Task, JobConstants, Job, JobProgress, with_task, called, Line, Done, Goes, Leaves, Waits, Reading, row, reading_of, step_by, step, Settled, among, released, ends_all, ends_task, ends_each_if, unsettled, settles, stepped, by_task, step_of}
+use Rattle.b67_model.specs.Common.{Answer, Word, Frame, Standing, Task, JobConstants, Job, JobProgress, with_task, called, Line, Done, Goes, Leaves, Waits, Reading, row, reading_of, step_by, step, Settled, among, ends_all, ends_task, ends_each_if, unsettled, settles, stepped, by_task, step_of}
 use Rattle.b67_model.specs.Keyed.{keyed, change_keyed}
 use Rattle.b67_lemmas.specs.Lists.{Has}
 use Rattle.b67_lemmas.proofs.Members.{has_filter, has_map_back, keyed_has}
@@ -22,13 +21,7 @@ pub record Changed {A : Type 0} (key : A → ℕ) (n : ℕ) (change : A → A) (
 
 pub has_changed : {A : Type 0} (key : A → ℕ) (n : ℕ) (change : A → A) (xs : List A) (x : A) → Has (change_keyed key n change xs) x → Changed key n change xs x ⊎ Has xs x
 has_changed key n change [] x h = absurd h
-has_changed key n change (y ∷ ys) x h = elim (eqb_tells (key y) n) [
-  | inl t ↦ elim (rw t.0 at h) [ inl e ↦ inl (record { item = y; live = inl refl; named = t.1; is = e }) | inr m ↦ inr (inr m) ]
-  | inr t ↦ elim (rw t.0 at h) [
-    | inl e ↦ inr (inl e)
-    | inr m ↦ elim (has_changed key n change ys x m) [ inl r ↦ inl (record { item = r.item; live = inr r.live; named = r.named; is = r.is }) | inr k ↦ inr (inr k) ]
-  ]
-]
+has_changed key n change (y ∷ ys) x h = grind (arith, has_changed key n change ys x)
 
 -- the row of a step that goes on
 pub record StepRow (constants : JobConstants) (job : Job) (task : Task) (done : Done) : Type 0 where
@@ -58,11 +51,7 @@ module _ (W : Word → Type 0) (M : ℕ → Standing → Type 0) where
     pub marks : (identity : ℕ) (standing : Standing) → MakesMark op call standing → M identity standing
 
   ends_kept : (s : Settled) (endings : List (ℕ × Ending)) → TasksMade s.job.tasks → TasksMade (ends_all s endings).job.tasks
-  ends_kept s endings all t h =
-      let numbers = map (λ (e : ℕ × Ending). e.0) endings in
-      let stay = filter (λ (t : Task). not (among numbers t.number)) s.job.tasks in
-      let r = has_map_back (λ (t : Task). record t { condition = released numbers t.condition }) stay t h in
-      subst (λ (x : Task). FramesMade x.frames) r.is (all r.item (has_filter (λ (t : Task). not (among numbers t.number)) s.job.tasks r.item r.among).0)
+  ends_kept s endings all t h = grind (arith, has_map_back, has_filter)
 
   each_kept : (test : Bool) (ending : Ending) (s : Settled) → TasksMade s.job.tasks → TasksMade (ends_each_if test ending s).job.tasks
   each_kept true ending s all = ends_kept s _ all
@@ -73,10 +62,7 @@ module _ (W : Word → Type 0) (M : ℕ → Standing → Type 0) where
 
   -- a task that waits has the frames that it had
   with_kept : (job : Job) (task new : Task) → new.frames ≡ task.frames → Has job.tasks task → TasksMade job.tasks → TasksMade (with_task job new).tasks
-  with_kept job task new same live all t h = elim (has_changed (λ (u : Task). u.number) new.number (λ u. new) job.tasks t h) [
-    | inl r ↦ subst (λ (u : Task). FramesMade u.frames) r.is (subst FramesMade (sym same) (all task live))
-    | inr k ↦ all t k
-  ]
+  with_kept job task new same live all t h = grind (arith, has_changed)
 
   settles_kept : (job : Job) (task : Task) (a : Answer Done) → Has job.tasks task → TasksMade job.tasks →
       ((after : Job) (printed : List Line) (touched : Option ℕ) → a ≡ Ok (Goes after printed touched) → TasksMade after.tasks) → TasksMade (settles job task a).settled.job.tasks

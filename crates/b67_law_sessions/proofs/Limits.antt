@@ -1,10 +1,9 @@
 -- The order of a session after the last part of a step.
-use Rattle.std.proofs.Common.{◌≡◌, ◌≢◌, ℕ, ◌+◌, ◌<◌, ◌≤◌, Bool, true, false, List, [], ◌∷◌, ◌++◌, length, Option, Some, None, refl, sym, ap, ◌∙◌, subst, inl, inr, arith}
-use Rattle.std.specs.Prelude.{◌==◌, ◌&&◌, ◌⊎◌}
+use Rattle.std.proofs.Common.{◌≡◌, ◌≢◌, ℕ, ◌+◌, ◌≤◌, Bool, true, false, List, [], ◌∷◌, ◌++◌, length, Option, Some, None, refl, sym, ap, ◌∙◌, subst, inl, inr, arith}
+use Rattle.std.specs.Prelude.{◌==◌, ◌&&◌}
 use Rattle.std.specs.List.{AllByRecursion}
 use Rattle.std.proofs.lemmas.Bool.Decides.{eqb_tells}
-use Rattle.std.proofs.lemmas.Bool.{true≢false, and_parts, eqb-true}
-use Rattle.std.proofs.lemmas.Option.{none-some}
+use Rattle.std.proofs.lemmas.Bool.{and_parts, eqb-true}
 use Rattle.b67_word.specs.declared.faults.Ending.TheVariants.{Limit}
 use Rattle.b67_model.specs.Keyed.{keyed, change_keyed}
 use Rattle.b67_lemmas.specs.Lists.{Has}
@@ -17,6 +16,7 @@ use Rattle.b67_session_lines.specs.Moments.{has_tasks, is_at_limit, last_part, l
 use Rattle.b67_law_sessions.specs.Orders.{JobInOrderButLimit, IsInOrderButLimit}
 use Rattle.b67_law_sessions.specs.Turns.{OrderAfter, LastPartsRestoreOrder}
 use Rattle.b67_law_sessions.proofs.Settled.{each_good, all_gone}
+use Rattle.std.proofs.lemmas.Option.{none-some}
 
 abbrev Good : SessionJob → Type 0
 Good m = JobInOrder (IsSegment m.constants) m.constants m.progress
@@ -27,14 +27,7 @@ job_good last m o below = record { unchanging = o.unchanging; tasks = o.tasks; c
 
 -- a job that isn't at its limit with live tasks is below it
 not_at : (m : SessionJob) → m.progress.made ≤ m.constants.limit → is_at_limit m ≡ false → BelowLimit m.constants m.progress
-not_at m within none some = by (eqb_tells m.progress.made m.constants.limit) where
-  tasks : (ts : List Task) → ts ≢ [] → has_tasks ts ≡ true
-  tasks [] other = absurd (other refl)
-  tasks (t ∷ ts) other = refl
-
-  by : ((m.progress.made == m.constants.limit) ≡ true × (m.progress.made ≡ m.constants.limit)) ⊎ ((m.progress.made == m.constants.limit) ≡ false × (m.progress.made ≢ m.constants.limit)) → m.progress.made < m.constants.limit
-  by (inl e) = let at : is_at_limit m ≡ true = rw e.0 (tasks m.progress.job.tasks some) in absurd (true≢false (sym at ∙ none))
-  by (inr e) = omega (arith, within, e.1)
+not_at m within none some = grind arith
 
 module _ (h : Session) (o : IsInOrderButLimit h) where
   order : (m : SessionJob) → Has h.jobs m → JobInOrderButLimit h.last.job m
@@ -57,10 +50,7 @@ module _ (h : Session) (o : IsInOrderButLimit h) where
 
   -- every job but the last one is below, and the last one if it isn't at its limit
   below_by : (m : SessionJob) → Has h.jobs m → (m.constants.number ≡ h.last.job → is_at_limit m ≡ false) → BelowLimit m.constants m.progress
-  below_by m inm own = elim (eqb_tells m.constants.number h.last.job) [
-    | inl e ↦ not_at m (order m inm).counts.within (own e.1)
-    | inr e ↦ (order m inm).below_limit e.1
-  ]
+  below_by m inm own = grind (arith, order)
 
   found_of : (m : SessionJob) → Has h.jobs m → m.constants.number ≡ h.last.job → keyed number_of h.last.job h.jobs ≡ Some m
   found_of m inm e = subst (λ (n : ℕ). keyed number_of n h.jobs ≡ Some m) e (keyed_member 1 h.jobs m o.numbered inm)
@@ -166,9 +156,7 @@ pub record LimitOf (h : Session) (part : StepResult) : Type 0 where
   pub is : last_part_if true h member ≡ Some part
 
 lives_by : (a : Bool) (ts : List Task) → (a && has_tasks ts) ≡ true → ts ≢ []
-lives_by true [] e = absurd (true≢false (sym e))
-lives_by true (t ∷ ts) e = λ none. cc
-lives_by false ts e = absurd (true≢false (sym e))
+lives_by a ts e = grind arith
 
 module _ (h : Session) (part : StepResult) where
   limit_if : (m : SessionJob) → keyed number_of h.last.job h.jobs ≡ Some m → (b : Bool) → is_at_limit m ≡ b → last_part_if b h m ≡ Some part → LimitOf h part

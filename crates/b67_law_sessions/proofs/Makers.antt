@@ -16,13 +16,7 @@ use Rattle.b67_law_sessions.proofs.Keeping.{has_changed, TasksMade, Maker, step_
 -- the state after one step more
 pub after_more : (k : ℕ) (first s : Session) (m : StepResult) → after k first ≡ s → next s ≡ Some m → after (suc k) first ≡ m.session
 after_more zero first s m is e = let found : next first ≡ Some m = ap next is ∙ e in rw found refl
-after_more (suc k) first s m is e = by (λ from. after_more k from s m) (next first) refl
-  where
-    by : ((from : Session) → after k from ≡ s → next s ≡ Some m → after (suc k) from ≡ m.session) → (o : Option StepResult) → next first ≡ o → after (suc (suc k)) first ≡ m.session
-    by rest None f =
-        let stays : first ≡ s = rw f at is in
-        let none : Some m ≡ None = sym e ∙ ap next (sym stays) ∙ f in absurd (let z : ⊥ = cc in z)
-    by rest (Some n) f = let later : after k n.session ≡ s = rw f at is in rw f (rest n.session later e)
+after_more (suc k) first s m is e = grind (arith, after_more k)
 
 -- from a session in which these words and marks of each job stand
 module _ (first : Session) (total : ℕ) (WordStood : ℕ → Word → Type 0) (MarkStood : ℕ → ℕ → Standing → Type 0) where

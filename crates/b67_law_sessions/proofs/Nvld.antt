@@ -1,7 +1,6 @@
 -- A step over an admitted program faults INVALID OPERATOR exactly at NVLD.
-use Rattle.std.proofs.Common.{◌≡◌, ◌↔◌, ℕ, ◌-◌, true, Some, Ok, Err, refl, sym, ◌∙◌, subst, inl, inr}
+use Rattle.std.proofs.Common.{◌≡◌, ◌↔◌, ℕ, ◌-◌, true, Some, Ok, Err, refl, subst, inl, inr, arith}
 use Rattle.std.specs.List.{slice_get}
-use Rattle.std.proofs.lemmas.Bool.{true≢false}
 use Rattle.b67_word.specs.declared.couples.Place.{Place}
 use Rattle.b67_word.specs.declared.faults.Fault.TheVariants.{InvalidOperator}
 use Rattle.b67_model.specs.declared.operators.Op.{Op}
@@ -9,7 +8,7 @@ use Rattle.b67_model.specs.declared.operators.Op.TheVariants.{Mpcw, Plain}
 use Rattle.b67_model.specs.declared.operators.Code.TheVariants.{Nvld}
 use Rattle.b67_lemmas.specs.Lists.{Has}
 use Rattle.b67_lemmas.proofs.Members.{all_in, keyed_has}
-use Rattle.b67_model.specs.Common.{Task, JobConstants, Job, Reading, operator_at, Program, At, origin, listing, has_stray_bits, IsAdmitted, is_proc, row, reading_of, step_by, step, IsStart, TaskInOrder, TasksInOrder}
+use Rattle.b67_model.specs.Common.{Task, JobConstants, Job, operator_at, Program, At, origin, listing, has_stray_bits, IsAdmitted, is_proc, row, reading_of, step, IsStart, TaskInOrder, TasksInOrder}
 use Rattle.b67_law_order.proofs.Kept.{here}
 use Rattle.b67_law_order.proofs.Admitted.{listed, Sound, admitted_sound, Entered, entered}
 use Rattle.b67_law_sessions.proofs.FaultRows.{invalid_operator_is_nvld}
@@ -19,19 +18,12 @@ use Rattle.b67_law_sessions.proofs.Literals.{literal_passes}
 -- the row of an operator whose literal passes
 row_faults : (constants : JobConstants) (job : Job) (task : Task) (op : Op) (next : Place) → ((bits : ℕ) → op ≡ Mpcw bits → is_proc (here constants job task next) bits ≡ true) →
     (row op (here constants job task next) ≡ Err InvalidOperator) ↔ (op ≡ Plain Nvld)
-row_faults constants job task op next passes = (only, λ is. subst (λ (o : Op). row o (here constants job task next) ≡ Err InvalidOperator) (sym is) refl)
-  where
-    only : row op (here constants job task next) ≡ Err InvalidOperator → op ≡ Plain Nvld
-    only e = elim (invalid_operator_is_nvld op (here constants job task next) e) [
-      | inl is ↦ is
-      | inr literal ↦ absurd (true≢false (sym (passes literal.0 literal.1) ∙ literal.2))
-    ]
+row_faults constants job task op next passes = grind (arith, invalid_operator_is_nvld)
 
 step_faults : (constants : JobConstants) (job : Job) (task : Task) (op : Op) (next : Place) → reading_of constants task ≡ Ok (op, next) → ((bits : ℕ) → op ≡ Mpcw bits → is_proc (here constants job task next) bits ≡ true) →
     (step constants job task ≡ Err InvalidOperator) ↔ (op ≡ Plain Nvld)
 unfolding step
-step_faults constants job task op next reads passes =
-    subst (λ (r : Reading). (step_by constants job task r ≡ Err InvalidOperator) ↔ (op ≡ Plain Nvld)) (sym reads) (row_faults constants job task op next passes)
+step_faults constants job task op next reads passes = grind (arith, row_faults)
 
 -- a task at a start
 pub start_faults : (p : Program) (constants : JobConstants) (job : Job) (task : Task) (level : ℕ) → IsAdmitted p → constants.segments ≡ p.segments → IsStart constants task.segment level task.place → FaultsAtNvld constants job task
@@ -61,5 +53,4 @@ task_faults p constants job task admitted same order live =
     start_faults p constants job task _ admitted same (all_in (TaskInOrder (IsStart constants) constants job) job.tasks task order.tasks live).place
 
 pub invalid_operator_exactly_at_nvld : InvalidOperatorExactlyAtNvld
-invalid_operator_exactly_at_nvld p constants job task admitted same order live =
-    task_faults p constants job task admitted same order (keyed_has (λ t. t.number) task.number job.tasks task live).0
+invalid_operator_exactly_at_nvld p constants job task admitted same order live = grind (arith, task_faults, keyed_has)

@@ -1,9 +1,9 @@
 -- The words, marks and returns of an opening state.
-use Rattle.std.proofs.Common.{◌≡◌, ℕ, zero, suc, ◌+◌, ◌<◌, ◌≤◌, List, [], ◌∷◌, ◌++◌, length, refl, sym, ap, subst, inl, inr, arith}
+use Rattle.std.proofs.Common.{◌≡◌, ℕ, zero, suc, ◌+◌, ◌<◌, ◌≤◌, List, [], ◌∷◌, ◌++◌, length, refl, ap, subst, inl, inr, arith}
 use Rattle.b67_lemmas.specs.Lists.{Has}
 use Rattle.b67_lemmas.proofs.Members.{has_append_cases, has_append_left, has_append_right, has_reverse, has_reverse_back}
 use Rattle.b67_model.specs.Words as Words
-use Rattle.b67_model.specs.Common.{Word, Operand, Name, Ref, Row, Element, Original, Proc, Intrinsic, Frame, Task, Segment, SessionJob, Program, segment_words, originals, opened}
+use Rattle.b67_model.specs.Common.{Word, Operand, Name, Ref, Row, Element, Original, Proc, Intrinsic, Segment, SessionJob, Program, segment_words, originals, opened}
 use Rattle.b67_law_order.specs.Opening.{Opening, opened_from}
 use Rattle.b67_law_sessions.specs.Opened.{LoaderMakes, MadeByLoader, OpenedByLoader, OpeningsMadeByLoader}
 
@@ -16,17 +16,11 @@ pub record Numbered (kind : ℕ → Word) (low many : ℕ) (w : Word) : Type 0 w
 
 segment_numbered : (n : ℕ) (segments : List Segment) (w : Word) → Has (segment_words n segments) w → Numbered Words.Segment n (length segments) w
 segment_numbered n [] w h = absurd h
-segment_numbered n (s ∷ more) w h = elim h [
-  | inl is ↦ record { number = n; is = is; from_low = omega arith; below = omega arith }
-  | inr m ↦ let r = segment_numbered (n + 1) more w m in record { number = r.number; is = r.is; from_low = omega (arith, r.from_low); below = omega (arith, r.below) }
-]
+segment_numbered n (s ∷ more) w h = grind (arith, segment_numbered (n + 1) more w)
 
 original_numbered : (n : ℕ) (rows : List (List ℕ)) (w : Word) → Has (originals n rows) w → Numbered Original n (length rows) w
 original_numbered n [] w h = absurd h
-original_numbered n (r ∷ more) w h = elim h [
-  | inl is ↦ record { number = n; is = is; from_low = omega arith; below = omega arith }
-  | inr m ↦ let k = original_numbered (n + 1) more w m in record { number = k.number; is = k.is; from_low = omega (arith, k.from_low); below = omega (arith, k.below) }
-]
+original_numbered n (r ∷ more) w h = grind (arith, original_numbered (n + 1) more w)
 
 segment_stands : (n : ℕ) (segments : List Segment) (k number : ℕ) → k < length segments → n + k ≡ number → Has (segment_words n segments) (Words.Segment number)
 segment_stands n [] k number few is = absurd (omega (arith, few))
@@ -64,25 +58,7 @@ all p (Words.Segment zero) m = absurd (omega (arith, m.0))
 all p (Words.Segment (suc n)) m = has_append_left (segment_words 1 p.segments) (originals 1 p.rows) (Words.Segment (suc n)) (segment_stands 1 p.segments n (suc n) (omega (arith, m.1)) (omega arith))
 
 loader_made : (number stack : ℕ) (o : Opening) → MadeByLoader o.program (opened number o.program stack o.limit o.numbers)
-loader_made number stack o = record {
-  dictionary = λ w. (
-    λ h. only o.program w (has_reverse_back (segment_words 1 o.program.segments ++ originals 1 o.program.rows) w h),
-    λ m. has_reverse (segment_words 1 o.program.segments ++ originals 1 o.program.rows) w (all o.program w m),
-  );
-  dictionary_mark = refl;
-  outer_block = λ t f live among. elim live [
-    | inl is ↦ elim (subst (λ (x : Task). Has x.frames f) (sym is) among) [ inl same ↦ ap (λ (g : Frame). g.identity) (sym same) | inr x ↦ absurd x ]
-    | inr x ↦ absurd x
-  ];
-  no_words = λ t f live among. elim live [
-    | inl is ↦ elim (subst (λ (x : Task). Has x.frames f) (sym is) among) [ inl same ↦ ap (λ (g : Frame). g.cells) (sym same) | inr x ↦ absurd x ]
-    | inr x ↦ absurd x
-  ];
-  mark = λ t f live among. elim live [
-    | inl is ↦ elim (subst (λ (x : Task). Has x.frames f) (sym is) among) [ inl same ↦ ap (λ (g : Frame). g.standing) (sym same) | inr x ↦ absurd x ]
-    | inr x ↦ absurd x
-  ];
-}
+loader_made number stack o = grind (arith, only, has_reverse_back, has_reverse, all)
 
 each_made : (number stack : ℕ) (openings : List Opening) (m : SessionJob) → Has (opened_from number stack openings) m → OpenedByLoader openings m
 each_made number stack [] m h = absurd h

@@ -1,5 +1,5 @@
 -- The order of a session after the first part of a step.
-use Rattle.std.proofs.Common.{◌≡◌, ◌≢◌, ℕ, ◌+◌, ◌-◌, ◌<◌, ◌≤◌, max, List, [], ◌∷◌, length, sym, subst, inl, inr, ◌⊎◌, arith}
+use Rattle.std.proofs.Common.{◌≡◌, ◌≢◌, ℕ, ◌+◌, ◌-◌, ◌<◌, ◌≤◌, max, List, [], ◌∷◌, length, sym, subst, ◌⊎◌, arith}
 use Rattle.std.specs.List.{AllByRecursion, sum_by}
 use Rattle.b67_model.specs.Keyed.{change_keyed}
 use Rattle.b67_lemmas.specs.Lists.{Has}
@@ -29,12 +29,10 @@ few_tasks [] all = tt
 few_tasks (m ∷ jobs) all = (all.0.tasks.few, few_tasks jobs all.1)
 
 turn_low : (s : Session) (turn : ℕ) → s.turn ≤ s.made → (turn ≡ 0) ⊎ (turn ≡ s.turn) → turn + 1 ≤ s.made + 1
-turn_low s turn le (inl e) = omega (arith, e)
-turn_low s turn le (inr e) = omega (arith, e, le)
+turn_low s turn le h = grind arith
 
 some_task : (tasks : List Task) (t : Task) → Has tasks t → tasks ≢ []
-some_task [] t h = absurd h
-some_task (x ∷ tasks) t h = λ e. cc
+some_task tasks t h = grind arith
 
 -- the session with these jobs
 abbrev with_jobs : Session → Choice → SessionJob → JobMoment → List SessionJob → Session

@@ -1,18 +1,18 @@
 -- Every row makes only its own words and marks.
-use Rattle.std.proofs.Common.{◌≡◌, ℕ, ◌+◌, ℤ, pos, negsuc, Bool, true, false, cond, eqb, leb, ltb, List, [], ◌∷◌, reverse, replicate, length, Option, Some, None, Ok, refl, sym, ap, ◌∙◌, subst, inl, inr, ◌⊎◌}
+use Rattle.std.proofs.Common.{◌≡◌, ℕ, ◌+◌, ℤ, Bool, true, false, cond, eqb, leb, ltb, List, [], ◌∷◌, reverse, replicate, length, Option, Some, None, Ok, refl, sym, ap, ◌∙◌, subst, inl, inr, ◌⊎◌, arith}
 use Rattle.b67_word.specs.declared.couples.Place.{Place}
 use Rattle.b67_model.specs.declared.operators.Op.{Op}
 use Rattle.b67_model.specs.declared.operators.Op.TheVariants.{Valc, Namc, Lt8, Lt16, Lt48, Mpcw, Brun, Brtr, Brfl, Bset, Brst, Isol, Insr, Plain}
 use Rattle.b67_model.specs.declared.operators.Code.{Code}
 use Rattle.b67_model.specs.declared.operators.Code.TheVariants as codes
-use Rattle.b67_model.specs.Common.{Answer, needs, Binary, add, subt, mult, idiv, rdiv, less, greq, grtr, lseq, equl, neql, land, lor, leqv, same, chsn, lnot, bset, brst, isol, insr, Word, Operand, Name, Ref, Row, Element, Original, operand, Return, Frame, Standing, Marked, Entered, Task, OperatorContext, top, below_top, with_task, called, called_on, called_by, called_at, place_of, cell, with_cell, array, element, with_element, with_array, all_zero, resized, indexed, in_order, End, AtCell, AtElement, AtArray, AtProc, AtIntrinsic, chase, follow, follow_reference, Line, Value, Values, Done, Goes, top_of, cells_of, with_cells, leaves_cells, pushes, back_to, needs_level, answered, answers, array_length, arraydec, print, row_copy, numbers_of, printrow, read_from, read, child_of, starts, process, awaits, await, status_of, status, waits_at, wait, causes, cause, needs_writable, deallocate, resize, intrinsic, on_one, on_two, dlet, exch, dupl, on_cells, branches, branch_if, stff_word, stff, load_at, load, indx, nxlv, store_at, store, entr_at, entr_with, entr, proc_of, plain, row}
+use Rattle.b67_model.specs.Common.{Answer, needs, Binary, add, subt, mult, idiv, rdiv, less, greq, grtr, lseq, equl, neql, land, lor, leqv, same, chsn, lnot, bset, brst, isol, insr, Word, Operand, Name, Ref, Row, Element, Original, operand, Return, Frame, Standing, Marked, Entered, Task, OperatorContext, top, below_top, with_task, called, called_on, called_by, called_at, with_cell, element, with_element, with_array, all_zero, resized, indexed, in_order, End, AtCell, AtElement, AtArray, AtProc, AtIntrinsic, chase, follow, Line, Done, Goes, top_of, cells_of, with_cells, leaves_cells, pushes, back_to, needs_level, answered, answers, array_length, arraydec, print, row_copy, printrow, read, child_of, starts, process, awaits, await, status, waits_at, wait, causes, cause, needs_writable, deallocate, resize, intrinsic, on_one, on_two, dlet, exch, dupl, on_cells, branches, branch_if, stff, load_at, load, indx, nxlv, store_at, store, entr_at, entr_with, entr, proc_of, plain, row, place_of, cell, follow_reference, stff_word}
 use Rattle.b67_lemmas.specs.Lists.{Has}
 use Rattle.b67_lemmas.proofs.Members.{has_reverse_back}
 use Rattle.b67_model.specs.Words.{whole}
 use Rattle.std.proofs.lemmas.Bool.{eqb-true}
 use Rattle.b67_word.specs.declared.faults.Fault.TheVariants.{StackOverflow}
-use Rattle.b67_law_order.proofs.Posts.{Post, post_ok, post_err, post_bind, post_any, post_then, post_if, post_at, post_if_is, post_is}
-use Rattle.b67_law_sessions.specs.Made.{OperatorMakes, MakesMark, by_mkst, by_entr, by_retn, by_load, by_stod, by_ston, by_valc, StandsIn, HasWord, HasMark, EachRowMakesItsWords, by_process}
+use Rattle.b67_law_order.proofs.Posts.{Post, post_ok, post_err, post_any, post_then, post_if, post_at, post_if_is, post_bind}
+use Rattle.b67_law_sessions.specs.Made.{OperatorMakes, MakesMark, by_mkst, by_entr, by_retn, by_load, by_stod, by_ston, by_valc, HasWord, HasMark, EachRowMakesItsWords, by_process}
 use Rattle.b67_law_sessions.proofs.Steps as S
 
 module _ (W : Word → Type 0) (M : ℕ → Standing → Type 0) (numbers : (bits : ℕ) → W (Operand bits)) where
@@ -49,8 +49,7 @@ module _ (W : Word → Type 0) (M : ℕ → Standing → Type 0) (numbers : (bit
   load_at_good h rest (AtIntrinsic n) s enter rows words = post_err Kept _
 
   load_good : (h : OperatorContext) (cells : List Word) → Source h → S.Enters W M numbers → ((a : ℕ) → W (Row a)) → AllW cells → Good (load h cells)
-  load_good h [] s enter rows words = post_err Kept _
-  load_good h (w ∷ rest) s enter rows words = post_any Kept (follow h w) _ (λ end. load_at_good h rest end s enter rows (S.tail_words W M numbers w rest words))
+  load_good h cells s enter rows words = grind (arith, load_at_good)
 
   two_tail : (b a : Word) (rest : List Word) → AllW (b ∷ a ∷ rest) → AllW rest
   two_tail b a rest words = S.tail_words W M numbers a rest (S.tail_words W M numbers b (a ∷ rest) words)
@@ -73,8 +72,7 @@ module _ (W : Word → Type 0) (M : ℕ → Standing → Type 0) (numbers : (bit
   store_at_good h rest kept bits (AtIntrinsic n) s enter words keeps = post_err Kept _
 
   pair_word : (b a : Word) (rest : List Word) → AllW (b ∷ a ∷ rest) → W (in_order b a).1
-  pair_word (Operand bits) a rest words = words (Operand bits) (inl refl)
-  pair_word b a rest words = words a (inr (inl refl))
+  pair_word b a rest words = grind arith
 
   store_good : (keeps : Bool) (h : OperatorContext) (cells : List Word) → Source h → S.Enters W M numbers → AllW cells → Good (store keeps h cells)
   store_good keeps h [] s enter words = post_err Kept _
@@ -98,18 +96,13 @@ module _ (W : Word → Type 0) (M : ℕ → Standing → Type 0) (numbers : (bit
   arraydec_good h (w ∷ v ∷ more) s originals = post_err Kept _
 
   print_good : (h : OperatorContext) (arguments : List Word) → Source h → Good (print h arguments)
-  print_good h [] s = post_err Kept _
-  print_good h (w ∷ []) s = post_any Kept (whole w) _ (λ n. none_good h (Value n ∷ []) None s)
-  print_good h (w ∷ v ∷ more) s = post_err Kept _
+  print_good h arguments s = grind (arith, none_good)
 
   printrow_good : (h : OperatorContext) (arguments : List Word) → Source h → Good (printrow h arguments)
-  printrow_good h [] s = post_err Kept _
-  printrow_good h (w ∷ []) s = post_any Kept (row_copy w) _ (λ a. post_any Kept (numbers_of (array h.job a).numbers) _ (λ values. none_good h (Values values ∷ []) (Some a) s))
-  printrow_good h (w ∷ v ∷ more) s = post_err Kept _
+  printrow_good h arguments s = grind (arith, none_good)
 
   read_good : (h : OperatorContext) (arguments : List Word) → Source h → Good (read h arguments)
-  read_good h [] s = operand_good h (read_from h.job.numbers).0 (read_from h.job.numbers).1 s
-  read_good h (w ∷ more) s = post_err Kept _
+  read_good h arguments s = grind (arith, operand_good)
 
   -- PROCESS enters a Proc in a new task
   abbrev Started : Type 0
@@ -137,30 +130,19 @@ module _ (W : Word → Type 0) (M : ℕ → Standing → Type 0) (numbers : (bit
   process_good h (r ∷ words) s enter all = post_then Kept _ _ (post_any Kept (follow_reference h r) _ (λ end. starts_good h words end s enter (S.tail_words W M numbers r words all)))
 
   awaits_good : (h : OperatorContext) (n : ℤ) → Source h → Good (awaits h n)
-  awaits_good h (negsuc n) s = none_good h [] None s
-  awaits_good h (pos n) s = post_if Kept _ _ _ (post_ok Kept _ tt) (none_good h [] None s)
+  awaits_good h n s = grind (arith, none_good)
 
   await_good : (h : OperatorContext) (arguments : List Word) → Source h → Good (await h arguments)
-  await_good h [] s = post_err Kept _
-  await_good h (w ∷ []) s = post_any Kept (whole w) _ (λ n. awaits_good h n s)
-  await_good h (w ∷ v ∷ more) s = post_err Kept _
+  await_good h arguments s = grind (arith, awaits_good)
 
   status_good : (h : OperatorContext) (arguments : List Word) → Source h → Good (status h arguments)
-  status_good h [] s = post_err Kept _
-  status_good h (w ∷ []) s = post_any Kept (whole w) _ (λ n. operand_good h (status_of h.job n) h.job.numbers s)
-  status_good h (w ∷ v ∷ more) s = post_err Kept _
+  status_good h arguments s = grind (arith, operand_good)
 
   waits_at_good : (h : OperatorContext) (end : End) → Source h → Good (waits_at h end)
-  waits_at_good h (AtCell f offset bits) s = post_if Kept _ _ _ (post_ok Kept _ tt) (none_good h [] None s)
-  waits_at_good h (AtElement a index) s = post_err Kept _
-  waits_at_good h (AtArray a) s = post_err Kept _
-  waits_at_good h (AtProc f segment level place) s = post_err Kept _
-  waits_at_good h (AtIntrinsic n) s = post_err Kept _
+  waits_at_good h end s = grind (arith, none_good)
 
   wait_good : (h : OperatorContext) (arguments : List Word) → Source h → Good (wait h arguments)
-  wait_good h [] s = post_err Kept _
-  wait_good h (r ∷ []) s = post_any Kept (follow_reference h r) _ (λ end. waits_at_good h end s)
-  wait_good h (r ∷ v ∷ more) s = post_err Kept _
+  wait_good h arguments s = grind (arith, waits_at_good)
 
   causes_good : (h : OperatorContext) (end : End) → Source h → Good (causes h end)
   causes_good h (AtCell f offset bits) s = post_then Kept _ _ (post_ok Kept _ (S.woken_made W M numbers (with_cell (with_task h.job (answered h [])) f offset (Operand 1)) f offset
@@ -171,9 +153,7 @@ module _ (W : Word → Type 0) (M : ℕ → Standing → Type 0) (numbers : (bit
   causes_good h (AtIntrinsic n) s = post_err Kept _
 
   cause_good : (h : OperatorContext) (arguments : List Word) → Source h → Good (cause h arguments)
-  cause_good h [] s = post_err Kept _
-  cause_good h (r ∷ []) s = post_any Kept (follow_reference h r) _ (λ end. causes_good h end s)
-  cause_good h (r ∷ v ∷ more) s = post_err Kept _
+  cause_good h arguments s = grind (arith, causes_good)
 
   deallocate_good : (h : OperatorContext) (arguments : List Word) → Source h → Good (deallocate h arguments)
   deallocate_good h [] s = post_err Kept _
@@ -210,9 +190,7 @@ module _ (W : Word → Type 0) (M : ℕ → Standing → Type 0) (numbers : (bit
   entr_at_good h arguments (AtArray a) call is s made all = post_err Kept _
 
   entr_with_good : (h : OperatorContext) (cells : List Word) (call : Option ℕ) → call ≡ called_by h cells → Source h → Calls call → AllW cells → Good (entr_with h cells)
-  entr_with_good h [] call is s made all = post_err Kept _
-  entr_with_good h (r ∷ arguments) call is s made all =
-      post_bind (λ end. follow_reference h r ≡ Ok end) Kept (follow_reference h r) _ (post_is (follow_reference h r)) (λ end e. entr_at_good h arguments end call (is ∙ ap called_at e) s made (S.tail_words W M numbers r arguments all))
+  entr_with_good h cells call is s made all = grind (arith, entr_at_good)
 
   entr_good : (h : OperatorContext) (standing : Standing) (call : Option ℕ) → call ≡ called_on h standing → Source h → Calls call → Good (entr h standing)
   entr_good h Marked call is s made = entr_with_good h (reverse (cells_of h)) call is s made (λ w k. S.own_words W M numbers h s w (has_reverse_back (cells_of h) w k))
@@ -233,9 +211,7 @@ module _ (op : Op) (h : OperatorContext) (found : Task) (live : Has h.job.tasks 
   Source' = S.Source (WordOf op h) (MarkOf op h) operands h
 
   frame_in : (t : Task) → Has h.job.tasks t → (f : Frame) → Has t.frames f → S.Made (WordOf op h) (MarkOf op h) operands f
-  frame_in t k f j =
-      let stands : StandsIn h.job.tasks f = record { task = t; live = k; among = j } in
-      (λ w i. inl (record { frame = f; stands = stands; among = i }), inl (record { frame = f; stands = stands; identity_is = refl; standing_is = refl }))
+  frame_in t k f j = grind arith
 
   source : Source'
   source = record { tasks = frame_in; own = λ f k. frame_in found live f (subst (λ fs. Has fs f) (sym frames) k) }

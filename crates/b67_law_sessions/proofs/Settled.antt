@@ -1,7 +1,7 @@
 -- A job whose tasks end, or are deadlocked, stays in order.
-use Rattle.std.proofs.Common.{◌≡◌, ◌≢◌, ℕ, ◌+◌, ◌≤◌, Bool, true, false, not, List, [], ◌∷◌, map, filter, length, Option, IsTrue, refl, ap, inl, inr, arith}
+use Rattle.std.proofs.Common.{◌≡◌, ◌≢◌, ℕ, ◌+◌, ◌≤◌, Bool, true, false, not, List, [], ◌∷◌, map, filter, length, Option, IsTrue, refl, ap, arith}
 use Rattle.std.specs.List.{list_all}
-use Rattle.std.proofs.lemmas.Bool.{cases_Bool, true≢false}
+use Rattle.std.proofs.lemmas.Bool.{true≢false}
 use Rattle.std.proofs.lemmas.List.{length-map}
 use Rattle.b67_word.specs.declared.faults.Ending.{Ending}
 use Rattle.b67_word.specs.declared.faults.Ending.TheVariants.{Deadlock}
@@ -28,10 +28,7 @@ each_next true ending z = refl
 each_next false ending z = refl
 
 pub ends_fewer : (z : Settled) (endings : List (ℕ × Ending)) → length (ends_all z endings).job.tasks ≤ length z.job.tasks
-ends_fewer z endings =
-    let numbers = map (λ (e : ℕ × Ending). e.0) endings in
-    let stay = filter (λ (t : Task). not (among numbers t.number)) z.job.tasks in
-    omega (arith, length-map stay (λ (t : Task). record t { condition = released numbers t.condition }), length_filter (λ (t : Task). not (among numbers t.number)) z.job.tasks)
+ends_fewer z endings = grind (arith, length-map, length_filter)
 
 each_fewer : (test : Bool) (ending : Ending) (z : Settled) → length (ends_each_if test ending z).job.tasks ≤ length z.job.tasks
 each_fewer true ending z = ends_fewer z _
@@ -40,10 +37,7 @@ each_fewer false ending z = omega arith
 -- who is ready where there is no deadlock
 some_ready : (tasks : List Task) → list_all (λ t. not (is_ready t)) tasks ≡ false → (t : Task) × Has tasks t × IsTrue (is_ready t)
 some_ready [] e = absurd (true≢false e)
-some_ready (t ∷ tasks) e = elim (cases_Bool (is_ready t)) [
-  | inl y ↦ (t, inl refl, y)
-  | inr n ↦ let r = some_ready tasks (rw n at e) in (r.0, inr r.1, r.2)
-]
+some_ready (t ∷ tasks) e = grind (arith, some_ready tasks)
 
 ready_by : (P : Starts) (constants : JobConstants) (z : Settled) (test : Bool) → list_all (λ t. not (is_ready t)) z.job.tasks ≡ test → TasksInOrder P constants z.job → (ends_each_if test Deadlock z).job.tasks ≢ []
     → (t : Task) × Has (ends_each_if test Deadlock z).job.tasks t × IsTrue (is_ready t)

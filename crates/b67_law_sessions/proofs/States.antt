@@ -1,10 +1,10 @@
 -- Every state of a run faults INVALID OPERATOR exactly at NVLD.
-use Rattle.std.proofs.Common.{◌≡◌, ℕ, zero, suc, Option, Some, None, refl, subst}
+use Rattle.std.proofs.Common.{◌≡◌, ℕ, zero, suc, Some, subst, arith}
 use Rattle.std.specs.List.{AllByRecursion}
 use Rattle.b67_model.specs.Keyed.{keyed}
 use Rattle.b67_lemmas.specs.Lists.{Has}
 use Rattle.b67_lemmas.proofs.Members.{all_in, keyed_falls}
-use Rattle.b67_model.specs.Common.{Task, SessionJob, Session, StepResult, number_of, next, after_from, after, IsStart, JobInOrder, IsInOrder}
+use Rattle.b67_model.specs.Common.{Task, SessionJob, Session, number_of, after, IsStart, JobInOrder, IsInOrder}
 use Rattle.b67_law_order.specs.Opening.{opening}
 use Rattle.b67_law_order.proofs.Opens.{opens_in_order}
 use Rattle.b67_law_order.specs.Runs.{RunsAdmitted}
@@ -42,11 +42,7 @@ sessions_fault_exactly_at_nvld s order admitted = record {
 -- what holds of each session in order over admitted programs holds of each state that follows one
 follows : (P : Session → Type 0) → ((s : Session) → IsInOrder s → AllByRecursion RunsAdmitted s.jobs → P s) → (n : ℕ) (s : Session) → IsInOrder s → AllByRecursion RunsAdmitted s.jobs → P (after n s)
 follows P holds zero s o a = holds s o a
-follows P holds (suc n) s o a = go (λ s' o' a'. follows P holds n s' o' a') (next s) refl
-  where
-    go : ((s' : Session) → IsInOrder s' → AllByRecursion RunsAdmitted s'.jobs → P (after n s')) → (m : Option StepResult) → next s ≡ m → P (after_from (suc n) s m)
-    go rest None e = holds s o a
-    go rest (Some m) e = let both = sessions_stay_in_order s m o a e in rest m.session both.0 both.1
+follows P holds (suc n) s o a = grind (arith, sessions_stay_in_order, follows P holds n)
 
 pub runs_fault_exactly_at_nvld : RunsFaultExactlyAtNvld
 runs_fault_exactly_at_nvld n stack quantum switches openings within =

@@ -1,20 +1,15 @@
 -- What rows may put into frames: words of one kind, and marks of one kind.
-use Rattle.std.proofs.Common.{◌≡◌, ℕ, zero, suc, ◌+◌, ◌-◌, Bool, true, false, eqb, List, [], ◌∷◌, reverse, Option, Some, None, slice_set, refl, subst, inl, inr, ◌⊎◌}
-use Rattle.std.proofs.lemmas.Bool.{cases_Bool}
-use Rattle.b67_model.specs.Common.{Answer, Word, Operand, Name, Ref, Row, Element, Original, Proc, Intrinsic, operand, Frame, Standing, Marked, Entered, Return, Task, Job, OperatorContext, top, below_top, with_top_cells, with_task, with_cell_of, with_cell, Binary, element, End, AtCell, AtElement, AtArray, AtProc, AtIntrinsic, follow, Line, Done, Goes, Leaves, Waits, top_of, cells_of, result, with_frames, with_cells, leaves_cells, pushes, mkst, accident, back_to, evaluates, enters, left, leaves, exit, returnable, returned, retn_word, answered, answers, woken_at, wakes, CellRow, on_one, on_two, movable, dlet, exch, dupl, on_cells}
+use Rattle.std.proofs.Common.{◌≡◌, ℕ, zero, suc, ◌+◌, ◌-◌, Bool, true, false, List, [], ◌∷◌, reverse, Option, Some, None, slice_set, refl, subst, inl, inr, ◌⊎◌, arith}
+use Rattle.b67_model.specs.Common.{Answer, Word, Operand, Frame, Standing, Marked, Entered, Return, Task, Job, OperatorContext, top, below_top, with_top_cells, with_task, with_cell_of, with_cell, Binary, element, End, AtCell, AtElement, AtArray, AtProc, AtIntrinsic, follow, Line, Done, Goes, Leaves, Waits, top_of, cells_of, result, with_frames, with_cells, leaves_cells, pushes, mkst, accident, back_to, evaluates, enters, left, leaves, exit, returnable, returned, retn_word, answered, answers, wakes, CellRow, on_one, on_two, movable, dlet, exch, dupl, on_cells}
 use Rattle.b67_model.specs.Keyed.{change_keyed}
 use Rattle.b67_lemmas.specs.Lists.{Has}
 use Rattle.b67_lemmas.proofs.Members.{has_map_back, has_reverse_back}
 use Rattle.b67_model.specs.Words as Words
-use Rattle.b67_model.specs.Words.{whole}
 use Rattle.b67_law_order.proofs.Posts.{Post, post_ok, post_err, post_bind, post_any, post_then}
 
 has_changed : {A : Type 0} (key : A → ℕ) (n : ℕ) (change : A → A) (xs : List A) (x : A) → Has (change_keyed key n change xs) x → ((y : A) × Has xs y × (change y ≡ x)) ⊎ Has xs x
 has_changed key n change [] x h = absurd h
-has_changed key n change (y ∷ ys) x h = elim (cases_Bool (eqb (key y) n)) [
-  | inl t ↦ elim (rw t at h) [ inl e ↦ inl (y, inl refl, e) | inr m ↦ inr (inr m) ]
-  | inr t ↦ elim (rw t at h) [ inl e ↦ inr (inl e) | inr m ↦ elim (has_changed key n change ys x m) [ inl r ↦ inl (r.0, inr r.1, r.2) | inr k ↦ inr (inr k) ] ]
-]
+has_changed key n change (y ∷ ys) x h = grind (arith, has_changed key n change ys x)
 
 has_set : (xs : List Word) (i : ℕ) (w v : Word) → Has (slice_set xs i w) v → (w ≡ v) ⊎ Has xs v
 has_set [] i w v h = inr h
@@ -48,10 +43,7 @@ module _ (W : Word → Type 0) (M : ℕ → Standing → Type 0) (numbers : (bit
   Good answer = Post Kept answer
 
   pub task_made : (job : Job) (task : Task) → TasksMade job.tasks → AllMade task.frames → TasksMade (with_task job task).tasks
-  task_made job task all own t h = elim (has_changed (λ (u : Task). u.number) task.number (λ u. task) job.tasks t h) [
-    | inl r ↦ subst (λ (u : Task). AllMade u.frames) r.2 own
-    | inr k ↦ all t k
-  ]
+  task_made job task all own t h = grind (arith, has_changed)
 
   pub result_good : (h : OperatorContext) (job : Job) (task : Task) (printed : List Line) (touched : Option ℕ) → TasksMade job.tasks → AllMade task.frames → Good (result h job task printed touched)
   result_good h job task printed touched all own = post_then Kept _ _ (post_ok Kept _ (task_made job task all own))
@@ -62,10 +54,7 @@ module _ (W : Word → Type 0) (M : ℕ → Standing → Type 0) (numbers : (bit
 
   pub cells_made : (fs : List Frame) (cells : List Word) → AllMade fs → AllW cells → AllMade (with_top_cells fs cells)
   cells_made [] cells all words g h = absurd h
-  cells_made (f ∷ below) cells all words g h = elim h [
-    | inl e ↦ subst Made e (words, (all f (inl refl)).1)
-    | inr m ↦ all g (inr m)
-  ]
+  cells_made (f ∷ below) cells all words g h = grind arith
 
   pub below_made : (fs : List Frame) → AllMade fs → AllMade (below_top fs)
   below_made [] all f h = absurd h
@@ -140,15 +129,7 @@ module _ (W : Word → Type 0) (M : ℕ → Standing → Type 0) (numbers : (bit
   returned_good h w true s enter one = post_any Kept (follow h w) _ (λ end. evaluates_good h end s enter)
 
   returnable_same : (job : Job) (n : ℕ) (w : Word) → W w → Post W (returnable job n w)
-  returnable_same job n (Ref f offset) one = post_then W _ _ (post_ok W (Ref f offset) one)
-  returnable_same job n (Row a) one = post_then W _ _ (post_ok W (Row a) one)
-  returnable_same job n (Element a index) one = post_then W _ _ (post_ok W (Element a index) one)
-  returnable_same job n (Original a) one = post_err W _
-  returnable_same job n (Name couple) one = post_err W _
-  returnable_same job n (Operand bits) one = post_ok W _ one
-  returnable_same job n (Proc segment level place) one = post_ok W _ one
-  returnable_same job n (Intrinsic number) one = post_ok W _ one
-  returnable_same job n (Words.Segment number) one = post_ok W _ one
+  returnable_same job n w one = grind arith
 
   pub retn_good : (h : OperatorContext) (standing : Standing) (cells : List Word) → Source h → Enters → AllW cells → Good (retn_word h standing cells)
   retn_good h Marked cells s enter words = post_err Kept _
@@ -165,17 +146,13 @@ module _ (W : Word → Type 0) (M : ℕ → Standing → Type 0) (numbers : (bit
   tail_words w words all v h = all v (inr h)
 
   pub one_keeps : (f : ℕ → Answer ℕ) (cells : List Word) → AllW cells → Post AllW (on_one f cells)
-  one_keeps f [] all = post_err AllW _
-  one_keeps f (a ∷ rest) all = post_any AllW (operand a) _ (λ x. post_any AllW (f x) _ (λ y. post_ok AllW _ (cons_words (Operand y) rest (numbers y) (tail_words a rest all))))
+  one_keeps f cells all = grind arith
 
   pub two_keeps : (f : Binary) (cells : List Word) → AllW cells → Post AllW (on_two f cells)
-  two_keeps f [] all = post_err AllW _
-  two_keeps f (b ∷ []) all = post_err AllW _
-  two_keeps f (b ∷ a ∷ rest) all = post_any AllW (operand a) _ (λ x. post_any AllW (operand b) _ (λ y. post_any AllW (f x y) _ (λ z. post_ok AllW _ (cons_words (Operand z) rest (numbers z) (tail_words a rest (tail_words b (a ∷ rest) all))))))
+  two_keeps f cells all = grind arith
 
   pub dlet_keeps : (cells : List Word) → AllW cells → Post AllW (dlet cells)
-  dlet_keeps [] all = post_err AllW _
-  dlet_keeps (a ∷ rest) all = post_any AllW (movable a) _ (λ v. post_ok AllW _ (tail_words a rest all))
+  dlet_keeps cells all = grind arith
 
   pub exch_keeps : (cells : List Word) → AllW cells → Post AllW (exch cells)
   exch_keeps [] all = post_err AllW _
@@ -184,8 +161,7 @@ module _ (W : Word → Type 0) (M : ℕ → Standing → Type 0) (numbers : (bit
       (cons_words a (b ∷ rest) (all a (inr (inl refl))) (cons_words b rest (all b (inl refl)) (tail_words a rest (tail_words b (a ∷ rest) all))))))
 
   pub dupl_keeps : (cells : List Word) → AllW cells → Post AllW (dupl cells)
-  dupl_keeps [] all = post_err AllW _
-  dupl_keeps (a ∷ rest) all = post_any AllW (movable a) _ (λ v. post_ok AllW _ (cons_words a (a ∷ rest) (all a (inl refl)) all))
+  dupl_keeps cells all = grind arith
 
   -- a store puts an operand
   pub stored_made : (job : Job) (n offset bits : ℕ) → TasksMade job.tasks → TasksMade (with_cell job n offset (Operand bits)).tasks
@@ -203,9 +179,7 @@ module _ (W : Word → Type 0) (M : ℕ → Standing → Type 0) (numbers : (bit
       ])
 
   pub woken_made : (job : Job) (f offset : ℕ) → TasksMade job.tasks → TasksMade (wakes f offset job).tasks
-  woken_made job f offset all t h =
-      let r = has_map_back (λ (u : Task). record u { condition = woken_at f offset u.condition }) job.tasks t h in
-      subst (λ (u : Task). AllMade u.frames) r.is (all r.item r.among)
+  woken_made job f offset all t h = grind (arith, has_map_back)
 
   -- an intrinsic's answer
   pub answered_made : (h : OperatorContext) (words : List Word) → Source h → AllW words → AllMade (answered h words).frames

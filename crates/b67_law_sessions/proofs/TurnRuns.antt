@@ -13,9 +13,7 @@ came-none s = record { session = refl; lines_are = refl }
 
 more : (steps : ℕ) (first s : Session) (m : StepResult) → after steps first ≡ s → next s ≡ Some m
     → (after (suc steps) first ≡ m.session) × (lines (suc steps) first ≡ lines steps first ++ m.lines)
-more zero first s m e n =
-    let at : next first ≡ Some m = ap next e ∙ n in
-    (ap (after_from 1 first) at, ap (lines_from 1) at ∙ append-nil m.lines)
+more zero first s m e n = grind (arith, append-nil)
 more (suc steps) first s m e n = by (λ f at. more steps f s m at n) (next first) refl
   where
     by : ((f : Session) → after steps f ≡ s → (after (suc steps) f ≡ m.session) × (lines (suc steps) f ≡ lines steps f ++ m.lines))

@@ -8,12 +8,12 @@ use Rattle.b67_ctl.specs.Layout.{mscw_word, rcw_word}
 use Rattle.b67_core.proofs.Writes.{slice_get-set_other}
 use Rattle.b67_model.specs.State as State
 use Rattle.b67_model.specs.Common.{Frame, Return, Condition, Ready, Task, Job, SessionJob, height, with_task, number_of, Session}
-use Rattle.b67_model.specs.Keyed.{keyed, change_keyed}
+use Rattle.b67_model.specs.Keyed.{keyed}
 use Rattle.b67_stack.specs.Common.{StackPlace, Entered, Activation, HeadFits, stack_words, top_size, mark_place, mark_of, return_of, PagedObject, MachineView, RunsOn, Storage, RepresentsRunning, Represents, with_stack}
 use Rattle.b67_stack.proofs.Slots.{running_slot, running_fits}
 use Rattle.b67_stack.proofs.Pushes.{Room, room_of}
 use Rattle.b67_layout.specs.Common.{Placement, spot_in, outer_spots, activations, stack_of_task, machine_view, with_job, IsRunning, ShowsDisplay, critical_mark, with_objects, SessionHoldsBut, RepresentsSessionBut}
-use Rattle.b67_layout.proofs.Common.{OnTop, seen-mark, IsFree, free-uncritical, runs_on, Settled-more, task_on, SessionHolds-top, still_running, Shows-condition, running_only}
+use Rattle.b67_layout.proofs.Common.{OnTop, IsFree, free-uncritical, runs_on, Settled-more, task_on, SessionHolds-top, still_running, Shows-condition, running_only}
 use Rattle.b67_stack.proofs.ClearHeads.{IsClear}
 use Rattle.b67_layout_records.proofs.Heads.{Represents-accident}
 use Rattle.b67_stack.specs.declared.Cpu.{Cpu}
@@ -25,8 +25,7 @@ abbrev pub new_frame : ℕ → ℕ → ℕ → Return → Frame
 new_frame n level environment back = record { identity = n; standing = State.Entered level environment (Some back); cells = [] }
 
 distance : (stack : List Activation) → stack ≢ [] → (s f b : ℕ) → s ≡ b + stack_words stack → f ≡ b + mark_place stack → s + 1 - f ≡ top_size stack
-distance [] some s f b es ef = absurd (some refl)
-distance (a ∷ below) some s f b es ef = omega (arith, es, ef)
+distance h some s f b es ef = grind arith
 
 module _ (left : List PagedObject) (x : Storage) (core : List Tagged) (r : Regs) (marks : List ℕ) (plan : Placement) (s : Session) (m : SessionJob) (t : Task) (h : SessionHoldsBut left x core r marks plan s) (runs : IsRunning plan s.jobs m t)
     (level environment : ℕ) (back : Return) (spot : StackPlace) where
@@ -71,17 +70,7 @@ module _ (left : List PagedObject) (x : Storage) (core : List Tagged) (r : Regs)
     job_after condition = with_task job (task_after condition)
 
     on_top : (condition : Condition) → OnTop m.progress.job (job_after condition) t (task_after condition) n
-    on_top condition = record {
-      there = runs.task;
-      number = refl;
-      critical = refl;
-      parents = refl;
-      tasks = ap (λ (ts : List Task). change_keyed (λ (u : Task). u.number) t.number (λ (u : Task). task_after condition) ts) tasks;
-      arrays = arrays;
-      some = free.some;
-      uncritical = free.uncritical;
-      same = λ c k o id ne. seen-mark (new_frame n level environment back) t.frames c k o id ne;
-    }
+    on_top condition = grind arith
 
     -- core and registers then
     abbrev pub core_after : List Tagged

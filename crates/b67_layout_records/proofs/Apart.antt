@@ -1,26 +1,22 @@
 -- The spot of a task's top frame is that of no other frame that the task names, and spots fit their fields.
-use Rattle.std.proofs.Common.{◌≡◌, ◌≢◌, ℕ, ◌+◌, ◌<◌, ◌≤◌, ◌^◌, List, [], ◌∷◌, find, Option, Some, None, refl, sym, ◌∙◌, ap, arith, true, false, inl, inr, subst, unwrap_or}
+use Rattle.std.proofs.Common.{◌≡◌, ◌≢◌, ℕ, ◌+◌, ◌<◌, ◌≤◌, ◌^◌, List, [], ◌∷◌, find, Option, Some, None, refl, sym, ◌∙◌, ap, arith, true, inl, inr, subst, unwrap_or}
 use Rattle.std.specs.Prelude.{option_map}
 use Rattle.std.proofs.lemmas.Bool.Decides.{eqb_tells}
 use Rattle.b67_lemmas.specs.Lists.{Has}
 use Rattle.b67_lemmas.proofs.Members.{all_in, keyed_has, found-has}
-use Rattle.b67_model.specs.Common.{Frame, Standing, Marked, Entered, Task, JobConstants, Job, SessionJob, head_words, height, IsSegment, from_frame, frames_of_task, critical_of, BirthInOrder, TaskInOrder, TasksInOrder}
+use Rattle.b67_model.specs.Common.{Frame, Standing, Task, JobConstants, Job, SessionJob, head_words, height, IsSegment, from_frame, frames_of_task, critical_of, BirthInOrder, TaskInOrder, TasksInOrder}
 use Rattle.b67_model.specs.Keyed.{keyed}
 use Rattle.b67_stack.specs.Stacks.{StackPlace}
 use Rattle.b67_layout.specs.Common.{Slotted, Placement, is_row_of, slot_of, spot_in, base_spot, outer_spots, RowsFit}
 use Rattle.b67_layout.proofs.Rows.{TaskRow, task_row}
 
 pub some_words : (s : Standing) → 1 ≤ head_words s
-some_words Marked = omega arith
-some_words (Entered level environment back) = omega arith
+some_words s = grind arith
 
 -- a frame found among others stands lower than all of them
 pub found_low : (k : ℕ) (outer : ℕ → StackPlace) (fs : List Frame) (id : ℕ) (P : StackPlace → Type 0) → ((d : ℕ) → d < height fs → P (record { stack = k; disp = d })) → P (outer id) → P (spot_in k outer fs id)
 found_low k outer [] id P low out = out
-found_low k outer (f ∷ below) id P low out = elim (eqb_tells f.identity id) [
-  | inl e ↦ rw e.0 (low (height below) (omega (arith, some_words f.standing)))
-  | inr e ↦ rw e.0 (found_low k outer below id P (λ d small. low d (omega (arith, small))) out)
-]
+found_low k outer (f ∷ below) id P low out = grind (arith, found_low k outer below id P)
 
 from_low : (c : ℕ) (fs : List Frame) → height (from_frame c fs) ≤ height fs
 from_low c [] = omega arith
@@ -52,13 +48,7 @@ module _ (plan : Placement) (j : ℕ) (constants : JobConstants) (job : Job) (o 
       omega (arith, b.older, k.1, all_older b.parent more born p h)
 
 row_number : (job task : ℕ) (r : Slotted) → is_row_of job task r ≡ true → r.task ≡ task
-row_number job task r t = elim (eqb_tells r.task task) [
-  | inl e ↦ e.1
-  | inr e ↦ elim (eqb_tells r.job job) [
-    | inl a ↦ absurd (let z : false ≡ true = rw (a.0, e.0) at t in let y : ⊥ = cc in y)
-    | inr a ↦ absurd (let z : false ≡ true = rw a.0 at t in let y : ⊥ = cc in y)
-  ]
-]
+row_number job task r t = grind arith
 
 module _ (plan : Placement) (jobs : List SessionJob) (m : SessionJob) (fit : RowsFit plan jobs) (few : plan.peak ≤ 120) where
   -- a slot of a live task, or 255

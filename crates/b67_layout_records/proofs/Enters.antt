@@ -1,6 +1,5 @@
 -- The running task's marked top frame is entered: what core and registers represent then, and what it needs for it.
-use Rattle.std.proofs.Common.{◌≡◌, ◌≢◌, ℕ, ◌+◌, ◌≤◌, List, [], ◌∷◌, ◌++◌, map, Some, refl, ◌∙◌, ap, arith, ⊎_elim, slice_set, subst, length-append, ◌==◌}
-use Rattle.std.proofs.lemmas.Bool.{cases_Bool}
+use Rattle.std.proofs.Common.{◌≡◌, ◌≢◌, ℕ, ◌+◌, ◌≤◌, List, [], ◌∷◌, ◌++◌, map, Some, refl, ◌∙◌, ap, arith, slice_set, subst, length-append}
 use Rattle.std.proofs.lemmas.List.{map-append}
 use Rattle.b67_word.specs.Tagged.{Tagged}
 use Rattle.b67_word.specs.declared.couples.Place.{Place}
@@ -9,7 +8,7 @@ use Rattle.b67_ctl.specs.Layout.{mscw_word, rcw_word}
 use Rattle.b67_core.proofs.Writes.{slice_get-set_other}
 use Rattle.b67_model.specs.Common.{Word, Frame, Return, Condition, Ready, Task, Job, SessionJob, top, below_top, with_task, from_frame, Session, number_of}
 use Rattle.b67_model.specs.State as State
-use Rattle.b67_stack.specs.Common.{Shape, Original, StackPlace, Head, Marked, Entered, Activation, HeadFits, mark_of, return_of, RunsOn, Storage, RepresentsRunning, Represents, with_stack}
+use Rattle.b67_stack.specs.Common.{Shape, Original, StackPlace, Marked, Entered, Activation, HeadFits, mark_of, return_of, RunsOn, Storage, RepresentsRunning, Represents, with_stack}
 use Rattle.b67_stack.proofs.Slots.{running_slot}
 use Rattle.b67_stack.proofs.Pushes.{Room, room_of}
 use Rattle.b67_layout.specs.Common.{Placement, spot_in, outer_spots, shape, head, activations, stack_of_task, machine_view, with_job, IsRunning, ShowsDisplay, critical_mark, SessionHolds, RepresentsSession}
@@ -25,12 +24,10 @@ entered_frames fs level environment back cells =
 
 -- nobody sees other frames where a frame is entered
 pub seen_entered : (fs : List Frame) (level environment : ℕ) (back : Return) (cells : List Word) (c s : ℕ) (outer : ℕ → StackPlace) (id : ℕ) → fs ≢ [] → spot_in s outer (from_frame c (entered_frames fs level environment back cells)) id ≡ spot_in s outer (from_frame c fs) id
-seen_entered [] level environment back cells c s outer id some = absurd (some refl)
-seen_entered (f ∷ below) level environment back cells c s outer id some = ⊎_elim (λ e. rw e refl) (λ e. rw e refl) (cases_Bool (f.identity == c))
+seen_entered fs level environment back cells c s h id some = grind arith
 
 critical_entered : (job : Job) (fs : List Frame) (level environment : ℕ) (back : Return) (cells : List Word) → fs ≢ [] → critical_mark job (entered_frames fs level environment back cells) ≡ critical_mark job fs
-critical_entered job [] level environment back cells some = absurd (some refl)
-critical_entered job (f ∷ below) level environment back cells some = refl
+critical_entered job fs level environment back cells some = grind arith
 
 -- the marked frame on top with its first cell
 pub record IsMarkedWith (fs : List Frame) (first : Word) (others : List Word) : Type 0 where
@@ -42,20 +39,12 @@ module _ (plan : Placement) (j : ℕ) (job : Job) (k : ℕ) (outer : ℕ → Sta
   -- its activation record
   pub marked_stack : (fs : List Frame) (first : Word) (cells : List Word) → IsMarkedWith fs first cells → let sh = shape plan j job (spot_in k outer fs) in
       activations plan j job k outer fs ≡ record { head = Marked; cells = map sh cells ++ sh first ∷ [] } ∷ activations plan j job k outer (below_top fs)
-  marked_stack [] first cells w = absurd (w.some refl)
-  marked_stack (f ∷ below) first cells w =
-      let sh = shape plan j job (spot_in k outer (f ∷ below)) in
-      let rest = activations plan j job k outer below in
-      ap (λ st. record { head = head_of st; cells = map sh f.cells } ∷ rest) w.marked
-      ∙ ap (λ cs. record { head = Marked; cells = cs } ∷ rest) (ap (map sh) w.cells ∙ map-append sh cells (first ∷ [])) where
-        head_of : State.Standing → Head
-        head_of st = head (spot_in k outer below) st
+  marked_stack fs first cells w = grind (arith, map-append)
 
   entered_stack : (fs : List Frame) (level environment : ℕ) (back : Return) (cells : List Word) → fs ≢ [] →
       activations plan j job k outer (entered_frames fs level environment back cells)
       ≡ record { head = Entered level (spot_in k outer (below_top fs) environment) (Some back); cells = map (shape plan j job (spot_in k outer fs)) cells } ∷ activations plan j job k outer (below_top fs)
-  entered_stack [] level environment back cells some = absurd (some refl)
-  entered_stack (f ∷ below) level environment back cells some = refl
+  entered_stack fs level environment back cells some = grind arith
 
 module _ (x : Storage) (core : List Tagged) (r : Regs) (marks : List ℕ) (plan : Placement) (s : Session) (m : SessionJob) (t : Task) (h : SessionHolds x core r marks plan s) (runs : IsRunning plan s.jobs m t)
     (first : Word) (cells : List Word) (w : IsMarkedWith t.frames first cells) (level environment : ℕ) (back : Return) (spot : StackPlace) where
@@ -103,17 +92,7 @@ module _ (x : Storage) (core : List Tagged) (r : Regs) (marks : List ℕ) (plan 
     job_after condition = with_task m.progress.job (task_after condition)
 
     on_top : (condition : Condition) → OnTop m.progress.job (job_after condition) t (task_after condition) n
-    on_top condition = record {
-      there = runs.task;
-      number = refl;
-      critical = refl;
-      parents = refl;
-      tasks = refl;
-      arrays = refl;
-      some = free.some;
-      uncritical = free.uncritical;
-      same = λ c k o id ne. seen_entered t.frames level environment back cells c k o id w.some;
-    }
+    on_top condition = grind arith
 
     -- core and registers then
     abbrev pub core_after : List Tagged

@@ -1,5 +1,5 @@
 -- A marked record on top that is entered, and one that is entered at once.
-use Rattle.std.proofs.Common.{◌≡◌, ◌≢◌, ℕ, suc, ◌+◌, ◌-◌, ◌^◌, ◌<◌, ◌≤◌, List, [], ◌∷◌, ◌++◌, length, Option, Some, refl, sym, ◌∙◌, arith, inl, inr, ⊎_elim, slice_set, subst, append_assoc, length-append}
+use Rattle.std.proofs.Common.{◌≡◌, ◌≢◌, ℕ, suc, ◌+◌, ◌-◌, ◌^◌, ◌<◌, ◌≤◌, List, [], ◌∷◌, ◌++◌, length, Option, Some, refl, sym, ◌∙◌, arith, inl, inr, ⊎_elim, slice_set, append_assoc, length-append}
 use Rattle.std.specs.List.{slice_get}
 use Rattle.std.proofs.Math.ListN.{length-set}
 use Rattle.b67_word.specs.Tagged.{Tagged}
@@ -23,11 +23,7 @@ use Rattle.b67_stack.proofs.ClearHeads.{IsClear}
 pub Lie-put : (R : Shape → ℕ → Tagged → Type 0) (core : List Tagged) (from i : ℕ) (above : List Shape) (a b : Shape) (w : Tagged) (under : List Shape) → i ≡ from + length under → i < length core → R b i w
     → LieDownward R core from (above ++ a ∷ under) → LieDownward R (slice_set core i w) from (above ++ b ∷ under)
 Lie-put R core from i [] a b w under e h r l = Lie-push R core from i b w under e h r l.1
-Lie-put R core from i (c ∷ above) a b w under e h r l =
-    let same : length (above ++ b ∷ under) ≡ length (above ++ a ∷ under) = length-append above (b ∷ under) ∙ sym (length-append above (a ∷ under)) in
-    let up : i ≡ from + length (above ++ a ∷ under) → ⊥ = λ z. omega (arith, z, e, length-append above (a ∷ under)) in
-    let P : ℕ → Type 0 = λ n. (v : Tagged) × (slice_get (slice_set core i w) (from + n) ≡ Some v) × R c (from + n) v in
-    (subst P (sym same) (l.0.0, slice_get-set_other core i (from + length (above ++ a ∷ under)) w (λ z. up (sym z)) ∙ l.0.1, l.0.2), Lie-put R core from i above a b w under e h r l.1)
+Lie-put R core from i (c ∷ above) a b w under e h r l = grind (arith, length-append, slice_get-set_other, Lie-put R core from i above a b w under e h r l.1)
 
 -- an entered record's mark has a word
 pub entered_mark_fits : (k level : ℕ) (environment : StackPlace) (back : Option Return) (below : List Activation) → HeadFits (Entered level environment back) below → top_size below < 2 ^ 14 → IsMscw (mark_of k (Entered level environment back) below)

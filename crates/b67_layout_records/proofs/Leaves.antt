@@ -1,14 +1,12 @@
 -- The running task leaves its top frame: the machine represents the session afterwards, where the memory does.
-use Rattle.std.proofs.Common.{◌≡◌, ◌≢◌, ℕ, ◌<◌, ◌≤◌, List, [], ◌∷◌, map, refl, sym, ◌∙◌, ap, arith, Bool, false, inl, inr, subst}
-use Rattle.std.specs.Prelude.{if◌then◌else◌}
+use Rattle.std.proofs.Common.{◌≡◌, ◌≢◌, ℕ, ◌<◌, ◌≤◌, List, [], ◌∷◌, map, refl, sym, ◌∙◌, arith, false, inl, inr, subst}
 use Rattle.std.specs.List.{slice_get}
-use Rattle.std.proofs.lemmas.Bool.Decides.{eqb_tells}
 use Rattle.b67_word.specs.Tagged.{Tagged}
 use Rattle.b67_word.specs.declared.couples.Place.{Place}
 use Rattle.b67_ctl.specs.declared.registers.Regs.{Regs}
 use Rattle.b67_lemmas.specs.Lists.{Falls}
 use Rattle.b67_lemmas.proofs.Members.{all_in, keyed_has}
-use Rattle.b67_model.specs.Common.{Frame, Array, Condition, Task, Job, JobProgress, SessionJob, height, is_critical, Session, IsSegment, from_frame, FramesInOrder, outer_of, TaskInOrder}
+use Rattle.b67_model.specs.Common.{Frame, Array, Condition, Task, Job, JobProgress, SessionJob, is_critical, Session, IsSegment, from_frame, FramesInOrder, outer_of, TaskInOrder}
 use Rattle.b67_model.specs.Keyed.{change_keyed}
 use Rattle.b67_layout.specs.Common.{JobInOrderButCounts, IsInOrderButCounts, Placement, spot_in, outer_spots, activations, machine_view, critical_mark, RepresentsTask, IsRunning, SessionHolds, SessionHoldsBut, objects_gone, with_job}
 use Rattle.b67_stack.specs.Common.{StackPlace, Activation, stack_words, Storage, Represents, with_stack}
@@ -75,11 +73,7 @@ module _ (plan : Placement) (s : Session) (m : SessionJob) (t : Task) (f : Frame
 
   -- the frames below
   pub Frames-below : Frames below
-  Frames-below = record { seen = seen; mark = ap (λ (b : Bool). if b then height below else critical_mark m.progress.job below) (sym may.free) ∙ ap (critical_mark m.progress.job) (sym may.frames) } where
-    seen : (c s : ℕ) (outer : ℕ → StackPlace) (id : ℕ) → IsDependedOn m.progress.job c → spot_in s outer (from_frame c below) id ≡ spot_in s outer (from_frame c t.frames) id
-    seen c s o id d =
-        let one : from_frame c (f ∷ below) ≡ from_frame c below = elim (eqb_tells f.identity c) [ inl e ↦ absurd (depended_apart c d (sym e.1)) | inr e ↦ rw e.0 refl ] in
-        ap (λ (fs : List Frame). spot_in s o fs id) (sym one ∙ ap (from_frame c) (sym may.frames))
+  Frames-below = grind (arith, depended_apart)
 
   module _ (new : Job) (fs : List Frame) (g : ℕ) (q : Place) (d : Condition) (tasks : new.tasks ≡ change_keyed (λ (u : Task). u.number) t.number (λ (u : Task). task_at t fs g q d) m.progress.job.tasks)
       (arrays : new.arrays ≡ others f.identity m.progress.job.arrays) (after : Frames fs) where

@@ -39,12 +39,7 @@ module _ (constants : JobConstants) (job : Job) (t : Task) (f : Frame) (below : 
   })
 
   stays_by : (a : Array) → Has job.arrays a → a.owner ≢ f.identity → Stays (others f.identity job.arrays) a
-  stays_by a k other = record {
-    item = a;
-    live = has_filter_in (λ (x : Array). not (eqb x.owner f.identity)) job.arrays a k (elim (eqb_tells a.owner f.identity) [ inl e ↦ absurd (other e.1) | inr e ↦ rw e.0 refl ]);
-    named = refl;
-    owned = refl;
-  }
+  stays_by a k other = grind (arith, has_filter_in)
 
   -- without the frame
   pub dropped : below ≢ [] → Change (IsSegment constants) at (others f.identity job.arrays) below job.next_frame

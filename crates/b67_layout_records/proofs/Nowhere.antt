@@ -2,7 +2,6 @@
 use Rattle.std.proofs.Common.{◌≡◌, ◌≢◌, ℕ, List, [], ◌∷◌, ◌++◌, map, Option, Some, None, refl, sym, ◌∙◌, ap, arith, true, false, not, inl, inr, subst, unwrap_or}
 use Rattle.std.specs.Prelude.{◌==◌}
 use Rattle.std.specs.List.{AllByRecursion}
-use Rattle.std.proofs.lemmas.Bool.{true≢false}
 use Rattle.std.proofs.lemmas.Bool.Decides.{eqb_tells}
 use Rattle.std.proofs.lemmas.Option.{same_Some}
 use Rattle.b67_lemmas.specs.Lists.{Has, Falls}
@@ -23,10 +22,7 @@ pub record MayLeave (constants : JobConstants) (job : Job) (t : Task) (f : Frame
 
 module _ (constants : JobConstants) (job : Job) (t : Task) (f : Frame) (below : List Frame) (may : MayLeave constants job t f below) where
   pub uncritical : (u : Task) → Has job.tasks u → u.critical ≢ f.identity
-  uncritical u h e = elim (eqb_tells u.critical f.identity) [
-    | inl s ↦ true≢false (sym s.0 ∙ any_none (λ (v : Task). v.critical == f.identity) job.tasks u may.free h)
-    | inr s ↦ s.1 e
-  ]
+  uncritical u h e = grind (arith, any_none)
 
   in_parent : (c parent : ℕ) (o : Option Task) → keyed (λ (u : Task). u.number) parent job.tasks ≡ o → c ≢ f.identity → Has (known_numbers (map known_of (from_frame c (frames_of_task o)))) f.identity → ⊥
   in_parent c parent None e ne h = h
@@ -67,10 +63,7 @@ module _ (constants : JobConstants) (job : Job) (t : Task) (f : Frame) (below : 
 
   -- nor in the reach of other frames
   pub not_in_reach : (c : ℕ) (parents : List ℕ) (fs : List Frame) → c ≢ f.identity → frames_named f.identity fs ≡ 0 → Has (known_numbers (map known_of fs ++ outer_reach job c parents)) f.identity → ⊥
-  not_in_reach c parents fs ne none h = elim (has_append_cases (known_numbers (map known_of fs)) (known_numbers (outer_reach job c parents)) f.identity (subst (λ (ns : List ℕ). Has ns f.identity) (numbers_append (map known_of fs) (outer_reach job c parents)) h)) [
-    | inl a ↦ let one = has_counts f.identity fs a in let z : ⊥ = omega (arith, one, none) in z
-    | inr b ↦ outside c parents ne b
-  ]
+  not_in_reach c parents fs ne none h = grind (arith, has_append_cases, numbers_append, has_counts, outside)
 
 -- the array that a word names is the same
 abbrev pub SameArray : Job → Job → Word → Type 0
@@ -102,15 +95,7 @@ module _ (new old : Job) (owner : ℕ) (is : new.arrays ≡ others owner old.arr
       subst (λ (i : ℕ). array new i ≡ array old i) n.named (array_stays n.item n.live ne)
 
   pub word_stays : (P : Starts) (reach : List Known) (home : ℕ) (w : Word) → (Has (known_numbers reach) owner → ⊥) → WordInOrder P old.arrays reach home w → SameArray new old w
-  word_stays P reach home (Operand bits) none g = tt
-  word_stays P reach home (Name couple) none g = tt
-  word_stays P reach home (Ref identity offset) none g = tt
-  word_stays P reach home (Row a) none g = by_name reach a none g
-  word_stays P reach home (Element a index) none g = by_name reach a none g
-  word_stays P reach home (Original a) none g = tt
-  word_stays P reach home (Proc segment level place) none g = tt
-  word_stays P reach home (Intrinsic number) none g = tt
-  word_stays P reach home (Words.Segment number) none g = tt
+  word_stays P reach home w none g = grind (arith, by_name)
 
   words_stay : (P : Starts) (reach : List Known) (home : ℕ) (ws : List Word) → (Has (known_numbers reach) owner → ⊥) → AllByRecursion (WordInOrder P old.arrays reach home) ws → AllByRecursion (SameArray new old) ws
   words_stay P reach home [] none g = tt
@@ -124,15 +109,7 @@ module _ (new old : Job) (owner : ℕ) (is : new.arrays ≡ others owner old.arr
 -- then their words are the same
 module _ (plan : Placement) (j : ℕ) (new old : Job) where
   pub shape-same : (spot : ℕ → StackPlace) (w : Word) → SameArray new old w → shape plan j new spot w ≡ shape plan j old spot w
-  shape-same spot (Operand bits) e = refl
-  shape-same spot (Name couple) e = refl
-  shape-same spot (Ref identity offset) e = refl
-  shape-same spot (Row a) e = rw e refl
-  shape-same spot (Element a index) e = rw e refl
-  shape-same spot (Original a) e = refl
-  shape-same spot (Proc segment level place) e = refl
-  shape-same spot (Intrinsic number) e = refl
-  shape-same spot (Words.Segment number) e = refl
+  shape-same spot w e = grind arith
 
   pub shapes-same : (spot : ℕ → StackPlace) (ws : List Word) → AllByRecursion (SameArray new old) ws → map (shape plan j new spot) ws ≡ map (shape plan j old spot) ws
   shapes-same spot [] e = refl

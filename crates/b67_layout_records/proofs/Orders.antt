@@ -1,14 +1,13 @@
 -- The running task is in order with its marked frame entered, or with an entered one more, where it is ready then.
-use Rattle.std.proofs.Common.{◌≡◌, ◌≢◌, ℕ, ◌+◌, ◌≤◌, List, [], ◌∷◌, ◌++◌, map, length, Some, refl, ap, inl, inr, arith, false, length-append}
-use Rattle.std.specs.Prelude.{if◌then◌else◌}
+use Rattle.std.proofs.Common.{◌≡◌, ◌≢◌, ℕ, ◌+◌, ◌≤◌, List, [], ◌∷◌, ◌++◌, map, Some, refl, inl, inr, arith, false, length-append}
 use Rattle.std.specs.List.{AllByRecursion}
 use Rattle.std.proofs.lemmas.Bool.Decides.{eqb_tells}
 use Rattle.b67_word.specs.declared.couples.Place.{Place}
 use Rattle.b67_model.specs.Keyed.{keyed}
-use Rattle.b67_lemmas.specs.Lists.{Has, Falls, total}
+use Rattle.b67_lemmas.specs.Lists.{Has, Falls}
 use Rattle.b67_lemmas.proofs.Members.{all_in, falls_low, keyed_has, total_append}
 use Rattle.b67_model.specs.Words as Words
-use Rattle.b67_model.specs.Common.{Word, Operand, Name, Ref, Row, Element, Original, Proc, Intrinsic, Frame, Standing, Marked, Entered, Return, Array, Ready, Task, JobConstants, Job, OperatorContext, top, below_top, head_words, height, with_task, level_of_frame, running, Starts, Known, WordInOrder, NoCopyUnder, CopiesAbove, is_copy_of, is_original_of, known_numbers, known_of, from_frame, outer_of, EnvironmentInOrder, StandsInOrder, ReturnsInOrder, CellsInOrder, TaskInOrder, originals_in, TasksInOrder}
+use Rattle.b67_model.specs.Common.{Word, Frame, Standing, Marked, Entered, Return, Array, Ready, Task, JobConstants, Job, OperatorContext, top, below_top, height, with_task, level_of_frame, running, Starts, Known, WordInOrder, NoCopyUnder, CopiesAbove, is_original_of, known_numbers, known_of, from_frame, outer_of, EnvironmentInOrder, StandsInOrder, ReturnsInOrder, CellsInOrder, TaskInOrder, originals_in, TasksInOrder}
 use Rattle.b67_law_order.proofs.Reaches.{alike_same, known_number}
 use Rattle.b67_law_order.proofs.Replaced.{replaced}
 use Rattle.b67_law_order.proofs.Changes.{Change, fresh_frame, change_cells, change_enter, change_replaces}
@@ -17,10 +16,7 @@ use Rattle.b67_layout.proofs.Tops.{task_on}
 
 -- its identity isn't that of what lies in its reach
 pub top_apart : (bound : ℕ) (fs : List Frame) (outer : List Known) (n : ℕ) (s : Standing) → fs ≢ [] → Falls bound (known_numbers (map known_of fs ++ outer)) → Has (map known_of (below_top fs) ++ outer) (n, s) → (top fs).identity ≢ n
-top_apart bound [] outer n s some falls k = absurd (some refl)
-top_apart bound (f ∷ below) outer n s some falls k = λ e.
-    let low = falls_low f.identity (known_numbers (map known_of below ++ outer)) n falls.1 (known_number (map known_of below ++ outer) n s k) in
-    omega (arith, e, low)
+top_apart bound fs outer n s some falls k = grind (arith, falls_low, known_number)
 
 -- cells in order stay so without the first one
 all_front : (Q : Word → Type 0) (xs : List Word) (y : Word) → AllByRecursion Q (xs ++ y ∷ []) → AllByRecursion Q xs
@@ -28,15 +24,7 @@ all_front Q [] y all = tt
 all_front Q (x ∷ xs) y all = (all.0, all_front Q xs y all.1)
 
 no_copy_front : (w : Word) (xs : List Word) (y : Word) → NoCopyUnder w (xs ++ y ∷ []) → NoCopyUnder w xs
-no_copy_front (Original a) xs y none = omega (arith, none, total_append (λ (v : Word). if is_copy_of a v then 1 else 0) xs (y ∷ []))
-no_copy_front (Operand bits) xs y none = tt
-no_copy_front (Name couple) xs y none = tt
-no_copy_front (Ref f offset) xs y none = tt
-no_copy_front (Row a) xs y none = tt
-no_copy_front (Element a index) xs y none = tt
-no_copy_front (Proc segment level place) xs y none = tt
-no_copy_front (Intrinsic n) xs y none = tt
-no_copy_front (Words.Segment n) xs y none = tt
+no_copy_front w xs y none = grind (arith, total_append)
 
 copies_front : (xs : List Word) (y : Word) → CopiesAbove (xs ++ y ∷ []) → CopiesAbove xs
 copies_front [] y c = tt
@@ -48,20 +36,12 @@ cells_front P arrays known owner xs y c = (all_front (WordInOrder P arrays known
 -- the same originals where the first cell, which is none, gives way to the return
 pub originals_entered : (n : ℕ) (fs : List Frame) (standing : Standing) (xs : List Word) (y : Word) → fs ≢ [] → (top fs).cells ≡ xs ++ y ∷ [] → is_original_of n y ≡ false
     → originals_in n (record (top fs) { standing = standing; cells = xs } ∷ below_top fs) ≡ originals_in n fs
-originals_entered n [] standing xs y some e plain = absurd (some refl)
-originals_entered n (f ∷ below) standing xs y some e plain =
-    let split = total_append (λ (v : Word). if is_original_of n v then 1 else 0) xs (y ∷ []) in
-    let none : total (λ (v : Word). if is_original_of n v then 1 else 0) (y ∷ []) ≡ 0 = rw plain refl in
-    let all = ap (total (λ (v : Word). if is_original_of n v then 1 else 0)) e in
-    omega (arith, split, none, all)
+originals_entered n fs standing xs y some e plain = grind (arith, total_append)
 
 -- as many words
 pub height_entered : (fs : List Frame) (level environment : ℕ) (back : Return) (xs : List Word) (y : Word) → fs ≢ [] → (top fs).standing ≡ Marked → (top fs).cells ≡ xs ++ y ∷ []
     → height (record (top fs) { standing = Entered level environment (Some back); cells = xs } ∷ below_top fs) ≡ height fs
-height_entered [] level environment back xs y some marked e = absurd (some refl)
-height_entered (f ∷ below) level environment back xs y some marked e =
-    let one : head_words f.standing ≡ 1 = ap head_words marked in
-    omega (arith, one, ap length e, length-append xs (y ∷ []))
+height_entered fs level environment back xs y some marked e = grind (arith, length-append)
 
 module _ (P : Starts) (constants : JobConstants) (job : Job) (t : Task) (g : TasksInOrder P constants job) (found : keyed (λ (u : Task). u.number) t.number job.tasks ≡ Some t) where
   abbrev pub at : OperatorContext

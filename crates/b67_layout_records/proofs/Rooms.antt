@@ -1,7 +1,6 @@
 -- How high the running task's frames are, by the registers.
 use Rattle.std.proofs.Common.{◌≡◌, ℕ, ◌+◌, ◌⊎◌, List, ◌∙◌, arith, inl, inr, ⊎_elim, slice_set}
 use Rattle.std.specs.List.{slice_get}
-use Rattle.std.proofs.lemmas.Bool.{cases_eq}
 use Rattle.b67_word.specs.Tagged.{Tagged}
 use Rattle.b67_ctl.specs.declared.registers.Regs.{Regs}
 use Rattle.b67_core.proofs.Writes.{slice_get-set_other}
@@ -26,10 +25,7 @@ height_room left x core r marks plan s m t h runs =
 
 -- one word or two that are written change only words of the stack
 pub written : (core : List Tagged) (r : Regs) (a : ℕ) (v : Tagged) → IsInStack r a → (i : ℕ) → (slice_get (slice_set core a v) i ≡ slice_get core i) ⊎ IsInStack r i
-written core r a v at i = ⊎_elim
-    (λ (e : i ≡ a). inr (omega (arith, e, at.0), omega (arith, e, at.1)))
-    (λ (n : i ≡ a → ⊥). inl (slice_get-set_other core a i v n))
-    (cases_eq i a)
+written core r a v at i = grind (arith, slice_get-set_other)
 
 pub written_twice : (core : List Tagged) (r : Regs) (a b : ℕ) (v w : Tagged) → IsInStack r a → IsInStack r b → (i : ℕ) → (slice_get (slice_set (slice_set core a v) b w) i ≡ slice_get core i) ⊎ IsInStack r i
 written_twice core r a b v w at there i = ⊎_elim

@@ -1,8 +1,6 @@
 -- The view after a frame was left is settled.
-use Rattle.std.proofs.Common.{◌≡◌, ◌≢◌, ℕ, ◌+◌, ◌≤◌, List, ◌∷◌, map, flat_map, sym, ◌∙◌, ap, arith, not, inl, inr, ◌⊎◌, subst}
-use Rattle.std.specs.Prelude.{◌==◌}
-use Rattle.std.proofs.lemmas.Bool.{cases_eq, true≢false}
-use Rattle.std.proofs.lemmas.Bool.Decides.{eqb_tells}
+use Rattle.std.proofs.Common.{◌≡◌, ◌≢◌, ℕ, ◌+◌, ◌≤◌, List, ◌∷◌, map, flat_map, sym, ◌∙◌, ap, arith, inl, inr, ◌⊎◌, subst}
+use Rattle.std.proofs.lemmas.Bool.{cases_eq}
 use Rattle.std.proofs.lemmas.Option.{same_Some}
 use Rattle.b67_word.specs.Tagged.{Tagged}
 use Rattle.b67_ctl.specs.declared.registers.Regs.{Regs}
@@ -33,9 +31,7 @@ module _ (x : Storage) (core : List Tagged) (r : Regs) (marks : List ℕ) (plan 
   LowHome home = (home ≤ first + high_under) ⊎ (first + plan.size ≤ home)
 
   owner_apart : (b : Array) → Has c.job.arrays b → Has m.progress.job.arrays b × (b.owner ≢ f.identity)
-  owner_apart b k =
-      let i = has_filter (λ (a : Array). not (a.owner == f.identity)) m.progress.job.arrays b (subst (λ (xs : List Array). Has xs b) is k) in
-      (i.0, λ e. elim (eqb_tells b.owner f.identity) [ inl q ↦ true≢false (sym i.1 ∙ ap not q.0) | inr q ↦ q.1 e ])
+  owner_apart b k = grind (arith, has_filter)
 
   array_low : (z : SessionJob) → Has (with_course s.jobs m.constants.number c) z → (b : Array) → Has z.progress.job.arrays b → LowHome (plan.home z.constants.number b.identity)
   array_low z in_z b in_b = elim (cases_eq z.constants.number m.constants.number) [

@@ -1,7 +1,7 @@
 -- A task is replaced by one of whose frames others see the same: the view changes in that task's slot, and its objects are
 -- those of before.
-use Rattle.std.proofs.Common.{◌≡◌, ◌≢◌, ℕ, List, ◌++◌, map, Option, Some, None, refl, sym, ◌∙◌, ap, Bool, ⊎_elim, inr, subst}
-use Rattle.std.specs.Prelude.{if◌then◌else◌, flat_map, ◌==◌}
+use Rattle.std.proofs.Common.{◌≡◌, ◌≢◌, ℕ, List, ◌++◌, map, Option, Some, None, refl, sym, ◌∙◌, ap, Bool, ⊎_elim, inr, subst, arith}
+use Rattle.std.specs.Prelude.{if◌then◌else◌, flat_map}
 use Rattle.std.proofs.lemmas.Bool.{cases_eq, eq-eqb}
 use Rattle.b67_word.specs.Tagged.{Tagged}
 use Rattle.b67_ctl.specs.declared.registers.Regs.{Regs}
@@ -9,7 +9,7 @@ use Rattle.b67_lemmas.specs.Lists.{Has, Falls}
 use Rattle.b67_lemmas.proofs.Members.{keyed_has}
 use Rattle.b67_model.specs.Common.{Array, Task, Job, JobProgress, SessionJob, number_of}
 use Rattle.b67_model.specs.Keyed.{keyed}
-use Rattle.b67_stack.specs.Common.{StackPlace, Activation, PagedObject, Slot, Running, Waiting, MachineView, Storage, Represents, with_stack}
+use Rattle.b67_stack.specs.Common.{StackPlace, PagedObject, Slot, Running, Waiting, MachineView, Storage, Represents, with_stack}
 use Rattle.b67_stack.proofs.Slots.{slot-same, slot-other}
 use Rattle.b67_layout.specs.Common.{Slotted, Placement, outer_spots, activations, stack_of_task, slot_with, slot_in, slot_by, slot_at, objects_of, machine_view, with_objects, objects_gone}
 use Rattle.b67_layout.proofs.Common.{with_course, member-same, member-other, RowOf, Replaces, task-same, task-other, Represents-objects, others}
@@ -23,9 +23,7 @@ module _ (plan : Placement) (j : ℕ) (job job' : Job) (t t' : Task) (by : Repla
 
   -- the slot of every task that names the same arrays is as it was
   pub slot_with-after : (k : ℕ) (u : Task) → Has job.tasks u → SameArrays job' job u.frames → slot_with plan k j job' (Some u) ≡ slot_with plan k j job (Some u)
-  slot_with-after k u h same =
-      let S : List Activation → Slot = λ xs. if k == plan.running then Running xs else Waiting xs in
-      ap S (activations-same plan j job' job k (outer_spots plan j job' u.critical u.parents) u.frames same ∙ ap (λ (o : ℕ → StackPlace). activations plan j job k o u.frames) (outer-same u h))
+  slot_with-after k u h same = grind (arith, activations-same, outer-same)
 
   -- the task's own stack, by what it saw before
   pub stack-after : (k : ℕ) → stack_of_task plan j job' k t' ≡ activations plan j job' k (outer_spots plan j job t.critical t.parents) t'.frames

@@ -1,6 +1,6 @@
 -- Live frames of different identities have different names.
-use Rattle.std.proofs.Common.{◌≡◌, ◌≢◌, ℕ, ◌+◌, ◌*◌, ◌^◌, ◌<◌, ◌≤◌, ◌==◌, Bool, List, [], ◌∷◌, map, refl, sym, ◌∙◌, ap, subst, arith, inl, inr}
-use Rattle.std.specs.Prelude.{◌||◌, if◌then◌else◌}
+use Rattle.std.proofs.Common.{◌≡◌, ◌≢◌, ℕ, ◌+◌, ◌*◌, ◌^◌, ◌<◌, ◌≤◌, ◌==◌, Bool, List, [], ◌∷◌, map, refl, sym, ◌∙◌, ap, arith, inl, inr}
+use Rattle.std.specs.Prelude.{if◌then◌else◌}
 use Rattle.std.specs.List.{list_any}
 use Rattle.std.proofs.lemmas.Bool.{ne_eqb, eq-eqb}
 use Rattle.std.proofs.lemmas.Bool.Decides.{eqb_tells}
@@ -50,12 +50,7 @@ module _ (P : Starts) (constants : JobConstants) (job : Job) (order : TasksInOrd
   live_high t there c h = let b = between t there c h in let number = task_number P constants job t (own t there) in omega (arith, b, number)
 
   pub live_apart : (t u : Task) → Has job.tasks t → Has job.tasks u → (c d : ℕ) → Has (identities t.frames) c → Has (identities u.frames) d → rename c ≡ rename d → c ≡ d
-  live_apart t u ht hu c d hc hd e =
-      let a = between t ht c hc in
-      let b = between u hu d hd in
-      let number : t.number ≡ u.number = omega (arith, a, b, e) in
-      let same : t ≡ u = falls_same (λ (v : Task). v.number) job.next_task job.tasks t u order.numbers ht hu number in
-      one_list rename relabel u.number u.frames (names u hu) c d (subst (λ (v : Task). Has (identities v.frames) c) same hc) hd e
+  live_apart t u ht hu c d hc hd e = grind (arith, between, falls_same, one_list, names)
 
   -- ---- critical frames
 
@@ -77,9 +72,7 @@ module _ (P : Starts) (constants : JobConstants) (job : Job) (order : TasksInOrd
   any_same : (ts : List Task) → ((u : Task) → Has ts u → Has job.tasks u) → (t : Task) → Has job.tasks t → (d : ℕ) → Has (identities t.frames) d
       → list_any (λ (u : Task). u.critical == rename d) (map (task_by (name_among job.tasks) relabel) ts) ≡ list_any (λ (u : Task). u.critical == d) ts
   any_same [] inside t ht d hd = refl
-  any_same (u ∷ ts) inside t ht d hd =
-      ap (λ (b : Bool). b || list_any (λ (u : Task). u.critical == rename d) (map (task_by (name_among job.tasks) relabel) ts)) (critical_same t u ht (inside u (inl refl)) d hd)
-      ∙ ap (λ (b : Bool). (u.critical == d) || b) (any_same ts (λ v h. inside v (inr h)) t ht d hd)
+  any_same (u ∷ ts) inside t ht d hd = grind (arith, critical_same, any_same ts)
 
   pub critical_mark_same : (job' : Job) → job'.tasks ≡ map (task_by (name_among job.tasks) relabel) job.tasks → (t : Task) → Has job.tasks t → (fs : List Frame) → ((d : ℕ) → Has (identities fs) d → Has (identities t.frames) d)
       → critical_mark job' (map (frame_by (name_among job.tasks) relabel) fs) ≡ critical_mark job fs

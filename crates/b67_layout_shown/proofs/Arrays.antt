@@ -1,7 +1,7 @@
 -- The address of an array's original is read as the array's name.
-use Rattle.std.proofs.Common.{◌≡◌, ℕ, suc, ◌+◌, ◌-◌, ◌*◌, ◌/◌, ◌%◌, ◌<◌, ◌≤◌, Bool, true, false, List, [], ◌∷◌, ◌++◌, map, length, Option, Some, None, refl, sym, ◌∙◌, ap, subst, arith, inl, inr, lt-ltb, le-ltb, length-append}
+use Rattle.std.proofs.Common.{◌≡◌, ℕ, suc, ◌+◌, ◌-◌, ◌*◌, ◌/◌, ◌%◌, ◌<◌, ◌≤◌, Bool, true, false, List, [], ◌∷◌, ◌++◌, map, length, Option, Some, None, refl, sym, ◌∙◌, ap, subst, arith, inl, inr, le-ltb, length-append}
 use Rattle.std.specs.Prelude.{◌⊎◌, if◌then◌else◌}
-use Rattle.std.proofs.lemmas.Bool.{cases_Bool, eq-eqb, eqb-true}
+use Rattle.std.proofs.lemmas.Bool.{cases_Bool, eq-eqb}
 use Rattle.std.proofs.lemmas.List.{length-map}
 use Rattle.std.proofs.lemmas.Option.{same_Some, none-some}
 use Rattle.b67_word.specs.Tagged.{Tagged}
@@ -9,7 +9,7 @@ use Rattle.std.proofs.Math.Arith.{digits_div, digits_mod}
 use Rattle.b67_ctl.specs.declared.registers.Regs.{Regs}
 use Rattle.b67_lemmas.specs.Lists.{Has, total, how_many}
 use Rattle.b67_model.specs.Words as Words
-use Rattle.b67_model.specs.Common.{Word, Operand, Name, Ref, Row, Element, Original, Proc, Intrinsic, Standing, Marked, Entered, Frame, Task, Job, SessionJob, head_words, height, is_original_of, originals_in}
+use Rattle.b67_model.specs.Common.{Word, Original, Standing, Marked, Entered, Frame, Task, Job, SessionJob, head_words, height, is_original_of, originals_in}
 use Rattle.b67_stack.specs.Common.{Shape, Locations, Fits, LieDownward, StackPlace, head_size, headed, words}
 use Rattle.b67_stack.proofs.Lies.{Lie-under}
 use Rattle.b67_stack.proofs.Heights.{words-length, headed-length}
@@ -22,15 +22,7 @@ use Rattle.b67_layout_shown.specs.Places.{named, or_else, cell_of_original, arra
 
 -- an original by its test
 pub is_original : (a : ℕ) (w : Word) → is_original_of a w ≡ true → w ≡ Original a
-is_original a (Original b) e = ap Original (eqb-true b a e)
-is_original a (Operand bits) e = absurd (let z : ⊥ = cc in z)
-is_original a (Name couple) e = absurd (let z : ⊥ = cc in z)
-is_original a (Ref identity offset) e = absurd (let z : ⊥ = cc in z)
-is_original a (Row b) e = absurd (let z : ⊥ = cc in z)
-is_original a (Element b index) e = absurd (let z : ⊥ = cc in z)
-is_original a (Proc segment level place) e = absurd (let z : ⊥ = cc in z)
-is_original a (Intrinsic number) e = absurd (let z : ⊥ = cc in z)
-is_original a (Words.Segment number) e = absurd (let z : ⊥ = cc in z)
+is_original a w e = grind arith
 
 module _ (core : List Tagged) (held : Locations) (plan : Placement) (j : ℕ) (job : Job) (a : ℕ) where
   -- an original that is found stands at its home
@@ -42,20 +34,7 @@ module _ (core : List Tagged) (held : Locations) (plan : Placement) (j : ℕ) (j
   pub cell_home : (spot : ℕ → StackPlace) (from low : ℕ) (cells : List Word) (rest : List Shape) (d : ℕ) → LieDownward (Fits held) core from (map (shape plan j job spot) cells ++ rest)
       → cell_of_original low cells a ≡ Some d → Stands low (from + length rest) d (low + length cells)
   cell_home spot from low [] rest d l e = let z : ⊥ = cc in absurd z
-  cell_home spot from low (w ∷ more) rest d l e = by (cases_Bool (is_original_of a w)) (λ z. cell_home spot from low more rest d l.1 z) where
-    by : ((is_original_of a w ≡ true) ⊎ (is_original_of a w ≡ false)) → (cell_of_original low more a ≡ Some d → Stands low (from + length rest) d (low + length more)) → Stands low (from + length rest) d (low + length (w ∷ more))
-    by (inl t) r =
-        let found : Some (low + length more) ≡ Some d = subst (λ (b : Bool). (if b then Some (low + length more) else cell_of_original low more a) ≡ Some d) t e in
-        let is : low + length more ≡ d = same_Some (low + length more) d found in
-        let fits = subst (λ (v : Word). Fits held (shape plan j job spot v) (from + length (map (shape plan j job spot) more ++ rest)) l.0.0) (is_original a w t) l.0.2 in
-        let home = fits.0 in
-        let long = length-append (map (shape plan j job spot) more) rest in
-        let same = length-map more (shape plan j job spot) in
-        record { at = omega (arith, is, home, long, same); above = omega (arith, is); below = omega (arith, is) }
-    by (inr t) r =
-        let s = r (subst (λ (b : Bool). (if b then Some (low + length more) else cell_of_original low more a) ≡ Some d) t e) in
-        let under = s.below in
-        record { at = s.at; above = s.above; below = omega (arith, under) }
+  cell_home spot from low (w ∷ more) rest d l e = grind (arith, length-append, length-map, cell_home spot from low more rest d l.1)
 
   pub cell_there : (low : ℕ) (cells : List Word) → Has cells (Original a) → (d : ℕ) × (cell_of_original low cells a ≡ Some d)
   cell_there low [] h = absurd h
@@ -74,8 +53,7 @@ module _ (core : List Tagged) (held : Locations) (plan : Placement) (j : ℕ) (j
     below : disp < top
 
   head_same : (spot : ℕ → StackPlace) (s : Standing) → head_size (head spot s) ≡ head_words s
-  head_same spot Marked = refl
-  head_same spot (Entered level environment back) = refl
+  head_same spot s = grind arith
 
   frames_home : (k base number : ℕ) (outer : ℕ → StackPlace) (fs : List Frame) (n : ℕ) → LieDownward (Fits held) core (suc base) (words k (activations plan j job k outer fs)) → array_under number fs a ≡ Some n → StandsIn number base (height fs) n
   frames_home k base number outer [] n l e = let z : ⊥ = cc in absurd z
@@ -152,24 +130,17 @@ at_slot r rs row home k disp number at below is =
     ∙ ap (λ q. named (number_seen rs q) ((home - r.stacks) % r.stack_size)) slot ∙ ap (λ d. named (number_seen rs k) d) left ∙ ap (λ n. named n disp) is
 
 pub at_dictionary : (r : Regs) (rs : List rows.TaskRow) (row : JobRow) (home n : ℕ) → home ≡ row.dictionary + 1 + row.segments + n → home < r.stacks → array_homed r rs row home ≡ n
-at_dictionary r rs row home n at below =
-    let rest : home - (row.dictionary + 1 + row.segments) ≡ n = omega (arith, at) in
-    ap (λ (b : Bool). if b then home - (row.dictionary + 1 + row.segments) else named (number_seen rs ((home - r.stacks) / r.stack_size)) ((home - r.stacks) % r.stack_size)) (lt-ltb home r.stacks below) ∙ rest
+at_dictionary r rs row home n at below = grind arith
 
 -- ---- an array of a dictionary
 
 pub cell_none : (low : ℕ) (cells : List Word) (a : ℕ) → how_many (is_original_of a) cells ≡ 0 → cell_of_original low cells a ≡ None
 cell_none low [] a h = refl
-cell_none low (w ∷ more) a h = by (cases_Bool (is_original_of a w)) (λ z. cell_none low more a z) where
-  by : ((is_original_of a w ≡ true) ⊎ (is_original_of a w ≡ false)) → (how_many (is_original_of a) more ≡ 0 → cell_of_original low more a ≡ None) → cell_of_original low (w ∷ more) a ≡ None
-  by (inl t) r = let one : 1 + how_many (is_original_of a) more ≡ 0 = subst (λ (b : Bool). (if b then 1 else 0) + how_many (is_original_of a) more ≡ 0) t h in absurd (omega (arith, one))
-  by (inr t) r = let none : 0 + how_many (is_original_of a) more ≡ 0 = subst (λ (b : Bool). (if b then 1 else 0) + how_many (is_original_of a) more ≡ 0) t h in
-      ap (λ (b : Bool). if b then Some (low + length more) else cell_of_original low more a) t ∙ r (omega (arith, none))
+cell_none low (w ∷ more) a h = grind (arith, cell_none low more a)
 
 pub under_none : (number : ℕ) (fs : List Frame) (a : ℕ) → originals_in a fs ≡ 0 → array_under number fs a ≡ None
 under_none number [] a h = refl
-under_none number (f ∷ below) a h =
-    ap (λ (o : Option ℕ). array_by number o (array_under number below a)) (cell_none (height below + head_words f.standing) f.cells a (omega (arith, h))) ∙ under_none number below a (omega (arith, h))
+under_none number (f ∷ below) a h = grind (arith, cell_none, under_none number below a)
 
 pub among_none : (tasks : List Task) (a : ℕ) → total (λ (t : Task). originals_in a t.frames) tasks ≡ 0 → array_among tasks a ≡ a
 among_none [] a h = refl
@@ -177,7 +148,5 @@ among_none (u ∷ more) a h = ap (λ (o : Option ℕ). or_else o (array_among mo
 
 pub dictionary_under : (plan : Placement) (at : ℕ) (ms : List SessionJob) (y : SessionJob) → DictionariesFollow plan at ms → Has ms y → plan.dictionary y.constants.number + 2 + length y.constants.dictionary.cells ≤ plan.stacks
 dictionary_under plan at [] y d h = absurd h
-dictionary_under plan at (m ∷ more) y d (inl e) =
-    let P : SessionJob → Type 0 = λ z. plan.dictionary z.constants.number + 2 + length z.constants.dictionary.cells ≤ plan.stacks in
-    subst P e (omega (arith, d.0, follow-up plan (at + (2 + length m.constants.dictionary.cells)) more d.1))
+dictionary_under plan at (m ∷ more) y d (inl e) = grind (arith, follow-up)
 dictionary_under plan at (m ∷ more) y d (inr k) = dictionary_under plan (at + (2 + length m.constants.dictionary.cells)) more y d.1 k

@@ -1,6 +1,5 @@
 -- The fields of control words.
-use Rattle.std.proofs.Common.{◌≡◌, ℕ, ◌+◌, ◌*◌, ◌/◌, ◌%◌, ◌^◌, ◌<◌, ◌≤◌, ◌==◌, Bool, true, false, refl, arith}
-use Rattle.std.proofs.lemmas.Bool.{eq-eqb, ne_eqb}
+use Rattle.std.proofs.Common.{◌≡◌, ℕ, ◌+◌, ◌*◌, ◌/◌, ◌%◌, ◌^◌, ◌<◌, ◌≤◌, ◌==◌, Bool, arith, refl}
 use Rattle.b67_word.specs.Tagged.{word, bits_at}
 use Rattle.b67_ctl.specs.Layout.{flag_bit, mscw_word, rcw_word}
 use Rattle.b67_ctl.specs.Descriptors.{data_word}
@@ -10,12 +9,10 @@ use Rattle.b67_ctl.specs.declared.marks.Rcw.{Rcw}
 use Rattle.b67_layout_shown.specs.Reading.{is_set, mscw_in, rcw_in, desc_in}
 
 pub flag : (b : Bool) (n : ℕ) → n ≡ flag_bit b → (n == 1) ≡ b
-flag true n e = eq-eqb n 1 e
-flag false n e = ne_eqb n 1 (λ z. omega (arith, e, z))
+flag b n e = grind arith
 
 pub bit_small : (b : Bool) → flag_bit b ≤ 1
-bit_small true = omega arith
-bit_small false = omega arith
+bit_small b = grind arith
 
 module _ (a b c d e l k : ℕ) (ah : a ≤ 1) (bh : b ≤ 1) (ch : c < 2 ^ 10) (dh : d < 2 ^ 16) (eh : e ≤ 1) (lh : l < 2 ^ 5) (kh : k < 2 ^ 14) where
   mark_47 : (a * 2 ^ 47 + b * 2 ^ 46 + c * 2 ^ 36 + d * 2 ^ 20 + e * 2 ^ 19 + l * 2 ^ 14 + k) / 2 ^ 47 % 2 ^ 1 ≡ a
@@ -73,13 +70,7 @@ module _ (s w l g : ℕ) (sh : s < 2 ^ 3) (wh : w < 2 ^ 13) (lh : l < 2 ^ 5) (gh
 
 -- a return word is read
 pub rcw_read : (r : Rcw) → r.place.syllable < 2 ^ 3 → r.place.word < 2 ^ 13 → r.level < 2 ^ 5 → r.segment < 2 ^ 14 → rcw_in (rcw_word r) ≡ r
-rcw_read r sh wh lh gh =
-    rw (
-      rcw_33 r.place.syllable r.place.word r.level r.segment sh wh lh gh,
-      rcw_20 r.place.syllable r.place.word r.level r.segment sh wh lh gh,
-      rcw_14 r.place.syllable r.place.word r.level r.segment sh wh lh gh,
-      rcw_0 r.place.syllable r.place.word r.level r.segment sh wh lh gh,
-    ) refl
+rcw_read r sh wh lh gh = grind arith
 
 module _ (a b c d l k : ℕ) (ah : a ≤ 1) (bh : b ≤ 1) (ch : c ≤ 1) (dh : d ≤ 1) (lh : l < 2 ^ 20) (kh : k < 2 ^ 20) where
   desc_47 : (a * 2 ^ 47 + b * 2 ^ 46 + c * 2 ^ 45 + d * 2 ^ 43 + l * 2 ^ 20 + k) / 2 ^ 47 % 2 ^ 1 ≡ a
@@ -150,14 +141,4 @@ pcw_read s w l g sh wh lh gh = (rcw_33 s w l g sh wh lh gh, rcw_20 s w l g sh wh
 
 -- a segment descriptor
 pub seg_read : (p : Bool) (w a : ℕ) → w < 2 ^ 20 → a < 2 ^ 20 → let v = word 3 (flag_bit p * 2 ^ 47 + w * 2 ^ 20 + a) in (is_set v 47 ≡ p) × (bits_at v 20 20 ≡ w) × (bits_at v 0 20 ≡ a)
-seg_read p w a wh ah =
-    let ph = bit_small p in
-    (flag p _ (seg_47 (flag_bit p) w a ph wh ah), seg_20 (flag_bit p) w a ph wh ah, seg_0 (flag_bit p) w a ph wh ah) where
-      seg_47 : (q w a : ℕ) → q ≤ 1 → w < 2 ^ 20 → a < 2 ^ 20 → (q * 2 ^ 47 + w * 2 ^ 20 + a) / 2 ^ 47 % 2 ^ 1 ≡ q
-      seg_47 q w a qh wh ah = omega arith
-
-      seg_20 : (q w a : ℕ) → q ≤ 1 → w < 2 ^ 20 → a < 2 ^ 20 → (q * 2 ^ 47 + w * 2 ^ 20 + a) / 2 ^ 20 % 2 ^ 20 ≡ w
-      seg_20 q w a qh wh ah = omega arith
-
-      seg_0 : (q w a : ℕ) → q ≤ 1 → w < 2 ^ 20 → a < 2 ^ 20 → (q * 2 ^ 47 + w * 2 ^ 20 + a) / 2 ^ 0 % 2 ^ 20 ≡ a
-      seg_0 q w a qh wh ah = omega arith
+seg_read p w a wh ah = grind arith

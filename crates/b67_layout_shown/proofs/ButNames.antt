@@ -1,9 +1,9 @@
 -- What a machine shows is the session that it represents, in all but names.
-use Rattle.std.proofs.Common.{◌≡◌, ℕ, suc, ◌+◌, List, [], ◌∷◌, ◌++◌, map, length, Option, None, refl, sym, ◌∙◌, ap, subst, arith, inl, inr}
+use Rattle.std.proofs.Common.{◌≡◌, ℕ, ◌+◌, List, [], ◌∷◌, ◌++◌, map, length, None, refl, sym, ◌∙◌, ap, subst, arith, inl, inr}
 use Rattle.std.specs.Prelude.{flat_map}
 use Rattle.b67_lemmas.specs.Lists.{Has}
 use Rattle.b67_lemmas.proofs.Members.{all_in, has_flat, has_append_left, has_append_right, has_map}
-use Rattle.b67_model.specs.Common.{Entered, Array, Segment, SessionJob, Session, IsSegment, ArrayInOrder, JobInOrder, NumberedFrom, IsInOrderButPlaces}
+use Rattle.b67_model.specs.Common.{Entered, SessionJob, Session, IsSegment, ArrayInOrder, JobInOrder, NumberedFrom, IsInOrderButPlaces}
 use Rattle.b67_stack.specs.declared.Cpu.{Cpu}
 use Rattle.b67_stack.specs.MachineView.{PagedObject}
 use Rattle.b67_stack.specs.Represents.{Storage}
@@ -61,15 +61,7 @@ module _ (x : Storage) (cpu : Cpu) (plan : Placement) (s : Session) (tasks : Lis
   )
 
   pub session_but_names : IsSessionButNames (shown k) s
-  session_but_names = record {
-    jobs = jobs_but_names 1 s.jobs jobs ordered.numbered tables.jobs (λ m h. h);
-    made = tables.counts.made;
-    last = rw (tables.counts.last_job, tables.counts.last_number) refl;
-    turn = tables.counts.turn;
-    switches = tables.counts.switches;
-    quantum = tables.counts.quantum;
-    peak = stands.holds.memory.slots.regs.peak ∙ stands.holds.fits.peak;
-  }
+  session_but_names = grind (arith, jobs_but_names)
 
 pub machines_but_names : MachinesShowTheirSessions
 machines_but_names x told k plan s ordered r = session_but_names x k.cpu plan s (map task_row k.tasks.rows.items) (map job_row k.tasks.jobs) (counts_of k.tasks) ordered r.session r.tables

@@ -1,5 +1,5 @@
 -- Numbers and code that are read have the lengths and the bits of the session's; the dictionary's words are its own.
-use Rattle.std.proofs.Common.{◌≡◌, ℕ, zero, suc, ◌+◌, ◌^◌, ◌<◌, ◌≤◌, Bool, true, false, List, [], ◌∷◌, ◌++◌, map, reverse, replicate, length, Option, Some, None, refl, sym, ◌∙◌, ap, subst, arith, inl, inr}
+use Rattle.std.proofs.Common.{◌≡◌, ℕ, zero, suc, ◌+◌, ◌^◌, ◌<◌, ◌≤◌, Bool, List, [], ◌∷◌, ◌++◌, map, reverse, replicate, length, Option, Some, None, refl, sym, ◌∙◌, ap, subst, arith, inl, inr}
 use Rattle.std.specs.Prelude.{not, if◌then◌else◌}
 use Rattle.std.specs.List.{AllByRecursion}
 use Rattle.std.proofs.lemmas.List.{length-replicate, length-reverse, reverse-append, reverse-reverse}
@@ -14,7 +14,7 @@ use Rattle.b67_area.specs.Spans.{Span, Area, Hole, wide, end, area_at}
 use Rattle.b67_lemmas.specs.Lists.{Has}
 use Rattle.b67_model.specs.Words as Words
 use Rattle.b67_model.specs.Common.{Word, Original, Array, Segment, SegmentInOrder, rows_after, DictionaryWords}
-use Rattle.b67_stack.specs.Common.{Location, LieUpward, PagedObject, MachineView, is_present, address_or, home_desc, home_word_of, tag_of, Storage, Represents, Content}
+use Rattle.b67_stack.specs.Common.{Location, LieUpward, PagedObject, MachineView, is_present, address_or, home_desc, home_word_of, Storage, Represents, Content}
 use Rattle.b67_layout.specs.Common.{Placement, array_object, code_objects}
 use Rattle.b67_layout_shown.specs.Reading.{word_seen_at, is_set, desc_in}
 use Rattle.b67_layout_shown.specs.Shown.{numbers_seen, contents_by, numbers_read, segments_from, row_cells, segment_cells}
@@ -94,19 +94,13 @@ module _ (x : Storage) (core : List Tagged) (r : Regs) (p : MachineView) (stands
         omega (arith, low, all, small)
 
   contents_read : (t : PagedObject) → Has p.objects t → IsRead t.numbers (contents_by core (length t.numbers) (address_or (x.held t.home).area (x.held t.home).chain) (is_present (x.held t.home).area))
-  contents_read t there = by (x.held t.home).area (stands.objects t there).content where
-    by : (o : Option ℕ) → Content x core t o (x.held t.home).chain → IsRead t.numbers (contents_by core (length t.numbers) (address_or o (x.held t.home).chain) (is_present o))
-    by None h = record { long = length-replicate (length t.numbers) zero; bits = λ b. zeros (length t.numbers) }
-    by (Some at) h =
-        let same = up_numbers core (tag_of t.kind) at t.numbers h.0 in
-        record { long = ap (λ (ns : List ℕ). length ns) same; bits = λ b. subst AreNumbers (sym same) b }
+  contents_read t there = grind (arith, length-replicate, zeros, up_numbers)
 
   pub word_of_object : (t : PagedObject) → Has p.objects t → word_seen_at core t.home ≡ home_word_of t.kind (length t.numbers) (x.held t.home)
   word_of_object t there = word_is core t.home (home_word_of t.kind (length t.numbers) (x.held t.home)) (stands.objects t there).home
 
   pub kinds : (b : Bool) (n : ℕ) (h : Location) → home_word_of (if b then kind.Array else kind.Row) n h ≡ data_word (home_desc (not b) n h)
-  kinds true n h = refl
-  kinds false n h = refl
+  kinds b n h = grind arith
 
   pub array_fits : (plan : Placement) (j : ℕ) (a : Array) → Has p.objects (array_object plan j a) → length a.numbers < 2 ^ 16 → IsRead a.numbers (numbers_read core (plan.home j) a.identity)
   array_fits plan j a there small =

@@ -1,6 +1,6 @@
 -- The machine represents what it shows.
-use Rattle.std.proofs.Common.{◌≡◌, ◌≢◌, ℕ, zero, suc, ◌+◌, ◌-◌, ◌*◌, ◌^◌, ◌<◌, ◌==◌, Bool, true, false, List, [], ◌∷◌, ◌++◌, map, length, Option, Some, None, refl, sym, ◌∙◌, ap, subst, arith, inl, inr, lt-ltb, le-ltb}
-use Rattle.std.specs.Prelude.{nat_lt, if◌then◌else◌}
+use Rattle.std.proofs.Common.{◌≡◌, ◌≢◌, ℕ, zero, suc, ◌+◌, ◌*◌, ◌^◌, ◌<◌, ◌==◌, true, false, List, [], ◌∷◌, ◌++◌, map, length, Option, Some, None, refl, sym, ◌∙◌, ap, subst, arith, ◌-◌}
+use Rattle.std.specs.Prelude.{if◌then◌else◌}
 use Rattle.std.specs.List.{slice_get}
 use Rattle.b67_word.specs.Tagged.{Tagged, word}
 use Rattle.b67_lemmas.specs.Lists.{Has}
@@ -24,7 +24,7 @@ use Rattle.b67_layout_shown.proofs.Shows.{at_level, levels_same}
 use Rattle.b67_layout_shown.proofs.Renamed.{spot_same, spots_same, entered_known}
 use Rattle.b67_layout_shown.proofs.Names.{named_frames}
 use Rattle.b67_layout_shown.proofs.Jobs.{falls_known}
-use Rattle.b67_layout_shown.proofs.Plans.{MemberOf, weak, member, back, is_placed, task_there, task_back, rows_fit, rows_are, dictionary_same, slots_same, ord, home_row}
+use Rattle.b67_layout_shown.proofs.Plans.{MemberOf, weak, member, back, is_placed, task_there, task_back, rows_fit, dictionary_same, slots_same, ord, home_row}
 use Rattle.b67_layout_shown.proofs.Views.{memory_shown, settled_shown}
 
 segments_long : (core : List Tagged) (at n : ℕ) → length (segments_from core at n) ≡ n
@@ -45,9 +45,7 @@ module _ (x : Storage) (cpu : Cpu) (plan : Placement) (s : Session) (tasks : Lis
 
   -- the words of a dictionary
   words_is : (m : SessionJob) (row : JobRow) → Has s.jobs m → JobShows plan m row → row_cells row.rows ++ segment_cells row.segments ≡ m.constants.dictionary.cells
-  words_is m row there shows =
-      ap (λ n. row_cells row.rows ++ segment_cells n) shows.segments
-      ∙ dictionary_is row.rows m.constants.segments m.constants.dictionary.cells (ord x cpu plan s tasks jobs c ordered stands tables m there).unchanging.dictionary (rows_are x cpu plan s tasks jobs c ordered stands tables m row shows)
+  words_is m row there shows = grind (arith, dictionary_is, ord)
 
   dict : (m : SessionJob) → Has s.jobs m → dictionary_from jobs 1 m.constants.number ≡ plan.dictionary m.constants.number
   dict m there = dictionary_same x cpu plan s tasks jobs c ordered stands tables m there
@@ -56,12 +54,7 @@ module _ (x : Storage) (cpu : Cpu) (plan : Placement) (s : Session) (tasks : Lis
   follow n at [] [] o shows inside d = d ∙ sym stands.holds.memory.slots.regs.stacks
   follow n at [] (r ∷ rs) o shows inside d = absurd shows
   follow n at (m ∷ ms) [] o shows inside d = absurd shows
-  follow n at (m ∷ ms) (r ∷ rs) o shows inside d =
-      let words = words_is m r (inside m (inl refl)) shows.0 in
-      let long = ap (λ (ws : List Word). length ws) words in (
-        ap (dictionary_from jobs 1) (sym o.0) ∙ dict m (inside m (inl refl)) ∙ d.0,
-        subst (λ q. DictionariesFollow plan' q (members_from k (n + 1) rs)) (ap (λ q. at + (2 + q)) (sym long)) (follow (n + 1) (at + (2 + length m.constants.dictionary.cells)) ms rs o.1 shows.1 (λ y h. inside y (inr h)) d.1),
-      )
+  follow n at (m ∷ ms) (r ∷ rs) o shows inside d = grind (arith, words_is, dict, follow (n + 1) (at + (2 + length m.constants.dictionary.cells)) ms rs o.1 shows.1)
 
   plan_fits : PlanFits plan' s'
   plan_fits = record {
@@ -230,19 +223,10 @@ module _ (x : Storage) (cpu : Cpu) (plan : Placement) (s : Session) (tasks : Lis
   Same p = address_of plan' p ≡ address_of plan p
 
   slot_address : (n d : ℕ) → n < 120 → Same (record { stack = n; disp = d })
-  slot_address n d low =
-      ap (λ (b : Bool). (if b then cpu.regs.stacks + n * cpu.regs.stack_size else (if nat_lt n 136 then dictionary_from jobs 1 (n - 127) else 0)) + d) (lt-ltb n 120 low)
-      ∙ ap (λ a. a + n * cpu.regs.stack_size + d) stands.holds.memory.slots.regs.stacks ∙ ap (λ z. plan.stacks + n * z + d) stands.holds.memory.slots.regs.size
-      ∙ ap (λ (b : Bool). (if b then plan.stacks + n * plan.size else (if nat_lt n 136 then plan.dictionary (n - 127) else 0)) + d) (sym (lt-ltb n 120 low))
+  slot_address n d low = grind arith
 
   dictionary_address : (m : SessionJob) → Has s.jobs m → Same (record { stack = 127 + m.constants.number; disp = 0 })
-  dictionary_address m there =
-      let j = m.constants.number in
-      let less : 127 + m.constants.number - 127 ≡ m.constants.number = omega arith in
-      let same : dictionary_from jobs 1 (127 + m.constants.number - 127) ≡ plan.dictionary (127 + m.constants.number - 127) = ap (dictionary_from jobs 1) less ∙ dict m there ∙ ap plan.dictionary (sym less) in
-      ap (λ (b : Bool). (if b then cpu.regs.stacks + (127 + m.constants.number) * cpu.regs.stack_size else (if nat_lt (127 + m.constants.number) 136 then dictionary_from jobs 1 (127 + m.constants.number - 127) else 0)) + 0) (le-ltb (127 + m.constants.number) 120 (omega arith))
-      ∙ ap (λ q. (if nat_lt (127 + m.constants.number) 136 then q else 0) + 0) same
-      ∙ ap (λ (b : Bool). (if b then plan.stacks + (127 + m.constants.number) * plan.size else (if nat_lt (127 + m.constants.number) 136 then plan.dictionary (127 + m.constants.number - 127) else 0)) + 0) (sym (le-ltb (127 + m.constants.number) 120 (omega arith)))
+  dictionary_address m there = grind (arith, dict)
 
   spot_all : (n : ℕ) (outer : ℕ → StackPlace) (fs : List Frame) → n < 120 → ((i : ℕ) → Same (outer i)) → (i : ℕ) → Same (spot_in n outer fs i)
   spot_all n outer [] low h i = h i
@@ -326,30 +310,10 @@ module _ (x : Storage) (cpu : Cpu) (plan : Placement) (s : Session) (tasks : Lis
   jobs_show n [] [] o shows inside = tt
   jobs_show n [] (r ∷ rs) o shows inside = absurd shows
   jobs_show n (m ∷ ms) [] o shows inside = absurd shows
-  jobs_show n (m ∷ ms) (r ∷ rs) o shows inside =
-      let there = inside m (inl refl) in
-      let sh = shows.0 in
-      let long = ap (λ (ws : List Word). length ws) (words_is m r there sh) in
-      let are = sh.rows in (
-        record {
-          dictionary = sh.dictionary ∙ sym (dict m there) ∙ ap (dictionary_from jobs 1) o.0;
-          segments = sym (segments_long cpu.core (r.dictionary + 2) r.segments);
-          rows = omega (arith, are, long);
-          limit = refl;
-          made = refl;
-          next_task = refl;
-          numbers = refl;
-        },
-        jobs_show (n + 1) ms rs o.1 shows.1 (λ y h. inside y (inr h)),
-      )
+  jobs_show n (m ∷ ms) (r ∷ rs) o shows inside = grind (arith, words_is, dict, segments_long, jobs_show (n + 1) ms rs o.1 shows.1)
 
   running_row : (o : Option TaskRow) (running : ℕ) → ((r : TaskRow) → o ≡ Some r → Has tasks r) → RunningRow plan o running → RunningRow plan' o running
-  running_row None running inside h = (h.0, stands.holds.none h.1)
-  running_row (Some r) running inside h =
-      let (m, t, there, live, sh) = tables.tasks r (inside r refl) in
-      let mo = member x cpu plan s tasks jobs c ordered stands tables m there in
-      let is = runs_is x cpu plan s m tasks jobs mo.row c (weak x cpu plan s tasks jobs c ordered stands tables) stands tables there mo.shows t live (sym h.1 ∙ sh.slot) in
-      (h.0, sh.slot ∙ sym (stands.holds.running m t is).slot)
+  running_row o running inside h = grind arith
 
   pub tables_shown : TablesShow plan' s' tasks jobs c
   tables_shown = record {

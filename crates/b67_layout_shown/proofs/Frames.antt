@@ -3,7 +3,7 @@ use Rattle.std.proofs.Common.{◌≡◌, ◌≢◌, ℕ, ◌+◌, ◌^◌, ◌<�
 use Rattle.std.specs.Prelude.{◌⊎◌, if◌then◌else◌}
 use Rattle.std.proofs.lemmas.Bool.Decides.{eqb_tells}
 use Rattle.b67_lemmas.specs.Lists.{Has}
-use Rattle.b67_model.specs.Common.{Word, Standing, Marked, Entered, Frame, JobConstants, Job, Array, head_words, height, Known, known_of, IsSegment, NamesEntered, StandsInOrder, FramesInOrder}
+use Rattle.b67_model.specs.Common.{Word, Standing, Frame, JobConstants, Job, Array, head_words, height, Known, known_of, IsSegment, NamesEntered, StandsInOrder, FramesInOrder}
 use Rattle.b67_stack.specs.Stacks.{StackPlace, stack_words}
 use Rattle.b67_layout.specs.Common.{Placement, spot_in, shape, head, activations}
 use Rattle.b67_layout.proofs.Frames.{height-is}
@@ -12,8 +12,7 @@ use Rattle.b67_layout_shown.specs.Places.{named, standing_by, frame_by}
 use Rattle.b67_layout_shown.proofs.Words.{PlaceIsRead, words_read}
 
 pub head_some : (s : Standing) → 1 ≤ head_words s
-head_some Marked = omega arith
-head_some (Entered level environment back) = omega arith
+head_some s = grind arith
 
 -- each frame is renamed by its place
 abbrev pub Named : (ℕ → ℕ) → ℕ → List Frame → Type 0
@@ -52,9 +51,7 @@ module _ (plan : Placement) (j : ℕ) (constants : JobConstants) (job : Job) (k 
         record { stack = there.0; disp = there.1; is = there.2 }
 
   standing_read : (below : List Frame) → Named rename number below → height below ≤ bound → (s : Standing) → StandsInOrder (map known_of below ++ outside) s → standing_of frame (head (spot_in k outer below) s) ≡ standing_by rename s
-  standing_read below names low Marked o = refl
-  standing_read below names low (Entered level environment back) o =
-      ap (λ n. Entered level n back) (spots_read below names low environment (record { standing = o.standing; among = o.among; entered = o.entered })).is
+  standing_read below names low s o = grind (arith, spots_read)
 
   pub frames_read : (fs : List Frame) → FramesInOrder (IsSegment constants) job.arrays outside fs → Named rename number fs → height fs ≤ bound
       → frames_of number frame array (activations plan j job k outer fs) ≡ map (frame_by rename relabel) fs

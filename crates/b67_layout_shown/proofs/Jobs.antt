@@ -1,22 +1,19 @@
 -- A job keeps its order under names by place: frames.
-use Rattle.std.proofs.Common.{◌≡◌, ◌≢◌, ℕ, ◌+◌, ◌^◌, ◌<◌, ◌≤◌, ◌==◌, Bool, true, false, List, [], ◌∷◌, ◌++◌, map, Option, Some, refl, sym, subst, arith, inl, inr}
-use Rattle.std.specs.Prelude.{◌⊎◌, if◌then◌else◌}
+use Rattle.std.proofs.Common.{◌≡◌, ℕ, ◌+◌, ◌^◌, ◌<◌, ◌≤◌, List, [], ◌∷◌, ◌++◌, map, Option, Some, refl, sym, subst, arith, inl, inr}
 use Rattle.std.proofs.lemmas.Bool.{cases_eq}
-use Rattle.std.proofs.lemmas.Bool.Decides.{eqb_tells}
 use Rattle.b67_lemmas.specs.Lists.{Has, total, Falls}
 use Rattle.b67_lemmas.proofs.Members.{all_in, falls_more, keyed_has}
-use Rattle.b67_model.specs.Common.{Frame, Task, Job, JobConstants, head_words, height, Starts, Known, known_of, known_numbers, from_frame, frames_of_task, critical_of, outer_reach, outer_of, reach_of, frames_named, TaskInOrder, TasksInOrder, BirthInOrder}
+use Rattle.b67_model.specs.Common.{Frame, Task, Job, JobConstants, height, Starts, Known, known_of, known_numbers, from_frame, frames_of_task, critical_of, outer_reach, outer_of, reach_of, frames_named, TaskInOrder, TasksInOrder, BirthInOrder}
 use Rattle.b67_layout_shown.specs.Places.{named, name_among, frame_by, task_by}
 use Rattle.b67_layout_shown.proofs.Frames.{Named}
 use Rattle.b67_layout_shown.proofs.Names.{named_frames}
 use Rattle.b67_layout_shown.proofs.Outer.{name_low, named_from, height_from}
-use Rattle.b67_layout_shown.proofs.Reach.{known_by, head_some}
+use Rattle.b67_layout_shown.proofs.Reach.{known_by}
 
 -- ---- numbers
 
 first_number : (job : Job) (t : Task) (parents : List ℕ) → BirthInOrder job t parents → 1 ≤ t.number
-first_number job t [] b = let one = b.0 in omega (arith, one)
-first_number job t (parent ∷ above) b = let older = b.older in omega (arith, older)
+first_number job t parents b = grind arith
 
 pub task_number : (P : Starts) (constants : JobConstants) (job : Job) (t : Task) → TaskInOrder P constants job t → 1 ≤ t.number
 task_number P constants job t own = first_number job t t.parents own.birth
@@ -30,25 +27,7 @@ module _ (rename relabel : ℕ → ℕ) where
 
   count_frames : (identity number : ℕ) (fs : List Frame) → Named rename number fs → Counted identity (frames_named identity (map (frame_by rename relabel) fs)) (named number 0) (named number (height fs))
   count_frames identity number [] names = record { few = omega arith; inside = λ h. absurd (omega (arith, h)) }
-  count_frames identity number (f ∷ below) names = by (eqb_tells (rename f.identity) identity) (count_frames identity number below names.1) where
-    more : 1 ≤ head_words f.standing
-    more = head_some rename relabel f.standing
-
-    by : ((rename f.identity == identity ≡ true) × (rename f.identity ≡ identity)) ⊎ ((rename f.identity == identity ≡ false) × (rename f.identity ≢ identity))
-        → Counted identity (frames_named identity (map (frame_by rename relabel) below)) (named number 0) (named number (height below))
-        → Counted identity (frames_named identity (map (frame_by rename relabel) (f ∷ below))) (named number 0) (named number (height (f ∷ below)))
-    by (inl q) c =
-        let none : frames_named identity (map (frame_by rename relabel) below) ≡ 0 = elim (cases_eq (frames_named identity (map (frame_by rename relabel) below)) 0) [
-          | inl z ↦ z
-          | inr z ↦ (let i = c.inside (omega (arith, z)) in let n = names.0 in absurd (omega (arith, i, n, q.1)))
-        ] in
-        let n = names.0 in
-        subst (λ (b : Bool). Counted identity ((if b then 1 else 0) + frames_named identity (map (frame_by rename relabel) below)) (named number 0) (named number (height (f ∷ below)))) (sym q.0)
-        (record { few = omega (arith, none); inside = λ h. (omega (arith, n, q.1), omega (arith, n, q.1, more)) })
-    by (inr q) c =
-        let few = c.few in
-        subst (λ (b : Bool). Counted identity ((if b then 1 else 0) + frames_named identity (map (frame_by rename relabel) below)) (named number 0) (named number (height (f ∷ below)))) (sym q.0)
-        (record { few = omega (arith, few); inside = λ h. (let i = c.inside (omega (arith, h)) in (i.0, omega (arith, i.1))) })
+  count_frames identity number (f ∷ below) names = grind (arith, count_frames identity number below names.1)
 
   count_tasks : (identity next : ℕ) (ts : List Task) → Falls next (map (λ (t : Task). t.number) ts) → ((t : Task) → Has ts t → Named rename t.number t.frames × (height t.frames < 2 ^ 14))
       → Counted identity (total (λ (t : Task). frames_named identity t.frames) (map (task_by rename relabel) ts)) 0 (named next 0)
@@ -77,10 +56,7 @@ module _ (rename relabel : ℕ → ℕ) where
   pub falls_known : (number : ℕ) (fs : List Frame) (rest : List Known) → Named rename number fs → Falls (named number 1) (known_numbers (map (known_by rename) rest))
       → Falls (named number (height fs)) (known_numbers (map (known_by rename) (map known_of fs ++ rest)))
   falls_known number [] rest names h = h
-  falls_known number (f ∷ below) rest names h =
-      let n = names.0 in
-      let more = head_some rename relabel f.standing in
-      (omega (arith, n, more), subst (λ b. Falls b (known_numbers (map (known_by rename) (map known_of below ++ rest)))) (sym n) (falls_known number below rest names.1 h))
+  falls_known number (f ∷ below) rest names h = grind (arith, falls_known number below rest names.1 h)
 
 module _ (P : Starts) (constants : JobConstants) (job : Job) (order : TasksInOrder P constants job) (relabel : ℕ → ℕ) (small : constants.stack_size < 2 ^ 14) where
   pub outer_falls : (parents : List ℕ) (t : Task) → BirthInOrder job t parents → Falls (named t.number 0) (known_numbers (map (known_by (name_among job.tasks)) (outer_reach job t.critical parents)))

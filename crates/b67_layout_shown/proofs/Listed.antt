@@ -1,5 +1,5 @@
 -- The arrays that a machine shows of a job are its own, under names by place.
-use Rattle.std.proofs.Common.{◌≡◌, ℕ, zero, suc, ◌+◌, ◌<◌, ◌≤◌, Bool, true, false, List, [], ◌∷◌, ◌++◌, map, refl, sym, ◌∙◌, ap, subst, arith, inl, inr, append_assoc}
+use Rattle.std.proofs.Common.{◌≡◌, ℕ, zero, suc, ◌+◌, ◌<◌, ◌≤◌, Bool, true, false, List, [], ◌∷◌, ◌++◌, map, refl, sym, ◌∙◌, ap, arith, inl, inr, append_assoc}
 use Rattle.std.specs.Prelude.{flat_map}
 use Rattle.std.specs.List.{AllByRecursion}
 use Rattle.b67_word.specs.Tagged.{Tagged}
@@ -22,18 +22,7 @@ module _ (core : List Tagged) (plan : Placement) (j : ℕ) (job : Job) (array_na
   F n = array_named rename relabel numbers (array job n)
 
   one_shown : (n owner : ℕ) (writable : Bool) → (own : OwnsArray job.arrays owner n) → own.item.writable ≡ writable → array_shown core (array_name (plan.home j n)) (rename owner) writable (plan.home j n) ≡ F n
-  one_shown n owner writable own w =
-      let is : array job n ≡ own.item = subst (λ i. array job i ≡ own.item) own.named (found own.item own.live) in
-      let name : array_name (plan.home j n) ≡ relabel n = subst (λ i. array_name (plan.home j i) ≡ relabel i) own.named (arrays own.item own.live) in
-      same (array job n) (array_name (plan.home j n)) (rename owner) writable
-      (name ∙ ap relabel (sym own.named) ∙ ap (λ (b : Array). relabel b.identity) (sym is))
-      (ap rename (sym own.owned) ∙ ap (λ (b : Array). rename b.owner) (sym is))
-      (sym w ∙ ap (λ (b : Array). b.writable) (sym is))
-      (held n ∙ ap numbers (sym own.named ∙ ap (λ (b : Array). b.identity) (sym is))) where
-        same : (a : Array) (i o : ℕ) (b : Bool) → i ≡ relabel a.identity → o ≡ rename a.owner → b ≡ a.writable
-            → (let d = desc_in (word_seen_at core (plan.home j n)) in contents_by core d.length d.address d.present) ≡ numbers a.identity
-            → array_shown core i o b (plan.home j n) ≡ array_named rename relabel numbers a
-        same a i o b ei eo eb en = rw (ei, eo, eb, en) refl
+  one_shown n owner writable own w = grind arith
 
   cells_shown : (P : Starts) (spot : ℕ → StackPlace) (reach : List Known) (owner : ℕ) (cells : List Word) (more : List ℕ) → ((n : ℕ) (q : OwnsArray job.arrays owner n) → q.item.writable ≡ true)
       → AllByRecursion (WordInOrder P job.arrays reach owner) cells
@@ -72,12 +61,7 @@ module _ (core : List Tagged) (plan : Placement) (j : ℕ) (job : Job) (array_na
   tasks_shown g [] [] more e h = refl
   tasks_shown g [] (t ∷ ts) more e h = let z : ⊥ = cc in absurd z
   tasks_shown g (r ∷ rows) [] more e h = let z : ⊥ = cc in absurd z
-  tasks_shown g (r ∷ rows) (t ∷ ts) more e h =
-      let head : r.number ≡ t.number = cc in
-      let rest : map (λ (r : TaskRow). r.number) rows ≡ map (λ (t : Task). t.number) ts = cc in
-      append_assoc (g r) (flat_map g rows) (map F more)
-      ∙ ap (λ (xs : List Array). g r ++ xs) (tasks_shown g rows ts more rest (λ q u more a b n. h q u more (inr a) (inr b) n))
-      ∙ h r t (originals_among ts more) (inl refl) (inl refl) head
+  tasks_shown g (r ∷ rows) (t ∷ ts) more e h = grind (arith, append_assoc, tasks_shown g rows ts more)
 
   -- of the dictionary
   pub rows_shown : (before n : ℕ) → rename 1 ≡ 1 → ((i : ℕ) → 1 ≤ i → i ≤ n → (q : OwnsArray job.arrays 1 i) × (q.item.writable ≡ false) × (plan.home j i ≡ before + i) × (array_name (plan.home j i) ≡ i))

@@ -1,11 +1,9 @@
 -- A task and a job as the machine shows them.
 use Rattle.std.proofs.Common.{◌≡◌, ◌≢◌, ℕ, zero, suc, ◌+◌, ◌-◌, ◌*◌, ◌/◌, ◌%◌, ◌^◌, ◌<◌, ◌≤◌, ◌==◌, Bool, true, false, List, [], ◌∷◌, map, length, Option, Some, None, refl, sym, ◌∙◌, ap, subst, arith, inl, inr, lt-ltb, le-ltb}
-use Rattle.std.specs.Prelude.{◌⊎◌, nat_lt, if◌then◌else◌}
+use Rattle.std.specs.Prelude.{nat_lt, if◌then◌else◌}
 use Rattle.std.specs.List.{slice_get}
 use Rattle.std.proofs.lemmas.Bool.{ne_eqb, eq-eqb, cases_eq, eqb-true}
-use Rattle.std.proofs.lemmas.Bool.Decides.{eqb_tells}
 use Rattle.std.proofs.lemmas.List.{length-map}
-use Rattle.std.proofs.Math.Arith.{digits_div, digits_mod}
 use Rattle.b67_word.specs.Tagged.{Tagged, bits_at}
 use Rattle.b67_word.specs.declared.couples.Place.{Place}
 use Rattle.b67_ctl.specs.declared.registers.Regs.{Regs}
@@ -16,10 +14,10 @@ use Rattle.b67_law_order.proofs.Numbered.{keyed_member}
 use Rattle.b67_model.specs.Keyed.{keyed}
 use Rattle.b67_model.specs.Common.{Frame, Task, SessionJob, Array, Condition, Ready, Awaits, WaitsAt, height, Session, IsSegment, TaskInOrder, BirthInOrder, ConditionInOrder, NamesEntered, identities, frames_of_task, reach_of, outer_of}
 use Rattle.b67_stack.specs.declared.Cpu.{Cpu}
-use Rattle.b67_stack.specs.Common.{StackPlace, Head, Marked, Entered, head_size, level_from, HeadFits, HeadsFit, Activation, mark_place, stack_words, stack_level, toscw_of, IsStack, Slot, Free, Running, Waiting, slot_base, stack_of, Storage, RepresentsSlot}
+use Rattle.b67_stack.specs.Common.{StackPlace, HeadsFit, Activation, mark_place, stack_words, stack_level, toscw_of, IsStack, Slot, Free, Running, Waiting, slot_base, stack_of, Storage, RepresentsSlot}
 use Rattle.b67_layout.specs.Common.{Placement, slot_of, spot_in, spots, base_spot, outer_spots, address_of, activations, stack_of_task, machine_view, slot_at, TaskRow, JobRow, JobCounts, JobShows, TaskShows, TablesShow, parent_slot, critical_disp, JobInOrderButCounts, IsInOrderButCounts, RepresentsSession, IsRunning}
 use Rattle.b67_layout.specs.Rows as rows
-use Rattle.b67_layout.proofs.Common.{task_row, dictionary_below, dictionary_above}
+use Rattle.b67_layout.proofs.Common.{task_row, dictionary_below}
 use Rattle.b67_layout_shown.specs.Reading.{word_seen_at, stack_seen}
 use Rattle.b67_layout_shown.specs.Places.{named, name_among, array_among, condition_by, task_by}
 use Rattle.b67_layout_shown.specs.Shown.{Sight, Top, top_by, top_in, number_seen, frame_seen, place_seen, array_homed, frames_of, stack_of_row, parents_by, parents_in, critical_by, condition_in, task_in}
@@ -30,23 +28,17 @@ use Rattle.b67_layout_shown.proofs.Outer.{name_low, outer_read}
 use Rattle.b67_layout_shown.proofs.Words.{PlaceIsRead}
 use Rattle.b67_layout_shown.proofs.Tasks.{row_in, few_segments}
 use Rattle.b67_layout_shown.proofs.Read.{order, small_number, stack_is, slot_below, slot_shows, frames_are, arrays_read}
+use Rattle.std.proofs.Math.Arith.{digits_div, digits_mod}
 
 toscw_fields : (s l f : ℕ) → s < 2 ^ 16 → l < 2 ^ 5 → f < 2 ^ 14 → let n = s * 2 ^ 20 + l * 2 ^ 14 + f in (n / 2 ^ 20 % 2 ^ 16 ≡ s) × (n / 2 ^ 0 % 2 ^ 14 ≡ f)
 toscw_fields s l f sh lh fh = (omega arith, omega arith)
 
 place_low : (st : List Activation) → mark_place st ≤ stack_words st
-place_low [] = omega arith
-place_low (a ∷ below) = by a.head where
-  by : (h : Head) → stack_words below + 1 ≤ stack_words below + (head_size h + length a.cells)
-  by Marked = omega arith
-  by (Entered level environment back) = omega arith
+place_low st = grind arith
 
 levels : (st : List Activation) → HeadsFit st → stack_level st < 2 ^ 5
 levels [] fits = omega arith
-levels (a ∷ below) fits = by a.head fits.0 (levels below fits.1) where
-  by : (h : Head) → HeadFits h below → stack_level below < 2 ^ 5 → level_from h (stack_level below) < 2 ^ 5
-  by Marked h low = low
-  by (Entered level environment back) h low = h.0
+levels (a ∷ below) fits = grind (arith, levels below fits.1)
 
 same_task : (a : Task) (n : ℕ) (ps : List ℕ) (c : ℕ) (fs : List Frame) (g : ℕ) (p : Place) (w : Condition) → n ≡ a.number → ps ≡ a.parents → c ≡ a.critical → fs ≡ a.frames → g ≡ a.segment → p ≡ a.place → w ≡ a.condition
     → record { number = n; parents = ps; critical = c; frames = fs; segment = g; place = p; condition = w } ≡ a
@@ -62,9 +54,7 @@ place_in r row job n d small =
     ∙ ap (λ q. record { stack = q; disp = (n * r.stack_size + d) % r.stack_size }) (digits_div n small) ∙ ap (λ q. record { stack = n; disp = q }) (digits_mod n small)
 
 dictionary_name : (tasks : List TaskRow) (job : ℕ) → frame_seen tasks job (record { stack = 127 + job; disp = 0 }) ≡ 1
-dictionary_name tasks job =
-    ap (λ (b : Bool). if b then named (number_seen tasks (127 + job)) 0 else (if 127 + job == 127 + job then 1 else 0)) (le-ltb (127 + job) 120 (omega arith))
-    ∙ ap (λ (b : Bool). if b then 1 else 0) (eq-eqb (127 + job) (127 + job) refl)
+dictionary_name tasks job = grind arith
 
 mcp_name : (tasks : List TaskRow) (job : ℕ) → job ≤ 8 → frame_seen tasks job (record { stack = 136; disp = 0 }) ≡ 0
 mcp_name tasks job few = ap (λ (b : Bool). if b then 1 else 0) (ne_eqb 136 (127 + job) (λ e. omega (arith, e, few)))
@@ -255,17 +245,11 @@ module _ (x : Storage) (cpu : Cpu) (plan : Placement) (s : Session) (m : Session
 
   critical_name : (n number c : ℕ) (o : ℕ → StackPlace) (fs : List Frame) → Named (name_among m.progress.job.tasks) number fs → Has (identities fs) c → named number (spot_in n o fs c).disp ≡ name_among m.progress.job.tasks c
   critical_name n number c o [] names h = absurd h
-  critical_name n number c o (f ∷ below) names h = by (eqb_tells f.identity c) h (λ z. critical_name n number c o below names.1 z) where
-    by : ((f.identity == c ≡ true) × (f.identity ≡ c)) ⊎ ((f.identity == c ≡ false) × (f.identity ≢ c)) → Has (identities (f ∷ below)) c
-        → (Has (identities below) c → named number (spot_in n o below c).disp ≡ name_among m.progress.job.tasks c) → named number (spot_in n o (f ∷ below) c).disp ≡ name_among m.progress.job.tasks c
-    by (inl q) z rest = ap (λ (b : Bool). named number (if b then record { stack = n; disp = height below } else spot_in n o below c).disp) q.0 ∙ sym names.0 ∙ ap (name_among m.progress.job.tasks) q.1
-    by (inr q) (inl e) rest = absurd (q.1 e)
-    by (inr q) (inr z) rest = ap (λ (b : Bool). named number (if b then record { stack = n; disp = height below } else spot_in n o below c).disp) q.0 ∙ rest z
+  critical_name n number c o (f ∷ below) names h = grind (arith, critical_name n number c o below names.1)
 
   critical_is : (t : Task) (ps : List ℕ) → BirthInOrder m.progress.job t ps → (parent disp : ℕ) → parent ≡ parent_slot plan m.constants.number ps
       → disp ≡ critical_disp plan m.constants.number m.progress.job t.critical ps → critical_by tasks disp (keyed (λ (q : TaskRow). q.slot) parent tasks) ≡ name_among m.progress.job.tasks t.critical
-  critical_is t [] birth parent disp e d =
-      ap (λ i. critical_by tasks disp (keyed (λ (q : TaskRow). q.slot) i tasks)) e ∙ ap (critical_by tasks disp) no_row ∙ sym rename_0 ∙ ap (name_among m.progress.job.tasks) (sym birth.1)
+  critical_is t [] birth parent disp e d = grind (arith, no_row, rename_0)
   critical_is t (p ∷ above) birth parent disp e d =
       let found = keyed_has (λ (t : Task). t.number) p m.progress.job.tasks birth.parent birth.found in
       let r = row_of birth.parent found.0 in
@@ -286,10 +270,7 @@ module _ (x : Storage) (cpu : Cpu) (plan : Placement) (s : Session) (m : Session
   in_slot n d low = ap (λ (b : Bool). if b then named (number_seen tasks n) d else (if n == 127 + m.constants.number then 1 else 0)) (lt-ltb n 120 low)
 
   slot_low : (u : Task) → Has m.progress.job.tasks u → slot_of plan m.constants.number u.number < 120
-  slot_low u there =
-      let low = slot_below x cpu plan s m tasks jobs row c ordered stands tables in_session shows u there in
-      let few = stands.holds.fits.few in
-      omega (arith, low, few)
+  slot_low u there = grind (arith, slot_below)
 
   slot_address : (u : Task) → Has m.progress.job.tasks u → (d : ℕ) → d < m.constants.stack_size → by_address (record { stack = slot_of plan m.constants.number u.number; disp = d }) ≡ named u.number d
   slot_address u there d small =
@@ -309,31 +290,10 @@ module _ (x : Storage) (cpu : Cpu) (plan : Placement) (s : Session) (m : Session
   few_jobs = small_number x cpu plan s m tasks jobs row c ordered stands tables in_session shows
 
   dictionary_address : by_address (record { stack = 127 + m.constants.number; disp = 0 }) ≡ 1
-  dictionary_address =
-      let low = dictionary_below plan 160 s.jobs m stands.holds.fits.dictionaries in_session in
-      let at = stands.holds.memory.slots.regs.stacks in
-      let dict = shows.dictionary in
-      let j_is : 127 + m.constants.number - 127 ≡ m.constants.number = omega arith in
-      let address : address_of plan (record { stack = 127 + m.constants.number; disp = 0 }) ≡ row.dictionary =
-      ap (λ (b : Bool). (if b then plan.stacks + (127 + m.constants.number) * plan.size else (if nat_lt (127 + m.constants.number) 136 then plan.dictionary (127 + m.constants.number - 127) else 0)) + 0) (le-ltb (127 + m.constants.number) 120 (omega arith))
-      ∙ ap (λ (b : Bool). (if b then plan.dictionary (127 + m.constants.number - 127) else 0) + 0) (lt-ltb (127 + m.constants.number) 136 (omega (arith, few_jobs)))
-      ∙ ap (λ n. plan.dictionary n + 0) j_is ∙ (let z : plan.dictionary m.constants.number + 0 ≡ row.dictionary = omega (arith, dict) in z) in
-      ap (λ a. frame_seen tasks m.constants.number (place_seen cpu.regs row m.constants.number a)) address
-      ∙ ap (λ (b : Bool). frame_seen tasks m.constants.number (if b then (if row.dictionary == row.dictionary then record { stack = 127 + m.constants.number; disp = 0 } else record { stack = 136; disp = 0 }) else record { stack = (row.dictionary - cpu.regs.stacks) / cpu.regs.stack_size; disp = (row.dictionary - cpu.regs.stacks) % cpu.regs.stack_size }))
-      (lt-ltb row.dictionary cpu.regs.stacks (omega (arith, low, at, dict)))
-      ∙ ap (λ (b : Bool). frame_seen tasks m.constants.number (if b then record { stack = 127 + m.constants.number; disp = 0 } else record { stack = 136; disp = 0 })) (eq-eqb row.dictionary row.dictionary refl)
-      ∙ dictionary_name tasks m.constants.number
+  dictionary_address = grind (arith, dictionary_below, le-ltb, lt-ltb, few_jobs)
 
   mcp_address : by_address (record { stack = 136; disp = 0 }) ≡ 0
-  mcp_address =
-      let low = dictionary_above plan 160 s.jobs m stands.holds.fits.dictionaries in_session in
-      let up = dictionary_below plan 160 s.jobs m stands.holds.fits.dictionaries in_session in
-      let at = stands.holds.memory.slots.regs.stacks in
-      let dict = shows.dictionary in
-      ap (λ (b : Bool). frame_seen tasks m.constants.number (if b then (if 0 == row.dictionary then record { stack = 127 + m.constants.number; disp = 0 } else record { stack = 136; disp = 0 }) else record { stack = (0 - cpu.regs.stacks) / cpu.regs.stack_size; disp = (0 - cpu.regs.stacks) % cpu.regs.stack_size }))
-      (lt-ltb 0 cpu.regs.stacks (omega (arith, low, up, at)))
-      ∙ ap (λ (b : Bool). frame_seen tasks m.constants.number (if b then record { stack = 127 + m.constants.number; disp = 0 } else record { stack = 136; disp = 0 })) (ne_eqb 0 row.dictionary (λ e. omega (arith, e, dict, low)))
-      ∙ mcp_name tasks m.constants.number few_jobs
+  mcp_address = grind (arith, few_jobs)
 
   spots_named : (t : Task) → Has m.progress.job.tasks t → (identity : ℕ) → NamesEntered (reach_of m.progress.job t) identity
       → PlaceIsRead by_address (name_among m.progress.job.tasks) (spots plan m.constants.number m.progress.job t) identity

@@ -1,11 +1,10 @@
 -- Names by place: each live activation record has its own, and its spot is read as its name.
-use Rattle.std.proofs.Common.{◌≡◌, ◌≢◌, ℕ, ◌+◌, ◌≤◌, ◌==◌, Bool, true, false, List, [], ◌∷◌, ◌++◌, map, Option, Some, None, refl, sym, ◌∙◌, ap, subst, arith, inl, inr}
-use Rattle.std.specs.Prelude.{◌⊎◌, if◌then◌else◌}
+use Rattle.std.proofs.Common.{◌≡◌, ◌≢◌, ℕ, ◌≤◌, ◌==◌, Bool, List, [], ◌∷◌, ◌++◌, map, Option, Some, None, refl, sym, ◌∙◌, ap, subst, arith, inl, inr}
+use Rattle.std.specs.Prelude.{if◌then◌else◌}
 use Rattle.std.proofs.lemmas.Bool.{ne_eqb, eq-eqb}
-use Rattle.std.proofs.lemmas.Bool.Decides.{eqb_tells}
 use Rattle.b67_lemmas.specs.Lists.{Has, total, Falls}
 use Rattle.b67_lemmas.proofs.Members.{falls_low, all_in, total_has}
-use Rattle.b67_model.specs.Common.{Frame, JobConstants, Task, Job, height, Starts, Known, known_of, known_numbers, outer_of, identities, frames_named, TaskInOrder, TasksInOrder}
+use Rattle.b67_model.specs.Common.{Frame, JobConstants, Task, Job, height, Starts, Known, known_of, known_numbers, identities, frames_named, TasksInOrder}
 use Rattle.b67_law_order.proofs.Replaced.{numbers_append, has_counts}
 use Rattle.b67_layout_shown.specs.Places.{named, or_else, name_under, name_among}
 use Rattle.b67_layout_shown.proofs.Frames.{Named}
@@ -23,8 +22,7 @@ numbers-known (f ∷ below) = ap (λ ns. f.identity ∷ ns) (numbers-known below
 
 -- the identities of a task's own frames fall
 own_falls : (bound : ℕ) (fs : List Frame) (outer : List Known) → Falls bound (known_numbers (map known_of fs ++ outer)) → Falls bound (identities fs)
-own_falls bound fs outer h =
-    subst (Falls bound) (numbers-known fs) (falls_front bound (known_numbers (map known_of fs)) (known_numbers outer) (subst (Falls bound) (numbers_append (map known_of fs) outer) h))
+own_falls bound fs outer h = grind (arith, numbers-known, falls_front, numbers_append)
 
 -- what is named in a list that goes on is named in the rest
 under_rest : (number identity : ℕ) (f : Frame) (below : List Frame) → f.identity ≢ identity → name_under number (f ∷ below) identity ≡ name_under number below identity
@@ -41,19 +39,13 @@ Under number whole (f ∷ below) = (name_under number whole f.identity ≡ Some 
 under_all : (number : ℕ) (whole : List Frame) (bound : ℕ) (fs : List Frame) → Falls bound (identities fs) → ((n : ℕ) → Has (identities fs) n → name_under number whole n ≡ name_under number fs n) → Under number whole fs
 unfolding Under
 under_all number whole bound [] falls same = tt
-under_all number whole bound (f ∷ below) falls same = (
-  same f.identity (inl refl) ∙ under_first number f below,
-  under_all number whole f.identity below falls.1 (λ n there. same n (inr there) ∙ under_rest number n f below (λ e. let low = falls_low f.identity (identities below) n falls.1 there in omega (arith, e, low))),
-)
+under_all number whole bound (f ∷ below) falls same = grind (arith, falls_low, under_all number whole f.identity below falls.1)
 
 -- ---- tasks
 
 under_none : (number identity : ℕ) (fs : List Frame) → frames_named identity fs ≡ 0 → name_under number fs identity ≡ None
 under_none number identity [] h = refl
-under_none number identity (f ∷ below) h = by (eqb_tells f.identity identity) (λ z. under_none number identity below z) where
-  by : ((f.identity == identity ≡ true) × (f.identity ≡ identity)) ⊎ ((f.identity == identity ≡ false) × (f.identity ≢ identity)) → (frames_named identity below ≡ 0 → name_under number below identity ≡ None) → name_under number (f ∷ below) identity ≡ None
-  by (inl q) rest = let one : 1 + frames_named identity below ≡ 0 = subst (λ (b : Bool). (if b then 1 else 0) + frames_named identity below ≡ 0) q.0 h in absurd (omega (arith, one))
-  by (inr q) rest = let none : 0 + frames_named identity below ≡ 0 = subst (λ (b : Bool). (if b then 1 else 0) + frames_named identity below ≡ 0) q.0 h in under_rest number identity f below q.1 ∙ rest (omega (arith, none))
+under_none number identity (f ∷ below) h = grind (arith, under_none number identity below)
 
 pub some_counts : (identity : ℕ) (fs : List Frame) → Has (identities fs) identity → 1 ≤ frames_named identity fs
 some_counts identity fs h = has_counts identity fs (subst (λ (ns : List ℕ). Has ns identity) (sym (numbers-known fs)) h)
@@ -62,8 +54,7 @@ some_counts identity fs h = has_counts identity fs (subst (λ (ns : List ℕ). H
 among_is : (identity n : ℕ) (tasks : List Task) (t : Task) → Has tasks t → Has (identities t.frames) identity → name_under t.number t.frames identity ≡ Some n
     → total (λ (u : Task). frames_named identity u.frames) tasks ≤ 1 → name_among tasks identity ≡ n
 among_is identity n [] t there h e once = absurd there
-among_is identity n (u ∷ more) t (inl same) h e once =
-    subst (λ (v : Task). or_else (name_under v.number v.frames identity) (name_among more identity) ≡ n) (sym same) (ap (λ (o : Option ℕ). or_else o (name_among more identity)) e)
+among_is identity n (u ∷ more) t (inl same) h e once = grind arith
 among_is identity n (u ∷ more) t (inr there) h e once =
     let one = some_counts identity t.frames h in
     let all = total_has (λ (u : Task). frames_named identity u.frames) more t there in
@@ -73,19 +64,14 @@ among_is identity n (u ∷ more) t (inr there) h e once =
 -- of an identity that no live frame has the name is the dictionary's or the MCP's
 pub among_none : (identity : ℕ) (tasks : List Task) → ((t : Task) → Has tasks t → frames_named identity t.frames ≡ 0) → name_among tasks identity ≡ (if identity == 1 then 1 else 0)
 among_none identity [] none = refl
-among_none identity (u ∷ more) none =
-    ap (λ (o : Option ℕ). or_else o (name_among more identity)) (under_none u.number identity u.frames (none u (inl refl)))
-    ∙ among_none identity more (λ t there. none t (inr there))
+among_none identity (u ∷ more) none = grind (arith, under_none, among_none identity more)
 
 named_tail : (tasks : List Task) (t : Task) → Has tasks t → ((identity : ℕ) → total (λ (u : Task). frames_named identity u.frames) tasks ≤ 1)
     → (fs : List Frame) → ((n : ℕ) → Has (identities fs) n → Has (identities t.frames) n) → Under t.number t.frames fs → Named (name_among tasks) t.number fs
 unfolding Under
 named_tail tasks t there once [] inside under = tt
-named_tail tasks t there once (f ∷ below) inside under =
-    (among_is f.identity (named t.number (height below)) tasks t there (inside f.identity (inl refl)) under.0 (once f.identity), named_tail tasks t there once below (λ n h. inside n (inr h)) under.1)
+named_tail tasks t there once (f ∷ below) inside under = grind (arith, among_is, named_tail tasks t there once below)
 
 -- the frames of a live task are named by their places
 pub named_frames : (P : Starts) (constants : JobConstants) (job : Job) (t : Task) → TasksInOrder P constants job → Has job.tasks t → Named (name_among job.tasks) t.number t.frames
-named_frames P constants job t order there =
-    let own = all_in (TaskInOrder P constants job) job.tasks t order.tasks there in
-    named_tail job.tasks t there order.apart t.frames (λ n h. h) (under_all t.number t.frames job.next_frame t.frames (own_falls job.next_frame t.frames (outer_of job t) own.falls) (λ n h. refl))
+named_frames P constants job t order there = grind (arith, all_in, named_tail, under_all, own_falls)

@@ -1,15 +1,12 @@
 -- Words, frames and returns keep their order under other names.
-use Rattle.std.proofs.Common.{◌≡◌, ◌≢◌, ℕ, ◌+◌, ◌==◌, Bool, List, [], ◌∷◌, ◌++◌, map, length, Some, None, refl, sym, ◌∙◌, ap, subst, arith, inl, inr}
-use Rattle.std.specs.Prelude.{if◌then◌else◌}
+use Rattle.std.proofs.Common.{◌≡◌, ◌≢◌, ℕ, ◌+◌, ◌==◌, List, [], ◌∷◌, ◌++◌, map, length, refl, sym, ◌∙◌, ap, subst, arith}
 use Rattle.std.specs.List.{AllByRecursion}
 use Rattle.std.proofs.lemmas.List.{map-append}
-use Rattle.std.proofs.lemmas.Bool.{ne_eqb, eq-eqb}
-use Rattle.std.proofs.lemmas.Bool.Decides.{eqb_tells}
 use Rattle.b67_word.specs.declared.couples.Place.{Place}
 use Rattle.b67_lemmas.specs.Lists.{Has, how_many}
 use Rattle.b67_lemmas.proofs.Members.{has_map}
 use Rattle.b67_model.specs.Words as Words
-use Rattle.b67_model.specs.Common.{Word, Operand, Name, Ref, Row, Element, Original, Proc, Intrinsic, Standing, Marked, Entered, Frame, JobConstants, Array, Known, known_of, IsSegment, NamesEntered, NamesArray, OwnsArray, WordInOrder, StandsInOrder, is_original_of, originals_in, is_copy_of, NoCopyUnder, CopiesAbove, CellsInOrder, FramesInOrder, ReturnsInOrder, StackInOrder}
+use Rattle.b67_model.specs.Common.{Word, Operand, Name, Ref, Row, Element, Original, Proc, Intrinsic, Standing, Marked, Entered, Frame, JobConstants, Array, Known, known_of, IsSegment, NamesArray, OwnsArray, WordInOrder, StandsInOrder, is_original_of, originals_in, is_copy_of, NoCopyUnder, CopiesAbove, CellsInOrder, FramesInOrder, ReturnsInOrder, StackInOrder}
 use Rattle.b67_layout_shown.specs.Places.{word_by, standing_by, frame_by}
 use Rattle.b67_layout_shown.proofs.Reach.{known_by, known_frames, entered_by, level_by, names_entered}
 
@@ -28,23 +25,13 @@ module _ (constants constants' : JobConstants) (arrays arrays' : List Array) (re
   segment_by segment level level' place h = let w = h.within in record { from_one = h.from_one; within = omega (arith, w, segments); word_fits = h.word_fits; syllable_fits = h.syllable_fits }
 
   names_array : (reach : List Known) (a : ℕ) → NamesArray arrays reach a → NamesArray arrays' (map (known_by rename) reach) (relabel a)
-  names_array reach a h =
-      let k = kept h.item h.live in
-      record { item = k.item; live = k.live; named = k.named ∙ ap relabel h.named; owner = subst (NamesEntered (map (known_by rename) reach)) (sym k.owned) (names_entered rename relabel reach h.item.owner h.owner) }
+  names_array reach a h = grind (arith, names_entered)
 
   pub owns_array : (owner a : ℕ) → OwnsArray arrays owner a → OwnsArray arrays' (rename owner) (relabel a)
   owns_array owner a h = let k = kept h.item h.live in record { item = k.item; live = k.live; named = k.named ∙ ap relabel h.named; owned = k.owned ∙ ap rename h.owned }
 
   word_order : (reach : List Known) (owner : ℕ) (w : Word) → WordInOrder (IsSegment constants) arrays reach owner w → WordInOrder (IsSegment constants') arrays' (map (known_by rename) reach) (rename owner) (word_by rename relabel w)
-  word_order reach owner (Operand bits) h = h
-  word_order reach owner (Name couple) h = h
-  word_order reach owner (Ref identity offset) h = (names_entered rename relabel reach identity h.0, h.1)
-  word_order reach owner (Row a) h = names_array reach a h
-  word_order reach owner (Element a index) h = names_array reach a h
-  word_order reach owner (Original a) h = owns_array owner a h
-  word_order reach owner (Proc segment level place) h = (h.0, segment_by segment level level place h.1)
-  word_order reach owner (Intrinsic number) h = absurd h
-  word_order reach owner (Words.Segment number) h = absurd h
+  word_order reach owner w h = grind (arith, names_entered)
 
   words_order : (reach : List Known) (owner : ℕ) (ws : List Word) → AllByRecursion (WordInOrder (IsSegment constants) arrays reach owner) ws
       → AllByRecursion (WordInOrder (IsSegment constants') arrays' (map (known_by rename) reach) (rename owner)) (map (word_by rename relabel) ws)
@@ -54,28 +41,15 @@ module _ (constants constants' : JobConstants) (arrays arrays' : List Array) (re
   -- ---- copies stay copies of the same
 
   pub same_name : (a b : Array) → Has arrays a → Has arrays b → (relabel b.identity == relabel a.identity) ≡ (b.identity == a.identity)
-  same_name a b ha hb = elim (eqb_tells b.identity a.identity) [
-    | inl e ↦ eq-eqb (relabel b.identity) (relabel a.identity) (ap relabel e.1) ∙ sym e.0
-    | inr e ↦ ne_eqb (relabel b.identity) (relabel a.identity) (λ z. e.1 (apart b a hb ha z)) ∙ sym e.0
-  ]
+  same_name a b ha hb = grind arith
 
   copy_same : (reach : List Known) (owner : ℕ) (a : Array) → Has arrays a → (w : Word) → WordInOrder (IsSegment constants) arrays reach owner w → is_copy_of (relabel a.identity) (word_by rename relabel w) ≡ is_copy_of a.identity w
-  copy_same reach owner a ha (Operand bits) h = refl
-  copy_same reach owner a ha (Name couple) h = refl
-  copy_same reach owner a ha (Ref identity offset) h = refl
-  copy_same reach owner a ha (Row b) h = subst (λ n. (relabel n == relabel a.identity) ≡ (n == a.identity)) h.named (same_name a h.item ha h.live)
-  copy_same reach owner a ha (Element b index) h = subst (λ n. (relabel n == relabel a.identity) ≡ (n == a.identity)) h.named (same_name a h.item ha h.live)
-  copy_same reach owner a ha (Original b) h = refl
-  copy_same reach owner a ha (Proc segment level place) h = refl
-  copy_same reach owner a ha (Intrinsic number) h = refl
-  copy_same reach owner a ha (Words.Segment number) h = refl
+  copy_same reach owner a ha w h = grind arith
 
   copies_same : (reach : List Known) (owner : ℕ) (a : Array) → Has arrays a → (ws : List Word) → AllByRecursion (WordInOrder (IsSegment constants) arrays reach owner) ws
       → how_many (is_copy_of (relabel a.identity)) (map (word_by rename relabel) ws) ≡ how_many (is_copy_of a.identity) ws
   copies_same reach owner a ha [] h = refl
-  copies_same reach owner a ha (w ∷ ws) h =
-      ap (λ (b : Bool). (if b then 1 else 0) + how_many (is_copy_of (relabel a.identity)) (map (word_by rename relabel) ws)) (copy_same reach owner a ha w h.0)
-      ∙ ap (λ (n : ℕ). (if is_copy_of a.identity w then 1 else 0) + n) (copies_same reach owner a ha ws h.1)
+  copies_same reach owner a ha (w ∷ ws) h = grind (arith, copies_same reach owner a ha ws h.1)
 
   under_order : (reach : List Known) (owner : ℕ) (w : Word) (below : List Word) → WordInOrder (IsSegment constants) arrays reach owner w → AllByRecursion (WordInOrder (IsSegment constants) arrays reach owner) below
       → NoCopyUnder w below → NoCopyUnder (word_by rename relabel w) (map (word_by rename relabel) below)
@@ -127,9 +101,7 @@ module _ (constants constants' : JobConstants) (arrays arrays' : List Array) (re
   some_by (f ∷ below) h e = cc
 
   returns_by : (s : Standing) (below : List Frame) → (level : ℕ) → ReturnsInOrder (IsSegment constants) s below → ReturnsInOrder (IsSegment constants') (standing_by rename s) (map (frame_by rename relabel) below)
-  returns_by Marked below level h = some_by below h
-  returns_by (Entered l environment None) below level h = ap (map (frame_by rename relabel)) h
-  returns_by (Entered l environment (Some back)) below level h = (some_by below h.0, segment_by back.segment _ _ back.place h.1)
+  returns_by s below level h = grind (arith, some_by)
 
   pub stack_order : (fs : List Frame) → StackInOrder (IsSegment constants) fs → StackInOrder (IsSegment constants') (map (frame_by rename relabel) fs)
   stack_order [] h = tt
@@ -138,22 +110,12 @@ module _ (constants constants' : JobConstants) (arrays arrays' : List Array) (re
   -- ---- originals stay originals of the same
 
   original_same : (reach : List Known) (owner : ℕ) (a : Array) → Has arrays a → (w : Word) → WordInOrder (IsSegment constants) arrays reach owner w → is_original_of (relabel a.identity) (word_by rename relabel w) ≡ is_original_of a.identity w
-  original_same reach owner a ha (Operand bits) h = refl
-  original_same reach owner a ha (Name couple) h = refl
-  original_same reach owner a ha (Ref identity offset) h = refl
-  original_same reach owner a ha (Row b) h = refl
-  original_same reach owner a ha (Element b index) h = refl
-  original_same reach owner a ha (Original b) h = subst (λ n. (relabel n == relabel a.identity) ≡ (n == a.identity)) h.named (same_name a h.item ha h.live)
-  original_same reach owner a ha (Proc segment level place) h = refl
-  original_same reach owner a ha (Intrinsic number) h = refl
-  original_same reach owner a ha (Words.Segment number) h = refl
+  original_same reach owner a ha w h = grind arith
 
   originals_words : (reach : List Known) (owner : ℕ) (a : Array) → Has arrays a → (ws : List Word) → AllByRecursion (WordInOrder (IsSegment constants) arrays reach owner) ws
       → how_many (is_original_of (relabel a.identity)) (map (word_by rename relabel) ws) ≡ how_many (is_original_of a.identity) ws
   originals_words reach owner a ha [] h = refl
-  originals_words reach owner a ha (w ∷ ws) h =
-      ap (λ (b : Bool). (if b then 1 else 0) + how_many (is_original_of (relabel a.identity)) (map (word_by rename relabel) ws)) (original_same reach owner a ha w h.0)
-      ∙ ap (λ (n : ℕ). (if is_original_of a.identity w then 1 else 0) + n) (originals_words reach owner a ha ws h.1)
+  originals_words reach owner a ha (w ∷ ws) h = grind (arith, originals_words reach owner a ha ws h.1)
 
   pub originals_frames : (outer : List Known) (a : Array) → Has arrays a → (fs : List Frame) → FramesInOrder (IsSegment constants) arrays outer fs → originals_in (relabel a.identity) (map (frame_by rename relabel) fs) ≡ originals_in a.identity fs
   originals_frames outer a ha [] h = refl

@@ -1,18 +1,18 @@
 -- What a machine shows is in order.
-use Rattle.std.proofs.Common.{◌≡◌, ◌≢◌, ℕ, suc, ◌+◌, ◌^◌, ◌<◌, Bool, true, false, List, [], ◌∷◌, ◌++◌, map, reverse, length, None, refl, sym, ◌∙◌, ap, subst, arith, inl, inr}
+use Rattle.std.proofs.Common.{◌≡◌, ◌≢◌, ℕ, suc, ◌+◌, ◌^◌, ◌<◌, List, [], ◌∷◌, ◌++◌, map, reverse, length, None, refl, sym, ◌∙◌, ap, subst, arith, inl, inr}
 use Rattle.std.specs.Prelude.{IsTrue, flat_map, sum_by}
 use Rattle.std.specs.List.{AllByRecursion}
 use Rattle.std.proofs.lemmas.List.{length-map}
 use Rattle.std.proofs.lemmas.List.Sums.{sum_by-cons}
 use Rattle.b67_lemmas.specs.Lists.{Has}
 use Rattle.b67_lemmas.proofs.Members.{all_in, has_flat, has_append_left, has_append_right, has_map}
-use Rattle.b67_model.specs.Common.{Word, Standing, Entered, Frame, Condition, Ready, Awaits, WaitsAt, Array, Segment, Task, Job, SessionJob, is_ready, Session, live_tasks, IsSegment, TasksInOrder, ArrayInOrder, DictionaryWords, JobInOrder, NumberedFrom, SwitchesRise, IsInOrderButPlaces}
+use Rattle.b67_model.specs.Common.{Word, Standing, Entered, Frame, Array, Segment, Task, Job, SessionJob, is_ready, Session, live_tasks, IsSegment, TasksInOrder, ArrayInOrder, DictionaryWords, JobInOrder, NumberedFrom, SwitchesRise, IsInOrderButPlaces}
 use Rattle.b67_stack.specs.declared.Cpu.{Cpu}
 use Rattle.b67_stack.specs.MachineView.{PagedObject}
 use Rattle.b67_stack.specs.Represents.{Storage}
 use Rattle.b67_layout.specs.Common.{Placement, array_object, code_objects, objects_of, machine_view, TaskRow, JobRow, JobCounts, JobShows, JobsShow, TablesShow, IsInOrderButCounts, RepresentsSession}
 use Rattle.b67_layout.proofs.Weaker.{but_counts}
-use Rattle.b67_layout_shown.specs.Places.{name_among, array_among, condition_by, task_by}
+use Rattle.b67_layout_shown.specs.Places.{name_among, array_among, task_by}
 use Rattle.b67_layout_shown.specs.Shown.{Sight, numbers_read, segments_from, row_cells, segment_cells, constants_in, job_seen, member_in, members_from, shown}
 use Rattle.b67_layout_shown.specs.Laws.{ShownIsInOrder}
 use Rattle.b67_layout_shown.proofs.Contents.{dictionary_is, AreShown, segments_read, array_fits}
@@ -31,11 +31,7 @@ same_words n (t ∷ old) (s ∷ new) [] e d = absurd d
 same_words n (t ∷ old) (s ∷ new) (w ∷ ws) e d = (d.0, same_words (n + 1) old new ws (omega (arith, e)) d.1)
 
 ready_by : (rename relabel : ℕ → ℕ) (t : Task) → IsTrue (is_ready t) → IsTrue (is_ready (task_by rename relabel t))
-ready_by rename relabel t h = by t.condition h where
-  by : (w : Condition) → IsTrue (elim w as (λ _. Bool) [ Ready ↦ true | Awaits n ↦ false | WaitsAt f offset ↦ false ]) → IsTrue (elim (condition_by rename w) as (λ _. Bool) [ Ready ↦ true | Awaits n ↦ false | WaitsAt f offset ↦ false ])
-  by Ready h = h
-  by (Awaits n) h = h
-  by (WaitsAt f offset) h = h
+ready_by rename relabel t h = grind arith
 
 ready_map : (rename relabel : ℕ → ℕ) (ts : List Task) → (ts ≢ [] → (t : Task) × Has ts t × IsTrue (is_ready t)) → map (task_by rename relabel) ts ≢ [] → (t : Task) × Has (map (task_by rename relabel) ts) t × IsTrue (is_ready t)
 ready_map rename relabel ts ready some =

@@ -4,7 +4,6 @@ use Rattle.std.specs.Prelude.{if◌then◌else◌}
 use Rattle.std.proofs.lemmas.Bool.{ne_eqb}
 use Rattle.b67_lemmas.specs.Lists.{Has, Falls}
 use Rattle.b67_lemmas.proofs.Members.{falls_above, all_in, keyed_has, has_append_right, has_map, none_pass}
-use Rattle.b67_model.specs.Keyed.{keyed}
 use Rattle.b67_model.specs.Common.{Frame, JobConstants, Task, Job, Array, height, Starts, IsSegment, Known, known_of, known_numbers, base, from_frame, frames_of_task, critical_of, outer_reach, outer_of, identities, frames_named, NamesEntered, TaskInOrder, TasksInOrder, BirthInOrder}
 use Rattle.b67_law_order.proofs.Replaced.{numbers_append}
 use Rattle.b67_stack.specs.Stacks.{StackPlace}
@@ -13,6 +12,7 @@ use Rattle.b67_layout_shown.specs.Places.{named, name_among}
 use Rattle.b67_layout_shown.proofs.Words.{PlaceIsRead}
 use Rattle.b67_layout_shown.proofs.Frames.{Named, spots_read}
 use Rattle.b67_layout_shown.proofs.Names.{numbers-known, among_none, named_frames}
+use Rattle.b67_model.specs.Keyed.{keyed}
 
 -- ---- no live frame has the identity of a dictionary or of the MCP
 

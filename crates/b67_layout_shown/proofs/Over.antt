@@ -1,5 +1,5 @@
 -- A machine represents a view with other numbers in its objects, if these are what is in core.
-use Rattle.std.proofs.Common.{◌≡◌, ◌≢◌, ℕ, zero, suc, ◌<◌, ◌≤◌, ◌^◌, List, length, replicate, Option, Some, None, refl, sym, ◌∙◌, ap, subst, arith, inl, inr}
+use Rattle.std.proofs.Common.{◌≡◌, ℕ, zero, suc, ◌<◌, List, length, replicate, Option, Some, None, refl, sym, ◌∙◌, ap, subst, arith}
 use Rattle.std.proofs.lemmas.List.{length-replicate}
 use Rattle.b67_word.specs.Tagged.{Tagged}
 use Rattle.b67_ctl.specs.declared.registers.Regs.{Regs}
@@ -7,7 +7,7 @@ use Rattle.b67_area.specs.declared.Info.{Info}
 use Rattle.b67_area.specs.declared.Kind.TheVariants as kind
 use Rattle.b67_word.specs.Sectors.{sectors_for}
 use Rattle.b67_lemmas.specs.Lists.{Has}
-use Rattle.b67_stack.specs.Common.{PagedObject, Slot, Free, Running, Waiting, MachineView, is_present, address_or, home_word_of, tag_of, slot_base, IsArrayAt, SlotFits, IsLaidOut, AreZero, Storage, RepresentsSlot, RepresentsObject, ObjectHasChain, Content, Told, info_of, Represents}
+use Rattle.b67_stack.specs.Common.{PagedObject, Slot, MachineView, is_present, address_or, IsArrayAt, SlotFits, IsLaidOut, AreZero, Storage, RepresentsSlot, RepresentsObject, ObjectHasChain, Content, Told, info_of, Represents}
 use Rattle.b67_layout_shown.specs.Shown.{contents_by}
 use Rattle.b67_layout_shown.proofs.Contents.{up_numbers}
 
@@ -40,17 +40,7 @@ module _ (x : Storage) (core : List Tagged) (r : Regs) (p : MachineView) (read :
   has_chain t ns first e h = record { some = h.some; small = h.small; sectors = h.sectors ∙ ap sectors_for (sym e) }
 
   content_read : (t : PagedObject) → Has p.objects t → Same t (f t)
-  content_read t there = let r = by (x.held t.home).area (stands.objects t there).content in record { long = r.0; content = r.1 } where
-    by : (o : Option ℕ) → Content x core t o (x.held t.home).chain
-        → (length (contents_by core (length t.numbers) (address_or o (x.held t.home).chain) (is_present o)) ≡ length t.numbers)
-        × Content x core (record t { numbers = contents_by core (length t.numbers) (address_or o (x.held t.home).chain) (is_present o) }) o (x.held t.home).chain
-    by (Some at) h =
-        let same = up_numbers core (tag_of t.kind) at t.numbers h.0 in
-        (ap (λ (ns : List ℕ). length ns) same, subst (λ (ns : List ℕ). Content x core (record t { numbers = ns }) (Some at) (x.held t.home).chain) (sym same) h)
-    by None (inl h) =
-        let long = length-replicate (length t.numbers) zero in
-        (long, inl (record { chain = has_chain t (replicate (length t.numbers) zero) (x.held t.home).chain long h.chain; told = told_none x.device _ _ untold }))
-    by None (inr h) = (length-replicate (length t.numbers) zero, inr (h.0, h.1, zeros (length t.numbers)))
+  content_read t there = grind (arith, up_numbers, length-replicate, zeros)
 
   -- ---- the view
 
@@ -61,41 +51,20 @@ module _ (x : Storage) (core : List Tagged) (r : Regs) (p : MachineView) (read :
   array_there home (t, there, at, kind) = (f t, reads.to t there, at, kind)
 
   fits_over : (k : ℕ) (sl : Slot) → SlotFits p k sl → SlotFits (record p { objects = read }) k sl
-  fits_over k Free h = h
-  fits_over k (Running stack) h = (h.0, λ copied home there. array_there home (h.1 copied home there))
-  fits_over k (Waiting stack) h = (h.0, λ copied home there. array_there home (h.1 copied home there))
+  fits_over k sl h = grind arith
 
   slot_over : (k : ℕ) (sl : Slot) → RepresentsSlot core r p k sl → RepresentsSlot core r (record p { objects = read }) k sl
-  slot_over k Free h = h
-  slot_over k (Running stack) h = record { slot = h.slot; first = h.first; last = h.last; top = h.top; mark = h.mark; level = h.level }
-  slot_over k (Waiting stack) h = h
+  slot_over k sl h = grind arith
 
   -- what holds of each object holds of it with the numbers read
   each : (Q : PagedObject → Type 0) → ((t : PagedObject) → Has p.objects t → Q (f t)) → (u : PagedObject) → Has read u → Q u
   each Q h u there = let (t, in_old, is) = reads.from u there in subst Q is (h t in_old)
 
   laid_over : IsLaidOut x.low (record p { objects = read })
-  laid_over =
-      let l = stands.slots.laid in
-      record {
-        low = l.low;
-        first = l.first;
-        room = l.room;
-        slots = λ k small. fits_over k (p.slots k) (l.slots k small);
-        homes = each (λ u. (160 ≤ u.home) × (u.home < x.low)) (λ t h. l.homes t h);
-        codes = each (λ u. u.kind ≡ kind.Code → u.home < p.stacks) (λ t h. l.codes t h);
-        differ = λ u v hu hv e.
-            let (t, ht, et) = reads.from u hu in
-            let (w, hw, ew) = reads.from v hv in
-            sym et ∙ ap (read_object x core) (l.differ t w ht hw (ap (λ (q : PagedObject). q.home) et ∙ e ∙ ap (λ (q : PagedObject). q.home) (sym ew))) ∙ ew;
-        not_base = each (λ u. (k : ℕ) → k < p.peak → u.home ≢ slot_base (record p { objects = read }) k) (λ t h. l.not_base t h);
-        lengths = each (λ u. (0 < length u.numbers) × (length u.numbers < 2 ^ 16)) (λ t h. (let q = l.lengths t h in let long = (content_read t h).long in (omega (arith, q, long), omega (arith, q, long))));
-      }
+  laid_over = grind (arith, fits_over, content_read)
 
   object_over : (t : PagedObject) → Has p.objects t → RepresentsObject x core (f t)
-  object_over t there =
-      let c = content_read t there in
-      record { home = (stands.objects t there).home ∙ ap (λ n. Some (home_word_of t.kind n (x.held t.home))) (sym c.long); content = c.content }
+  object_over t there = grind (arith, content_read)
 
   pub represents_over : Represents x core r (record p { objects = read })
   represents_over = record {

@@ -1,14 +1,14 @@
 -- A job keeps its order under names by place: arrays.
-use Rattle.std.proofs.Common.{◌≡◌, ◌≢◌, ℕ, zero, suc, ◌+◌, ◌<◌, ◌≤◌, Bool, List, [], ◌∷◌, ◌++◌, map, reverse, length, Option, refl, sym, ◌∙◌, ap, subst, arith, inl, inr}
+use Rattle.std.proofs.Common.{◌≡◌, ◌≢◌, ℕ, zero, suc, ◌+◌, ◌<◌, ◌≤◌, Bool, List, [], ◌∷◌, map, reverse, length, Option, refl, sym, ◌∙◌, ap, subst, arith, inl, inr}
 use Rattle.std.specs.Prelude.{if◌then◌else◌, unwrap_or, eqb}
 use Rattle.std.proofs.lemmas.List.{length-reverse}
-use Rattle.std.proofs.lemmas.Bool.{eq-eqb, cases_eq, cases_Bool}
+use Rattle.std.proofs.lemmas.Bool.{eq-eqb, cases_eq}
 use Rattle.b67_lemmas.specs.Lists.{Has, total, how_many, Falls}
 use Rattle.b67_lemmas.proofs.Members.{all_in, falls_more, falls_same, keyed_falls, has_map, has_reverse, has_reverse_back, total_has}
-use Rattle.b67_model.specs.Common.{Word, Original, Frame, Array, Task, Job, JobConstants, Segment, no_array, array, Starts, Known, known_of, IsSegment, OwnsArray, WordInOrder, FramesInOrder, TaskInOrder, TasksInOrder, SettingInOrder, EntryInOrder, rows_after, DictionaryWords, is_original_of, originals_in, originals_of, outer_of}
+use Rattle.b67_model.specs.Common.{Word, Original, Frame, Array, Task, Job, JobConstants, Segment, no_array, array, Starts, Known, IsSegment, OwnsArray, FramesInOrder, TaskInOrder, TasksInOrder, SettingInOrder, EntryInOrder, rows_after, DictionaryWords, is_original_of, originals_in, originals_of, outer_of}
 use Rattle.b67_layout.proofs.Originals.{original_of, entry_number}
 use Rattle.b67_layout_shown.specs.Places.{named, name_among, array_among, originals_among, rows_down, array_named}
-use Rattle.b67_layout_shown.proofs.Arrays.{is_original, among_none}
+use Rattle.b67_layout_shown.proofs.Arrays.{among_none}
 use Rattle.b67_layout_shown.proofs.Placed.{falls_among, placed_task, among_more, among_cell, among_back}
 use Rattle.b67_layout_shown.proofs.Order.{Kept}
 use Rattle.b67_layout_shown.proofs.Jobs.{task_number}
@@ -17,31 +17,19 @@ use Rattle.b67_layout_shown.proofs.Jobs.{task_number}
 
 some_item : {A : Type 0} (weight : A → ℕ) (xs : List A) → total weight xs ≢ 0 → (x : A) × Has xs x × (weight x ≢ 0)
 some_item weight [] ne = absurd (ne refl)
-some_item weight (x ∷ xs) ne = elim (cases_eq (weight x) 0) [
-  | inl e ↦ (let r = some_item weight xs (λ z. ne (omega (arith, e, z))) in (r.0, inr r.1, r.2))
-  | inr e ↦ (x, inl refl, e)
-]
+some_item weight (x ∷ xs) ne = grind (arith, some_item weight xs)
 
 some_original : (a : ℕ) (ws : List Word) → how_many (is_original_of a) ws ≢ 0 → Has ws (Original a)
-some_original a ws ne =
-    let r = some_item (λ (w : Word). if is_original_of a w then 1 else 0) ws ne in
-    elim (cases_Bool (is_original_of a r.0)) [
-      | inl t ↦ subst (Has ws) (is_original a r.0 t) r.1
-      | inr t ↦ absurd (r.2 (ap (λ (b : Bool). if b then 1 else 0) t))
-    ]
+some_original a ws ne = grind (arith, some_item)
 
 owns : (P : Starts) (arrays : List Array) (outer : List Known) (fs : List Frame) (g : Frame) (a : ℕ) → FramesInOrder P arrays outer fs → Has fs g → Has g.cells (Original a) → OwnsArray arrays g.identity a
 owns P arrays outer [] g a o h w = absurd h
-owns P arrays outer (f ∷ below) g a o (inl e) w =
-    subst (λ (x : Frame). OwnsArray arrays x.identity a) e (all_in (WordInOrder P arrays (map known_of (f ∷ below) ++ outer) f.identity) f.cells (Original a) o.0.0 (subst (λ (x : Frame). Has x.cells (Original a)) (sym e) w))
+owns P arrays outer (f ∷ below) g a o (inl e) w = grind (arith, all_in)
 owns P arrays outer (f ∷ below) g a o (inr h) w = owns P arrays outer below g a o.2 h w
 
 row_there : (i k : ℕ) (ws : List Word) → rows_after i ws → i ≤ k → k < i + length ws → Has ws (Original k)
 row_there i k [] g low high = absurd (omega (arith, low, high))
-row_there i k (w ∷ ws) g low high = elim (cases_eq i k) [
-  | inl e ↦ inl (g.0 ∙ ap Original e)
-  | inr ne ↦ inr (row_there (i + 1) k ws g.1 (omega (arith, low, ne)) (omega (arith, high)))
-]
+row_there i k (w ∷ ws) g low high = grind (arith, row_there (i + 1) k ws g.1)
 
 entry_there : (g k : ℕ) (segments : List Segment) (ws : List Word) → DictionaryWords g segments ws → 1 ≤ k → k + length segments ≤ length ws → Has ws (Original k)
 entry_there g k [] ws d low high = row_there 1 k ws d low (omega (arith, high))
@@ -50,10 +38,7 @@ entry_there g k (s ∷ more) (w ∷ ws) d low high = inr (entry_there (g + 1) k 
 
 rows_has : (n k : ℕ) → 1 ≤ k → k ≤ n → Has (rows_down n) k
 rows_has zero k low high = absurd (omega (arith, low, high))
-rows_has (suc n) k low high = elim (cases_eq (suc n) k) [
-  | inl e ↦ inl e
-  | inr ne ↦ inr (rows_has n k low (omega (arith, high, ne)))
-]
+rows_has (suc n) k low high = grind (arith, rows_has n k low)
 
 rows_back : (n k : ℕ) → Has (rows_down n) k → (1 ≤ k) × (k ≤ n)
 rows_back zero k h = absurd h
@@ -96,9 +81,7 @@ module _ (constants : JobConstants) (job : Job) (numbers : ℕ → List ℕ) (ro
   ]
 
   pub entry : (n : ℕ) → 1 ≤ n → n ≤ rows → Has constants.dictionary.cells (Original n)
-  entry n low high =
-      let long : length (reverse constants.dictionary.cells) ≡ length constants.dictionary.cells = length-reverse constants.dictionary.cells in
-      has_reverse_back constants.dictionary.cells (Original n) (entry_there 1 n constants.segments (reverse constants.dictionary.cells) unchanging.dictionary low (omega (arith, high, rows_are, long)))
+  entry n low high = grind (arith, length-reverse, has_reverse_back, entry_there)
 
   pub entry_owned : (n : ℕ) → Has constants.dictionary.cells (Original n) → OwnsArray job.arrays 1 n
   entry_owned n there = all_in (EntryInOrder job.arrays) constants.dictionary.cells (Original n) order.entries there
@@ -117,9 +100,7 @@ module _ (constants : JobConstants) (job : Job) (numbers : ℕ → List ℕ) (ro
 
   rows_fall : (n bound : ℕ) → n ≤ rows → n < bound → Falls bound (map relabel (rows_down n))
   rows_fall zero bound high low = tt
-  rows_fall (suc n) bound high low =
-      let is = row_named (suc n) (omega arith) high in
-      (omega (arith, is, low), rows_fall n (relabel (suc n)) (omega (arith, high)) (omega (arith, is)))
+  rows_fall (suc n) bound high low = grind (arith, row_named, rows_fall n (relabel (suc n)))
 
   few_rows : rows < named 1 0
   few_rows = let few = unchanging.entries in omega (arith, few, rows_are)

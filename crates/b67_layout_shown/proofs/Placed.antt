@@ -1,9 +1,8 @@
 -- An array's name by place is that of its only original; so these names fall in the order of places.
 use Rattle.std.proofs.Common.{◌≡◌, ℕ, suc, ◌+◌, ◌^◌, ◌<◌, ◌≤◌, Bool, true, List, [], ◌∷◌, map, length, Option, Some, None, refl, sym, ◌∙◌, ap, subst, arith, inl, inr}
 use Rattle.std.specs.Prelude.{◌⊎◌, if◌then◌else◌}
-use Rattle.std.proofs.lemmas.Bool.{eq-eqb, cases_eq}
+use Rattle.std.proofs.lemmas.Bool.{eq-eqb}
 use Rattle.std.proofs.lemmas.Bool.Decides.{eqb_tells}
-use Rattle.std.proofs.lemmas.Option.{none-some}
 use Rattle.b67_lemmas.specs.Lists.{Has, total, how_many, Falls}
 use Rattle.b67_lemmas.proofs.Members.{falls_more, total_has}
 use Rattle.b67_model.specs.Words as Words
@@ -14,15 +13,11 @@ use Rattle.b67_layout_shown.proofs.Arrays.{cell_none, under_none}
 -- ---- the only original is the one that is found
 
 some_under : (number : ℕ) (fs : List Frame) (a n : ℕ) → array_under number fs a ≡ Some n → 1 ≤ originals_in a fs
-some_under number fs a n e = elim (cases_eq (originals_in a fs) 0) [
-  | inl z ↦ absurd (none-some n (sym (under_none number fs a z) ∙ e))
-  | inr z ↦ omega (arith, z)
-]
+some_under number fs a n e = grind (arith, under_none)
 
 among_at : (tasks : List Task) (t : Task) (a n : ℕ) → Has tasks t → array_under t.number t.frames a ≡ Some n → total (λ (u : Task). originals_in a u.frames) tasks ≤ 1 → array_among tasks a ≡ n
 among_at [] t a n there e once = absurd there
-among_at (u ∷ more) t a n (inl same) e once =
-    subst (λ (v : Task). or_else (array_under v.number v.frames a) (array_among more a) ≡ n) (sym same) (ap (λ (o : Option ℕ). or_else o (array_among more a)) e)
+among_at (u ∷ more) t a n (inl same) e once = grind arith
 among_at (u ∷ more) t a n (inr there) e once =
     let one = some_under t.number t.frames a n e in
     let all = total_has (λ (v : Task). originals_in a v.frames) more t there in
@@ -59,10 +54,7 @@ module _ (relabel : ℕ → ℕ) (number : ℕ) where
 
   some_more : (low : ℕ) (more : List Word) (deeper : ℕ → Option ℕ) (rest : ℕ → ℕ) → ((a : ℕ) → rest a ≡ 0 → deeper a ≡ None) → (a n : ℕ) → array_by number (cell_of_original low more a) (deeper a) ≡ Some n
       → 1 ≤ how_many (is_original_of a) more + rest a
-  some_more low more deeper rest none a n e = elim (cases_eq (how_many (is_original_of a) more + rest a) 0) [
-    | inl z ↦ absurd (none-some n (sym (ap (λ (o : Option ℕ). array_by number o (deeper a)) (cell_none low more a (omega (arith, z))) ∙ none a (omega (arith, z))) ∙ e))
-    | inr z ↦ omega (arith, z)
-  ]
+  some_more low more deeper rest none a n e = grind (arith, cell_none)
 
   next_found : (low : ℕ) (b : ℕ) (more : List Word) (deeper : ℕ → Option ℕ) (rest : ℕ → ℕ) → ((a : ℕ) → rest a ≡ 0 → deeper a ≡ None) → ((a : ℕ) → how_many (is_original_of a) (Original b ∷ more) + rest a ≤ 1)
       → Finds low (Original b ∷ more) deeper → Finds low more deeper
@@ -113,9 +105,7 @@ module _ (relabel : ℕ → ℕ) (number : ℕ) where
   falls_from low (Ref identity offset ∷ cells) more p h = falls_more (named number (low + length cells)) (named number (low + suc (length cells))) (map relabel (originals_from cells more)) (omega arith) (falls_from low cells more p.1 h)
   falls_from low (Row b ∷ cells) more p h = falls_more (named number (low + length cells)) (named number (low + suc (length cells))) (map relabel (originals_from cells more)) (omega arith) (falls_from low cells more p.1 h)
   falls_from low (Element b index ∷ cells) more p h = falls_more (named number (low + length cells)) (named number (low + suc (length cells))) (map relabel (originals_from cells more)) (omega arith) (falls_from low cells more p.1 h)
-  falls_from low (Original b ∷ cells) more p h =
-      let at = p.0 in
-      (omega (arith, at), falls_more (named number (low + length cells)) (relabel b) (map relabel (originals_from cells more)) (omega (arith, at)) (falls_from low cells more p.1 h))
+  falls_from low (Original b ∷ cells) more p h = grind (arith, falls_from low cells more p.1 h)
   falls_from low (Proc segment level place ∷ cells) more p h = falls_more (named number (low + length cells)) (named number (low + suc (length cells))) (map relabel (originals_from cells more)) (omega arith) (falls_from low cells more p.1 h)
   falls_from low (Intrinsic k ∷ cells) more p h = falls_more (named number (low + length cells)) (named number (low + suc (length cells))) (map relabel (originals_from cells more)) (omega arith) (falls_from low cells more p.1 h)
   falls_from low (Words.Segment k ∷ cells) more p h = falls_more (named number (low + length cells)) (named number (low + suc (length cells))) (map relabel (originals_from cells more)) (omega arith) (falls_from low cells more p.1 h)
@@ -211,13 +201,7 @@ from_back (Words.Segment n ∷ cells) more a h = elim (from_back cells more a h)
 
 under_back : (fs : List Frame) (more : List ℕ) (a : ℕ) → Has (originals_under fs more) a → HasOriginal fs a ⊎ Has more a
 under_back [] more a h = inr h
-under_back (f ∷ below) more a h = elim (from_back f.cells (originals_under below more) a h) [
-  | inl k ↦ inl (record { frame = f; among = inl refl; word = k })
-  | inr k ↦ elim (under_back below more a k) [
-    | inl o ↦ inl (record { frame = o.frame; among = inr o.among; word = o.word })
-    | inr m ↦ inr m
-  ]
-]
+under_back (f ∷ below) more a h = grind (arith, from_back, under_back below more a)
 
 pub record IsOriginalIn (tasks : List Task) (a : ℕ) : Type 0 where
   pub task : Task
@@ -228,10 +212,4 @@ pub record IsOriginalIn (tasks : List Task) (a : ℕ) : Type 0 where
 
 pub among_back : (tasks : List Task) (more : List ℕ) (a : ℕ) → Has (originals_among tasks more) a → IsOriginalIn tasks a ⊎ Has more a
 among_back [] more a h = inr h
-among_back (t ∷ tasks) more a h = elim (under_back t.frames (originals_among tasks more) a h) [
-  | inl o ↦ inl (record { task = t; live = inl refl; frame = o.frame; among = o.among; word = o.word })
-  | inr k ↦ elim (among_back tasks more a k) [
-    | inl o ↦ inl (record { task = o.task; live = inr o.live; frame = o.frame; among = o.among; word = o.word })
-    | inr m ↦ inr m
-  ]
-]
+among_back (t ∷ tasks) more a h = grind (arith, under_back, among_back tasks more a)

@@ -1,6 +1,6 @@
 -- A job keeps its order under names by place.
-use Rattle.std.proofs.Common.{◌≡◌, ◌≢◌, ℕ, ◌+◌, ◌*◌, ◌^◌, ◌<◌, ◌≤◌, ◌==◌, Bool, List, [], ◌∷◌, map, length, refl, sym, ◌∙◌, ap, subst, arith, inl, inr}
-use Rattle.std.specs.Prelude.{◌↔◌, if◌then◌else◌}
+use Rattle.std.proofs.Common.{◌≡◌, ◌≢◌, ℕ, ◌+◌, ◌*◌, ◌^◌, ◌<◌, ◌≤◌, ◌==◌, List, [], ◌∷◌, map, length, refl, sym, ◌∙◌, ap, subst, arith, inl, inr}
+use Rattle.std.specs.Prelude.{◌↔◌}
 use Rattle.std.specs.List.{AllByRecursion}
 use Rattle.std.proofs.lemmas.List.{length-map}
 use Rattle.b67_lemmas.specs.Lists.{Has, total, how_many, Falls}
@@ -111,18 +111,7 @@ module _ (constants constants' : JobConstants) (job : Job) (numbers : ℕ → Li
     name_of number (g ∷ below) f (inr h) names = name_of number below f h names.1
 
   array_order : (item : Array) → Has job.arrays item → ArrayInOrder (array_named rename relabel numbers item)
-  array_order item live =
-      let own = all_in ArrayInOrder job.arrays item order.arrays live in
-      let f = fits item live in
-      let low = own.length_low in
-      let high = own.length_high in
-      let by = owner_by item live in
-      record {
-        length_low = omega (arith, low, f.0);
-        length_high = omega (arith, high, f.0);
-        words = f.1;
-        writes = (λ e. by.1 (own.writes.0 e), λ e. own.writes.1 (by.0 e));
-      }
+  array_order item live = grind (arith, all_in, owner_by)
 
   arrays_order : AllByRecursion ArrayInOrder job'.arrays
   arrays_order = all_map (λ n. array_named rename relabel numbers (array job n)) ArrayInOrder (originals_among job.tasks (rows_down rows))
@@ -148,8 +137,7 @@ module _ (constants constants' : JobConstants) (job : Job) (numbers : ℕ → Li
   entry_same a ha (Words.Segment number) h o = refl
 
   originals_dictionary : (a : Array) → Has job.arrays a → how_many (is_original_of (relabel a.identity)) constants.dictionary.cells ≡ how_many (is_original_of a.identity) constants.dictionary.cells
-  originals_dictionary a ha = total_same (λ (w : Word). if is_original_of (relabel a.identity) w then 1 else 0) (λ (w : Word). if is_original_of a.identity w then 1 else 0) constants.dictionary.cells
-      (λ w h. ap (λ (b : Bool). if b then 1 else 0) (entry_same a ha w h (all_in (EntryInOrder job.arrays) constants.dictionary.cells w order.entries h)))
+  originals_dictionary a ha = grind (arith, total_same, entry_same, all_in)
 
   originals_same : (a : Array) → Has job.arrays a → originals_of (relabel a.identity) constants' job' ≡ originals_of a.identity constants job
   originals_same a ha =

@@ -1,11 +1,10 @@
 -- The placement that a machine shows, against one by which it represents a session.
-use Rattle.std.proofs.Common.{◌≡◌, ◌≢◌, ℕ, ◌+◌, ◌*◌, ◌/◌, ◌%◌, ◌^◌, ◌<◌, ◌≤◌, ◌==◌, Bool, true, false, List, [], ◌∷◌, reverse, length, Option, refl, sym, ◌∙◌, ap, subst, arith, inl, inr, lt-ltb, le-ltb}
+use Rattle.std.proofs.Common.{◌≡◌, ◌≢◌, ℕ, ◌+◌, ◌*◌, ◌/◌, ◌%◌, ◌^◌, ◌<◌, ◌≤◌, ◌==◌, Bool, true, false, List, [], ◌∷◌, reverse, length, Option, refl, sym, ◌∙◌, ap, subst, arith, inl, inr, lt-ltb}
 use Rattle.std.specs.Prelude.{◌⊎◌, if◌then◌else◌, unwrap_or}
 use Rattle.std.proofs.lemmas.List.{length-reverse}
-use Rattle.std.proofs.lemmas.Bool.{ne_eqb, eq-eqb}
+use Rattle.std.proofs.lemmas.Bool.{ne_eqb}
 use Rattle.std.proofs.lemmas.Bool.Decides.{eqb_tells}
 use Rattle.std.proofs.lemmas.Option.{same_Some}
-use Rattle.std.proofs.Math.Arith.{digits_div, digits_mod}
 use Rattle.b67_lemmas.specs.Lists.{Has}
 use Rattle.b67_lemmas.proofs.Members.{all_in, keyed_falls, has_map, has_map_back, has_reverse}
 use Rattle.b67_model.specs.Keyed.{keyed}
@@ -41,14 +40,7 @@ pub record MemberOf (k : Sight) (plan : Placement) (n : ℕ) (rows : List JobRow
 pub member_of : (k : Sight) (plan : Placement) (n : ℕ) (ms : List SessionJob) (rows : List JobRow) (m : SessionJob) → NumberedFrom n ms → JobsShow plan ms rows → Has ms m → MemberOf k plan n rows m
 member_of k plan n [] rows m o shows h = absurd h
 member_of k plan n (y ∷ more) [] m o shows h = absurd shows
-member_of k plan n (y ∷ more) (row ∷ rows) m o shows (inl e) =
-    subst (MemberOf k plan n (row ∷ rows)) e (record {
-      row = row;
-      shows = shows.0;
-      among = inl (ap (member_in k row) (sym o.0));
-      dictionary = ap (λ (b : Bool). if b then row.dictionary else dictionary_from rows (n + 1) y.constants.number) (eq-eqb y.constants.number n o.0);
-      segments = ap (λ (b : Bool). if b then row.segments else segments_of rows (n + 1) y.constants.number) (eq-eqb y.constants.number n o.0);
-    })
+member_of k plan n (y ∷ more) (row ∷ rows) m o shows (inl e) = grind arith
 member_of k plan n (y ∷ more) (row ∷ rows) m o shows (inr h) =
     let r = member_of k plan (n + 1) more rows m o.1 shows.1 h in
     let low = numbered_low (n + 1) more m o.1 h in
@@ -121,10 +113,7 @@ module _ (x : Storage) (cpu : Cpu) (plan : Placement) (s : Session) (tasks : Lis
 
   -- job and number of a row tell its slot
   slot_told : (a b : TaskRow) → Has tasks a → Has tasks b → a.job ≡ b.job → a.number ≡ b.number → a.slot ≡ b.slot
-  slot_told a b ha hb ej en =
-      let (m, t, inm, int, sa) = tables.tasks a ha in
-      let (y, u, iny, inu, sb) = tables.tasks b hb in
-      sa.slot ∙ ap (λ i. slot_of plan i t.number) (sym sa.job ∙ ej ∙ sb.job) ∙ ap (slot_of plan y.constants.number) (sym sa.number ∙ en ∙ sb.number) ∙ sym sb.slot
+  slot_told a b ha hb ej en = grind arith
 
   pub rows_fit : RowsFit (placed (record { core = cpu.core; regs = cpu.regs; tasks = tasks; jobs = jobs; counts = c })) (shown (record { core = cpu.core; regs = cpu.regs; tasks = tasks; jobs = jobs; counts = c })).jobs
   rows_fit = record {
@@ -196,11 +185,7 @@ module _ (x : Storage) (cpu : Cpu) (plan : Placement) (s : Session) (tasks : Lis
       ap (λ i. slot_numbered tasks i t.number) (sym sh.job) ∙ ap (slot_numbered tasks r.job) (sym sh.number) ∙ slot_by_number tasks (λ w a. a) r hr ∙ sh.slot
 
   home_frame : (j number disp : ℕ) → 1 ≤ number → disp < 2 ^ 14 → home_of k j (named number disp) ≡ cpu.regs.stacks + slot_numbered tasks j number * cpu.regs.stack_size + disp
-  home_frame j number disp some small =
-      ap (λ (b : Bool). if b then dictionary_from jobs 1 j + 1 + segments_of jobs 1 j + named number disp
-      else cpu.regs.stacks + slot_numbered tasks j (named number disp / 2 ^ 14) * cpu.regs.stack_size + named number disp % 2 ^ 14) (le-ltb (named number disp) (2 ^ 14) (omega (arith, some)))
-      ∙ ap (λ q. cpu.regs.stacks + slot_numbered tasks j q * cpu.regs.stack_size + named number disp % 2 ^ 14) (digits_div number small)
-      ∙ ap (λ q. cpu.regs.stacks + slot_numbered tasks j number * cpu.regs.stack_size + q) (digits_mod number small)
+  home_frame j number disp some small = grind arith
 
   pub home_row : (j n : ℕ) → n < 2 ^ 14 → home_of k j n ≡ dictionary_from jobs 1 j + 1 + segments_of jobs 1 j + n
   home_row j n small = ap (λ (b : Bool). if b then dictionary_from jobs 1 j + 1 + segments_of jobs 1 j + n else cpu.regs.stacks + slot_numbered tasks j (n / 2 ^ 14) * cpu.regs.stack_size + n % 2 ^ 14) (lt-ltb n (2 ^ 14) small)

@@ -1,13 +1,13 @@
 -- A task's reach under names by place.
 use Rattle.std.proofs.Common.{◌≡◌, ◌≢◌, ℕ, ◌<◌, ◌≤◌, ◌==◌, Bool, true, false, List, [], ◌∷◌, ◌++◌, map, Option, Some, refl, sym, ◌∙◌, ap, subst, arith, inl, inr}
-use Rattle.std.specs.Prelude.{◌⊎◌, if◌then◌else◌, option_map}
+use Rattle.std.specs.Prelude.{◌⊎◌, option_map}
 use Rattle.std.proofs.lemmas.List.{map-append, length-map}
 use Rattle.std.proofs.lemmas.Bool.{ne_eqb, eq-eqb}
 use Rattle.std.proofs.lemmas.Bool.Decides.{eqb_tells}
 use Rattle.b67_lemmas.specs.Lists.{Has}
 use Rattle.b67_lemmas.proofs.Members.{all_in, keyed_has, has_map}
 use Rattle.b67_model.specs.Keyed.{keyed}
-use Rattle.b67_model.specs.Common.{Standing, Marked, Entered, Frame, JobConstants, Task, Job, height, head_words, level_of_standing, Starts, Known, known_of, from_frame, frames_of_task, critical_of, outer_reach, outer_of, reach_of, identities, IsEntered, NamesEntered, TaskInOrder, TasksInOrder, BirthInOrder}
+use Rattle.b67_model.specs.Common.{Standing, Frame, JobConstants, Task, Job, height, head_words, level_of_standing, Starts, Known, known_of, from_frame, frames_of_task, critical_of, outer_reach, reach_of, identities, IsEntered, NamesEntered, TaskInOrder, TasksInOrder, BirthInOrder}
 use Rattle.b67_layout_shown.specs.Places.{named, name_among, standing_by, frame_by, task_by, word_by}
 use Rattle.b67_layout_shown.proofs.Frames.{Named}
 use Rattle.b67_layout_shown.proofs.Names.{named_frames}
@@ -23,35 +23,27 @@ module _ (rename relabel : ℕ → ℕ) where
   known_frames (f ∷ below) = ap (λ ks. (rename f.identity, standing_by rename f.standing) ∷ ks) (known_frames below)
 
   head_by : (s : Standing) → head_words (standing_by rename s) ≡ head_words s
-  head_by Marked = refl
-  head_by (Entered level environment back) = refl
+  head_by s = grind arith
 
   pub height_by : (fs : List Frame) → height (map (frame_by rename relabel) fs) ≡ height fs
   height_by [] = refl
   height_by (f ∷ below) = let rest = height_by below in let h = head_by f.standing in let n = length-map f.cells (word_by rename relabel) in omega (arith, rest, h, n)
 
   pub entered_by : (s : Standing) → IsEntered s → IsEntered (standing_by rename s)
-  entered_by Marked h = h
-  entered_by (Entered level environment back) h = h
+  entered_by s h = grind arith
 
   pub level_by : (s : Standing) → level_of_standing (standing_by rename s) ≡ level_of_standing s
-  level_by Marked = refl
-  level_by (Entered level environment back) = refl
+  level_by s = grind arith
 
   pub names_entered : (reach : List Known) (identity : ℕ) → NamesEntered reach identity → NamesEntered (map (known_by rename) reach) (rename identity)
   names_entered reach identity h = record { standing = standing_by rename h.standing; among = has_map (known_by rename) reach (identity, h.standing) h.among; entered = entered_by h.standing h.entered }
 
   pub keyed_by : (n : ℕ) (ts : List Task) → keyed (λ (t : Task). t.number) n (map (task_by rename relabel) ts) ≡ option_map (task_by rename relabel) (keyed (λ (t : Task). t.number) n ts)
   keyed_by n [] = refl
-  keyed_by n (t ∷ more) = by (t.number == n) (keyed_by n more) where
-    by : (b : Bool) → keyed (λ (t : Task). t.number) n (map (task_by rename relabel) more) ≡ option_map (task_by rename relabel) (keyed (λ (t : Task). t.number) n more)
-        → (if b then Some (task_by rename relabel t) else keyed (λ (t : Task). t.number) n (map (task_by rename relabel) more)) ≡ option_map (task_by rename relabel) (if b then Some t else keyed (λ (t : Task). t.number) n more)
-    by true e = refl
-    by false e = e
+  keyed_by n (t ∷ more) = grind (arith, keyed_by n more)
 
   pub head_some : (s : Standing) → 1 ≤ head_words s
-  head_some Marked = omega arith
-  head_some (Entered level environment back) = omega arith
+  head_some s = grind arith
 
   -- names fall in a list that is named by place, so that a frame is found under its name
   pub named_low : (number bound : ℕ) (fs : List Frame) → Named rename number fs → height fs ≤ bound → (c : ℕ) → Has (identities fs) c → rename c < named number bound
@@ -110,8 +102,4 @@ module _ (P : Starts) (constants : JobConstants) (job : Job) (order : TasksInOrd
       ap F (found_by parent p birth.found) ∙ middle ∙ ap G (sym birth.found)
 
   pub reach_by : (t : Task) → Has job.tasks t → reach_of job' (task_by (name_among job.tasks) relabel t) ≡ map (known_by (name_among job.tasks)) (reach_of job t)
-  reach_by t there =
-      let own = all_in (TaskInOrder P constants job) job.tasks t order.tasks there in
-      ap (λ (ks : List Known). ks ++ outer_reach job' (rename t.critical) t.parents) (known_frames (name_among job.tasks) relabel t.frames)
-      ∙ ap (λ (ks : List Known). map (known_by (name_among job.tasks)) (map known_of t.frames) ++ ks) (outer_by t.parents t own.birth)
-      ∙ sym (map-append (known_by (name_among job.tasks)) (map known_of t.frames) (outer_of job t))
+  reach_by t there = grind (arith, all_in, known_frames, outer_by, map-append)

@@ -7,7 +7,7 @@ use Rattle.b67_lemmas.specs.Lists.{Has}
 use Rattle.b67_lemmas.proofs.Members.{all_in, keyed_falls, has_reverse, total_has}
 use Rattle.b67_model.specs.Common.{Word, Original, Frame, Task, SessionJob, Array, Session, IsSegment, TaskInOrder, NumberedFrom, is_original_of, originals_of}
 use Rattle.b67_stack.specs.declared.Cpu.{Cpu}
-use Rattle.b67_stack.specs.Common.{Fits, LieDownward, Activation, mark_place, stack_words, words, stack_of, Storage}
+use Rattle.b67_stack.specs.Common.{Fits, LieDownward, mark_place, stack_words, words, stack_of, Storage}
 use Rattle.b67_layout.specs.Common.{Placement, slot_of, outer_spots, activations, stack_of_task, machine_view, slot_at, TaskRow, JobRow, JobCounts, JobShows, TablesShow, JobInOrderButCounts, IsInOrderButCounts, RepresentsSession}
 use Rattle.b67_law_order.proofs.Numbered.{keyed_member}
 use Rattle.b67_layout.proofs.Common.{task_row, stack_in_slot, original_of, entry_number}
@@ -41,9 +41,7 @@ module _ (x : Storage) (cpu : Cpu) (plan : Placement) (s : Session) (m : Session
 
   pub lies : (u : Task) → Has m.progress.job.tasks u → let k = slot_of plan m.constants.number u.number in
       LieDownward (Fits x.held) cpu.core (suc (plan.stacks + k * plan.size)) (words k (stack_of_task plan m.constants.number m.progress.job k u))
-  lies u there =
-      let k = slot_of plan m.constants.number u.number in
-      subst (λ (st : List Activation). LieDownward (Fits x.held) cpu.core (suc (plan.stacks + k * plan.size)) (words k st)) (stack_is u there) (stands.holds.memory.stacks k (slot_below u there))
+  lies u there = grind (arith, stack_is, slot_below)
 
   pub slot_shows : (u : Task) → Has m.progress.job.tasks u → number_seen tasks (slot_of plan m.constants.number u.number) ≡ u.number
   slot_shows u there =

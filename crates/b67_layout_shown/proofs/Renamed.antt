@@ -1,17 +1,16 @@
 -- The activation records of a task under names by place are the same in core.
-use Rattle.std.proofs.Common.{◌≡◌, ◌≢◌, ℕ, ◌+◌, ◌^◌, ◌<◌, ◌==◌, Bool, true, false, List, [], ◌∷◌, ◌++◌, map, Option, Some, None, refl, sym, ◌∙◌, ap, subst, arith, inl, inr}
-use Rattle.std.specs.Prelude.{◌⊎◌, not, if◌then◌else◌}
+use Rattle.std.proofs.Common.{◌≡◌, ◌≢◌, ℕ, ◌+◌, ◌^◌, ◌<◌, ◌==◌, Bool, true, false, List, [], ◌∷◌, ◌++◌, map, Option, refl, sym, ◌∙◌, ap, subst, arith, inl, inr}
+use Rattle.std.specs.Prelude.{◌⊎◌, if◌then◌else◌}
 use Rattle.std.specs.List.{AllByRecursion}
 use Rattle.std.proofs.lemmas.Bool.{ne_eqb, eq-eqb}
 use Rattle.std.proofs.lemmas.Bool.Decides.{eqb_tells}
 use Rattle.b67_lemmas.specs.Lists.{Has, Falls}
 use Rattle.b67_lemmas.proofs.Members.{all_in, falls_low, keyed_has}
 use Rattle.b67_model.specs.Words as Words
-use Rattle.b67_model.specs.Common.{Word, Operand, Name, Ref, Row, Element, Original, Proc, Intrinsic, Standing, Marked, Entered, Frame, Array, Task, Job, JobConstants, height, array, Starts, Known, known_of, known_numbers, base, from_frame, frames_of_task, critical_of, outer_reach, outer_of, reach_of, NamesEntered, WordInOrder, StandsInOrder, FramesInOrder, BirthInOrder, TaskInOrder, TasksInOrder}
+use Rattle.b67_model.specs.Common.{Word, Standing, Frame, Array, Task, Job, JobConstants, height, array, Starts, Known, known_of, known_numbers, base, from_frame, frames_of_task, critical_of, outer_reach, outer_of, reach_of, NamesEntered, WordInOrder, StandsInOrder, FramesInOrder, BirthInOrder, TaskInOrder, TasksInOrder}
 use Rattle.b67_stack.specs.Shapes as Shapes
-use Rattle.b67_stack.specs.Common.{Shape, Is, Copy, StackPlace, Head, Activation}
+use Rattle.b67_stack.specs.Common.{Shape, StackPlace, Head, Activation}
 use Rattle.b67_stack.specs.Stacks as Stacks
-use Rattle.b67_ctl.specs.Layout.{sirw_word}
 use Rattle.b67_layout.specs.Common.{Placement, slot_of, spot_in, spots, base_spot, outer_spots, shape, head, activations, stack_of_task}
 use Rattle.b67_layout_shown.specs.Places.{named, name_among, word_by, standing_by, frame_by, task_by}
 use Rattle.b67_layout_shown.proofs.Reach.{known_by, height_by, from_by, found_by}
@@ -66,33 +65,15 @@ module _ (plan plan' : Placement) (j : ℕ) (job job' : Job) (rename relabel : �
     (writes : (a : Array) → Has job.arrays a → (array job' (relabel a.identity)).writable ≡ (array job a.identity).writable) where
   word_same : (P : Starts) (spot spot' : ℕ → StackPlace) (reach : List Known) (owner : ℕ) → ((n : ℕ) → Has (known_numbers reach) n → spot' (rename n) ≡ spot n)
       → (w : Word) → WordInOrder P job.arrays reach owner w → shape plan' j job' spot' (word_by rename relabel w) ≡ shape plan j job spot w
-  word_same P spot spot' reach owner spots (Operand bits) h = refl
-  word_same P spot spot' reach owner spots (Name couple) h = refl
-  word_same P spot spot' reach owner spots (Ref identity offset) h =
-      ap (λ (p : StackPlace). Is (sirw_word (record { stack = p.stack; disp = p.disp; offset = offset }))) (spots identity (entered_known reach identity h.0))
-  word_same P spot spot' reach owner spots (Row a) h =
-      subst (λ i. Copy (record { index = None; read_only = not (array job' (relabel i)).writable }) (plan'.home j (relabel i)) ≡ Copy (record { index = None; read_only = not (array job i).writable }) (plan.home j i)) h.named
-      (ap (λ (b : Bool). Copy (record { index = None; read_only = not b }) (plan'.home j (relabel h.item.identity))) (writes h.item h.live)
-      ∙ ap (λ q. Copy (record { index = None; read_only = not (array job h.item.identity).writable }) q) (homes h.item h.live))
-  word_same P spot spot' reach owner spots (Element a index) h =
-      subst (λ i. Copy (record { index = Some index; read_only = not (array job' (relabel i)).writable }) (plan'.home j (relabel i)) ≡ Copy (record { index = Some index; read_only = not (array job i).writable }) (plan.home j i)) h.named
-      (ap (λ (b : Bool). Copy (record { index = Some index; read_only = not b }) (plan'.home j (relabel h.item.identity))) (writes h.item h.live)
-      ∙ ap (λ q. Copy (record { index = Some index; read_only = not (array job h.item.identity).writable }) q) (homes h.item h.live))
-  word_same P spot spot' reach owner spots (Original a) h = subst (λ i. Shapes.Original (plan'.home j (relabel i)) ≡ Shapes.Original (plan.home j i)) h.named (ap Shapes.Original (homes h.item h.live))
-  word_same P spot spot' reach owner spots (Proc segment level place) h = refl
-  word_same P spot spot' reach owner spots (Intrinsic number) h = absurd h
-  word_same P spot spot' reach owner spots (Words.Segment number) h = absurd h
+  word_same P spot spot' reach owner k w h = grind (arith, entered_known)
 
   words_same : (P : Starts) (spot spot' : ℕ → StackPlace) (reach : List Known) (owner : ℕ) → ((n : ℕ) → Has (known_numbers reach) n → spot' (rename n) ≡ spot n)
       → (ws : List Word) → AllByRecursion (WordInOrder P job.arrays reach owner) ws → map (shape plan' j job' spot') (map (word_by rename relabel) ws) ≡ map (shape plan j job spot) ws
   words_same P spot spot' reach owner spots [] h = refl
-  words_same P spot spot' reach owner spots (w ∷ ws) h =
-      ap (λ x. x ∷ map (shape plan' j job' spot') (map (word_by rename relabel) ws)) (word_same P spot spot' reach owner spots w h.0) ∙ ap (λ xs. shape plan j job spot w ∷ xs) (words_same P spot spot' reach owner spots ws h.1)
+  words_same P spot spot' reach owner spots (w ∷ ws) h = grind (arith, word_same, words_same P spot spot' reach owner spots ws h.1)
 
   head_same : (spot spot' : ℕ → StackPlace) (reach : List Known) → ((n : ℕ) → Has (known_numbers reach) n → spot' (rename n) ≡ spot n) → (s : Standing) → StandsInOrder reach s → head spot' (standing_by rename s) ≡ head spot s
-  head_same spot spot' reach spots Marked h = refl
-  head_same spot spot' reach spots (Entered level environment back) h =
-      ap (λ (p : StackPlace). Stacks.Entered level p back) (spots environment (entered_known reach environment (record { standing = h.standing; among = h.among; entered = h.entered })))
+  head_same spot spot' reach k s h = grind (arith, entered_known)
 
   pub stack_same : (P : Starts) (k bound : ℕ) (outer outer' : ℕ → StackPlace) (outside : List Known)
       → ((n : ℕ) → Has (known_numbers outside) n → outer' (rename n) ≡ outer n)

@@ -4,7 +4,7 @@ use Rattle.std.specs.Prelude.{◌⊎◌, eqb, if◌then◌else◌}
 use Rattle.b67_lemmas.specs.Lists.{Has, how_many}
 use Rattle.b67_lemmas.proofs.Members.{all_in, has_append_cases, has_append_left, has_append_right, has_map, has_map_back, keyed_left, keyed_right, total_flat, total_zero}
 use Rattle.b67_model.specs.Keyed.{keyed}
-use Rattle.b67_model.specs.Common.{Standing, Marked, Entered, Frame, Task, Job, JobConstants, OperatorContext, mcp, no_frame, frame, level_of_standing, environment_of, level_of_frame, running_from, running, outward, frame_at, Starts, IsSegment, Known, known_of, known_numbers, base, reach_of, outer_of, frames_named, StandsInOrder, FramesInOrder, SettingInOrder, TaskInOrder, TasksInOrder}
+use Rattle.b67_model.specs.Common.{Standing, Marked, Entered, Frame, Task, Job, JobConstants, OperatorContext, mcp, no_frame, frame, environment_of, level_of_frame, running, outward, frame_at, Starts, IsSegment, Known, known_of, known_numbers, base, reach_of, outer_of, frames_named, StandsInOrder, FramesInOrder, SettingInOrder, TaskInOrder, TasksInOrder}
 use Rattle.b67_law_order.proofs.Looks.{IsFrame, Line, line_of, found_frame}
 use Rattle.b67_layout_shown.specs.Places.{name_among, standing_by, frame_by, task_by}
 use Rattle.b67_layout_shown.proofs.Outer.{name_low, none_low}
@@ -122,8 +122,7 @@ module _ (constants constants' : JobConstants) (job job' : Job) (unchanging : Se
   -- ---- static links
 
   env_by : (s : Standing) → environment_of (standing_by (name_among job.tasks) s) ≡ name_among job.tasks (environment_of s)
-  env_by Marked = sym rename_0
-  env_by (Entered level environment back) = refl
+  env_by s = grind (arith, rename_0)
 
   pub record Goes (g' g : Frame) : Type 0 where
     pub same : known_of g' ≡ known_by (name_among job.tasks) (known_of g)
@@ -144,19 +143,11 @@ module _ (constants constants' : JobConstants) (job job' : Job) (unchanging : Se
 
   running_by : (fs : List Frame) → running (map (frame_by (name_among job.tasks) relabel) fs) ≡ frame_by (name_among job.tasks) relabel (running fs)
   running_by [] = ap (λ i. record { identity = i; standing = Marked; cells = [] }) (sym rename_0)
-  running_by (f ∷ below) = by f.standing (running_by below) where
-    by : (s : Standing) → running (map (frame_by (name_among job.tasks) relabel) below) ≡ frame_by (name_among job.tasks) relabel (running below)
-        → running_from (standing_by (name_among job.tasks) s) (frame_by (name_among job.tasks) relabel f) (running (map (frame_by (name_among job.tasks) relabel) below)) ≡ frame_by (name_among job.tasks) relabel (running_from s f (running below))
-    by Marked e = e
-    by (Entered level environment back) e = refl
+  running_by (f ∷ below) = grind (arith, running_by below)
 
   running_in : (fs : List Frame) → (running fs ≡ no_frame) ⊎ Has fs (running fs)
   running_in [] = inl refl
-  running_in (f ∷ below) = by f.standing (running_in below) where
-    by : (s : Standing) → (running below ≡ no_frame) ⊎ Has below (running below) → (running_from s f (running below) ≡ no_frame) ⊎ Has (f ∷ below) (running_from s f (running below))
-    by Marked (inl e) = inl e
-    by Marked (inr k) = inr (inr k)
-    by (Entered level environment back) r = inr (inl refl)
+  running_in (f ∷ below) = grind (arith, running_in below)
 
   start : Goes (running (map (frame_by (name_among job.tasks) relabel) t.frames)) (running t.frames)
   start =
@@ -169,10 +160,7 @@ module _ (constants constants' : JobConstants) (job job' : Job) (unchanging : Se
             (counted (reach_of job t) (running t.frames).identity (running t.frames).standing among, (found (running t.frames).identity (running t.frames).standing among).link)
 
   level_same : level_of_frame (running (map (frame_by (name_among job.tasks) relabel) t.frames)) ≡ level_of_frame (running t.frames)
-  level_same = ap level_of_frame (running_by t.frames) ∙ by (running t.frames).standing where
-    by : (s : Standing) → level_of_standing (standing_by (name_among job.tasks) s) ≡ level_of_standing s
-    by Marked = refl
-    by (Entered level environment back) = refl
+  level_same = grind (arith, running_by)
 
   -- the frame at a level, under its name
   pub at_level : (n : ℕ) → Goes (frame_at h' n) (frame_at h n)

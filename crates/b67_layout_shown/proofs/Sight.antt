@@ -1,17 +1,14 @@
 -- What is seen of a task's reach is the reach of what is shown.
-use Rattle.std.proofs.Common.{◌≡◌, ℕ, zero, suc, ◌+◌, ◌==◌, Bool, List, [], ◌∷◌, ◌++◌, map, Option, Some, None, refl, sym, ◌∙◌, ap, arith, inl, inr, lt-ltb, le-ltb}
-use Rattle.std.specs.Prelude.{if◌then◌else◌}
+use Rattle.std.proofs.Common.{◌≡◌, ℕ, zero, suc, List, [], ◌∷◌, ◌++◌, map, Option, Some, None, refl, sym, ◌∙◌, ap, arith}
 use Rattle.std.proofs.lemmas.List.{map-append}
-use Rattle.std.proofs.lemmas.Bool.{ne_eqb, eq-eqb}
-use Rattle.std.proofs.lemmas.Bool.Decides.{eqb_tells}
 use Rattle.b67_lemmas.specs.Lists.{Has}
 use Rattle.b67_lemmas.proofs.Members.{keyed_has}
 use Rattle.b67_model.specs.Keyed.{keyed}
 use Rattle.b67_model.specs.Common.{Frame, Task, Known, known_of, from_frame, frames_of_task, critical_of, outer_reach}
-use Rattle.b67_stack.specs.Stacks.{StackPlace, Activation, stack_words}
+use Rattle.b67_stack.specs.Stacks.{StackPlace, Activation}
 use Rattle.b67_layout.specs.Rows.{TaskRow, JobRow}
 use Rattle.b67_layout_shown.specs.Places.{named}
-use Rattle.b67_layout_shown.specs.Shown.{Sight, number_by, number_seen, frame_seen, array_homed, standing_of, frames_of, stack_of_row, parents_by, critical_by, job_seen}
+use Rattle.b67_layout_shown.specs.Shown.{Sight, frame_seen, array_homed, frames_of, stack_of_row, parents_by, critical_by, job_seen}
 use Rattle.b67_layout_shown.specs.Seen.{seen_in, from_disp, base_seen, seen_from, known_seen, RowsAreSound, ReachIsSeen}
 
 module _ (k : Sight) (row : JobRow) (job : ℕ) (sound : RowsAreSound k row job) where
@@ -22,31 +19,18 @@ module _ (k : Sight) (row : JobRow) (job : ℕ) (sound : RowsAreSound k row job)
   arrays = array_homed k.regs k.tasks row
 
   in_slot : (r : TaskRow) → Has k.tasks r → (d : ℕ) → frame_seen k.tasks job (record { stack = r.slot; disp = d }) ≡ named r.number d
-  in_slot r there d =
-      ap (λ (b : Bool). if b then named (number_seen k.tasks r.slot) d else (if r.slot == 127 + job then 1 else 0)) (lt-ltb r.slot 120 (sound.low r there))
-      ∙ ap (λ (o : Option TaskRow). named (number_by o) d) (sound.found r there)
+  in_slot r there d = grind arith
 
   own_seen : (r : TaskRow) → Has k.tasks r → (acts : List Activation) → map known_of (frames_of r.number (frame_seen k.tasks job) arrays acts) ≡ map (known_seen k job) (seen_in r.slot acts)
   own_seen r there [] = refl
-  own_seen r there (a ∷ below) =
-      ap (λ n. (n, standing_of (frame_seen k.tasks job) a.head) ∷ map known_of (frames_of r.number (frame_seen k.tasks job) arrays below)) (sym (in_slot r there (stack_words below + 1)))
-      ∙ ap (λ ks. known_seen k job (record { stack = r.slot; disp = stack_words below + 1 }, a.head) ∷ ks) (own_seen r there below)
+  own_seen r there (a ∷ below) = grind (arith, own_seen r there below)
 
   from_same : (number disp : ℕ) (acts : List Activation) → from_frame (named number disp) (frames_of number (frame_seen k.tasks job) arrays acts) ≡ frames_of number (frame_seen k.tasks job) arrays (from_disp disp acts)
   from_same number disp [] = refl
-  from_same number disp (a ∷ below) = elim (eqb_tells (stack_words below + 1) disp) [
-    | inl q ↦ rw (eq-eqb (named number (stack_words below + 1)) (named number disp) (ap (named number) q.1), q.0) refl
-    | inr q ↦ rw (ne_eqb (named number (stack_words below + 1)) (named number disp) (λ z. q.1 (omega (arith, z))), q.0) (from_same number disp below)
-  ]
+  from_same number disp (a ∷ below) = grind (arith, from_same number disp below)
 
   base_known : map (known_seen k job) (base_seen job) ≡ outer_reach (job_seen k row job) 0 []
-  base_known =
-      let few = sound.few in
-      let one : frame_seen k.tasks job (record { stack = 127 + job; disp = 0 }) ≡ 1 =
-      ap (λ (b : Bool). if b then named (number_seen k.tasks (127 + job)) 0 else (if 127 + job == 127 + job then 1 else 0)) (le-ltb (127 + job) 120 (omega arith))
-      ∙ ap (λ (b : Bool). if b then 1 else 0) (eq-eqb (127 + job) (127 + job) refl) in
-      let nil : frame_seen k.tasks job (record { stack = 136; disp = 0 }) ≡ 0 = ap (λ (b : Bool). if b then 1 else 0) (ne_eqb 136 (127 + job) (λ e. omega (arith, e, few))) in
-      rw (one, nil) refl
+  base_known = grind arith
 
   outer_seen : (n disp : ℕ) (p : Option TaskRow) → ((q : TaskRow) → p ≡ Some q → Has k.tasks q × (q.job ≡ job))
       → outer_reach (job_seen k row job) (critical_by k.tasks disp p) (parents_by k.tasks n p) ≡ map (known_seen k job) (seen_from k job n disp p)

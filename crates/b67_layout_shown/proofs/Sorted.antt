@@ -1,6 +1,6 @@
 -- A job's rows by falling numbers are those of its tasks.
 use Rattle.std.proofs.Common.{◌≡◌, ◌≢◌, ℕ, ◌<◌, ◌≤◌, ◌==◌, Bool, true, false, List, [], ◌∷◌, map, filter, refl, sym, ◌∙◌, ap, subst, arith, inl, inr, lt-ltb, le-ltb}
-use Rattle.std.specs.Prelude.{◌⊎◌, nat_lt, if◌then◌else◌}
+use Rattle.std.specs.Prelude.{◌⊎◌, if◌then◌else◌}
 use Rattle.std.proofs.lemmas.Bool.{eq-eqb, eqb-true, cases_lt, cases_Bool}
 use Rattle.std.proofs.lemmas.Option.{same_Some}
 use Rattle.b67_lemmas.specs.Lists.{Has, Falls}
@@ -8,7 +8,7 @@ use Rattle.b67_lemmas.proofs.Members.{falls_low, falls_same, has_map, has_map_ba
 use Rattle.b67_law_order.proofs.Numbered.{keyed_member}
 use Rattle.b67_model.specs.Common.{Task, SessionJob, number_of, Session, NumberedFrom}
 use Rattle.b67_model.specs.Keyed.{keyed}
-use Rattle.b67_layout.specs.Common.{Placement, slot_of, TaskRow, JobRow, JobCounts, TaskShows, Differ, TablesShow}
+use Rattle.b67_layout.specs.Common.{Placement, TaskRow, JobRow, JobCounts, TaskShows, Differ, TablesShow}
 use Rattle.b67_layout_shown.specs.Shown.{insert_row, sorted, rows_of}
 
 -- ---- sorting
@@ -19,23 +19,12 @@ number_in r = r.number
 insert_has : (r : TaskRow) (xs : List TaskRow) (q : TaskRow) → Has (insert_row r xs) q → (r ≡ q) ⊎ Has xs q
 insert_has r [] q (inl e) = inl e
 insert_has r [] q (inr h) = absurd h
-insert_has r (x ∷ more) q h = by (nat_lt x.number r.number) h (λ k. insert_has r more q k) where
-  by : (b : Bool) → Has (if b then r ∷ x ∷ more else x ∷ insert_row r more) q → (Has (insert_row r more) q → (r ≡ q) ⊎ Has more q) → (r ≡ q) ⊎ Has (x ∷ more) q
-  by true (inl e) rest = inl e
-  by true (inr k) rest = inr k
-  by false (inl e) rest = inr (inl e)
-  by false (inr k) rest = elim (rest k) [ inl e ↦ inl e | inr z ↦ inr (inr z) ]
+insert_has r (x ∷ more) q h = grind (arith, insert_has r more q)
 
 insert_there : (r : TaskRow) (xs : List TaskRow) (q : TaskRow) → (r ≡ q) ⊎ Has xs q → Has (insert_row r xs) q
 insert_there r [] q (inl e) = inl e
 insert_there r [] q (inr h) = absurd h
-insert_there r (x ∷ more) q h = by (nat_lt x.number r.number) h (λ k. insert_there r more q k) where
-  by : (b : Bool) → (r ≡ q) ⊎ Has (x ∷ more) q → ((r ≡ q) ⊎ Has more q → Has (insert_row r more) q) → Has (if b then r ∷ x ∷ more else x ∷ insert_row r more) q
-  by true (inl e) rest = inl e
-  by true (inr k) rest = inr k
-  by false (inl e) rest = inr (rest (inl e))
-  by false (inr (inl e)) rest = inl e
-  by false (inr (inr k)) rest = inr (rest (inr k))
+insert_there r (x ∷ more) q h = grind (arith, insert_there r more q)
 
 insert_falls : (bound : ℕ) (r : TaskRow) (xs : List TaskRow) → r.number < bound → ((q : TaskRow) → Has xs q → q.number ≢ r.number) → Falls bound (map number_in xs) → Falls bound (map number_in (insert_row r xs))
 insert_falls bound r [] low other f = (low, tt)
@@ -94,10 +83,7 @@ pub paired : {A : Type 0} (f : TaskRow → A) (g : Task → A) (xs : List TaskRo
 paired f g [] [] e h = refl
 paired f g [] (t ∷ ts) e h = let z : ⊥ = cc in absurd z
 paired f g (r ∷ xs) [] e h = let z : ⊥ = cc in absurd z
-paired f g (r ∷ xs) (t ∷ ts) e h =
-    let head : r.number ≡ t.number = cc in
-    let rest : map number_in xs ≡ map (λ (t : Task). t.number) ts = cc in
-    ap (λ y. y ∷ map f xs) (h r t (inl refl) (inl refl) head) ∙ ap (λ ys. g t ∷ ys) (paired f g xs ts rest (λ q u a b n. h q u (inr a) (inr b) n))
+paired f g (r ∷ xs) (t ∷ ts) e h = grind (arith, paired f g xs ts)
 
 -- ---- the rows of a job
 
@@ -128,10 +114,7 @@ module _ (plan : Placement) (s : Session) (m : SessionJob) (rows : List TaskRow)
       subst (λ (u : Task). TaskShows plan m u r) same sh.shows
 
   slot_by_number : (r q : TaskRow) → Has rows r → Has rows q → r.job ≡ m.constants.number → q.job ≡ m.constants.number → q.number ≡ r.number → q.slot ≡ r.slot
-  slot_by_number r q hr hq er eq e =
-      let a = shows_mine r hr er in
-      let b = shows_mine q hq eq in
-      b.shows.slot ∙ ap (slot_of plan m.constants.number) (sym b.shows.number ∙ e ∙ a.shows.number) ∙ sym a.shows.slot
+  slot_by_number r q hr hq er eq e = grind arith
 
   apart_rows : (xs : List TaskRow) → ((r : TaskRow) → Has xs r → Has rows r) → Differ (map (λ (r : TaskRow). r.slot) xs) → NumbersApart (filter mine xs)
   apart_rows [] inside differ = tt

@@ -1,10 +1,9 @@
 -- Stacks are read back.
-use Rattle.std.proofs.Common.{◌≡◌, ◌≢◌, ℕ, zero, suc, ◌+◌, ◌-◌, ◌^◌, ◌<◌, ◌≤◌, Bool, true, false, List, [], ◌∷◌, ◌++◌, length, Option, Some, None, refl, sym, ◌∙◌, ap, subst, arith, inl, inr, length-append}
-use Rattle.std.specs.Prelude.{MatchBool, unwrap_or, if◌then◌else◌}
+use Rattle.std.proofs.Common.{◌≡◌, ◌≢◌, ℕ, zero, suc, ◌+◌, ◌-◌, ◌^◌, ◌<◌, ◌≤◌, Bool, List, [], ◌∷◌, ◌++◌, length, Option, Some, None, refl, sym, ◌∙◌, ap, subst, arith, length-append}
+use Rattle.std.specs.Prelude.{MatchBool, unwrap_or}
 use Rattle.std.specs.List.{slice_get}
 use Rattle.std.proofs.lemmas.Bool.{ne_eqb}
 use Rattle.std.proofs.lemmas.Bool.Decides.{eqb_tells}
-use Rattle.std.proofs.lemmas.Option.{same_Some}
 use Rattle.b67_word.specs.Tagged.{Tagged, word, bits_at}
 use Rattle.b67_ctl.specs.declared.descriptors.DataDesc.{DataDesc}
 use Rattle.b67_ctl.specs.declared.marks.Mscw.{Mscw}
@@ -17,12 +16,12 @@ use Rattle.b67_area.specs.Spans.{Span, Area, Hole, area_at}
 use Rattle.b67_area.specs.Words.{head_word, kind_number, hole_high}
 use Rattle.b67_area.specs.Directory as directory
 use Rattle.b67_model.specs.State.{Return}
-use Rattle.b67_stack.specs.Common.{Shape, Is, Original, Copy, Locations, is_indexed, IsNumber, copy_desc, Fits, LieDownward, Head, Marked, Entered, Activation, head_size, top_size, level_from, wants_value, ReturnFits, stack_words, mark_place, stack_level, mark_of, return_of, headed, words, HeadFits, HeadsFit, IsStack, MachineView, Slot, Free, Running, Waiting, slot_base, stack_of, SlotFits, Storage, Represents, info_of}
+use Rattle.b67_stack.specs.Common.{Shape, Is, Original, Copy, Locations, is_indexed, IsNumber, copy_desc, Fits, LieDownward, Head, Marked, Entered, Activation, head_size, top_size, wants_value, ReturnFits, stack_words, mark_place, stack_level, mark_of, return_of, headed, words, HeadFits, HeadsFit, IsStack, MachineView, Slot, slot_base, stack_of, SlotFits, Storage, Represents, info_of}
 use Rattle.b67_stack.proofs.Lies.{Lie-under}
 use Rattle.b67_stack.proofs.Heights.{words-length}
 use Rattle.b67_layout_shown.specs.Reading.{word_seen_at, mscw_in, rcw_in, home_by, index_by, descriptor_by, shape_by, shape_in, cells_in, return_by, activation_by, below_by, stack_seen}
 use Rattle.b67_layout_shown.specs.Laws.{HasCaller, HaveCallers, StacksAreRead}
-use Rattle.b67_layout_shown.proofs.Bits.{mscw_read, rcw_read, desc_read, owner_read}
+use Rattle.b67_layout_shown.proofs.Bits.{mscw_read, desc_read, owner_read}
 
 -- the head of the area in which an object is held names the object's home
 abbrev pub FindsHomes : List Tagged → Locations → Type 0
@@ -34,22 +33,18 @@ word_is core i w e = ap (λ (o : Option Tagged). unwrap_or o (word 0 0)) e
 -- ---- words
 
 index_read : (index : Option ℕ) (number : ℕ) → IsNumber index number → index_by number (is_indexed index) ≡ index
-index_read None number h = refl
-index_read (Some index) number h = ap Some h
+index_read index number h = grind arith
 
 module _ (core : List Tagged) (held : Locations) (finds : FindsHomes core held) where
   home_read : (home address : ℕ) (present : Bool) → MatchBool present ((held home).area ≡ Some address) (address ≡ home) → home_by core address present ≡ home
-  home_read home address true e = finds home address e
-  home_read home address false e = e
+  home_read home address present e = grind arith
 
   described : (at : ℕ) (d : DataDesc) → d.length < 2 ^ 20 → d.address < 2 ^ 20 → shape_in core at (data_word d) ≡ descriptor_by core at d d.copy
   described at d lh kh = ap (λ (e : DataDesc). descriptor_by core at e e.copy) (desc_read d lh kh)
 
   shape_read : (a : Shape) (at : ℕ) (w : Tagged) → Fits held a at w → shape_in core at w ≡ a
   shape_read (Is v) at w f = ap (shape_by core at w) (ne_eqb w.tag 5 (λ z. f.1 (sym (ap (λ (u : Tagged). u.tag) f.0) ∙ z))) ∙ ap Is f.0
-  shape_read (Original home) at w f =
-      let o = f.1 in
-      ap (shape_in core at) o.is ∙ described at o.desc o.fits.words o.fits.address ∙ ap (descriptor_by core at o.desc) o.own ∙ ap Original f.0
+  shape_read (Original home) at w f = grind arith
   shape_read (Copy c home) at w f =
       ap (shape_in core at) f.is ∙ described at (copy_desc c f.number f.present f.address) f.fits.words f.fits.address
       ∙ ap (λ (i : Option ℕ). Copy (record { index = i; read_only = c.read_only }) (home_by core f.address f.present)) (index_read c.index f.number f.numbered)
@@ -57,43 +52,28 @@ module _ (core : List Tagged) (held : Locations) (finds : FindsHomes core held) 
 
   cells_read : (from : ℕ) (cells rest : List Shape) → LieDownward (Fits held) core from (cells ++ rest) → (low : ℕ) → low ≡ from + length rest → cells_in core low (length cells) ≡ cells
   cells_read from [] rest l low e = refl
-  cells_read from (a ∷ more) rest l low e =
-      let place : low + length more ≡ from + length (more ++ rest) = omega (arith, e, length-append more rest) in
-      let here : shape_in core (low + length more) (word_seen_at core (low + length more)) ≡ a = subst (λ i. shape_in core i (word_seen_at core i) ≡ a) (sym place) (ap (shape_in core (from + length (more ++ rest))) (word_is core (from + length (more ++ rest)) l.0.0 l.0.1) ∙ shape_read a (from + length (more ++ rest)) l.0.0 l.0.2) in
-      ap (λ (x : Shape). x ∷ cells_in core low (length more)) here ∙ ap (λ (xs : List Shape). a ∷ xs) (cells_read from more rest l.1 low e)
+  cells_read from (a ∷ more) rest l low e = grind (arith, length-append, shape_read, cells_read from more rest l.1 low e)
 
   -- ---- heads
 
   mark_read : (i from : ℕ) (m : Mscw) (under : List Shape) → LieDownward (Fits held) core from (Is (mscw_word m) ∷ under) → i ≡ from + length under
       → m.env_stack < 2 ^ 10 → m.env_disp < 2 ^ 16 → m.level < 2 ^ 5 → m.back < 2 ^ 14 → mscw_in (word_seen_at core i) ≡ m
-  mark_read i from m under l e ch dh lh kh =
-      ap (λ (n : ℕ). mscw_in (word_seen_at core n)) e ∙ ap mscw_in (word_is core (from + length under) l.0.0 l.0.1) ∙ ap mscw_in l.0.2.0 ∙ mscw_read m ch dh lh kh
+  mark_read i from m under l e ch dh lh kh = grind (arith, mscw_read)
 
   rcw_stands : (i from : ℕ) (r : Rcw) (under : List Shape) → LieDownward (Fits held) core from (Is (rcw_word r) ∷ under) → i ≡ from + length under
       → r.place.syllable < 2 ^ 3 → r.place.word < 2 ^ 13 → r.level < 2 ^ 5 → r.segment < 2 ^ 14 → rcw_in (word_seen_at core i) ≡ r
-  rcw_stands i from r under l e sh wh lh gh =
-      ap (λ (n : ℕ). rcw_in (word_seen_at core n)) e ∙ ap rcw_in (word_is core (from + length under) l.0.0 l.0.1) ∙ ap rcw_in l.0.2.0 ∙ rcw_read r sh wh lh gh
+  rcw_stands i from r under l e sh wh lh gh = grind arith
 
   return_some : (value : Bool) (r : Rcw) (back : ℕ) → 0 < back → return_by value r back ≡ Some (record { value = value; segment = r.segment - 1; place = r.place })
-  return_some value r zero h = absurd (omega arith)
-  return_some value r (suc back) h = refl
+  return_some value r back h = grind arith
 
   pub top_some : (below : List Activation) → below ≢ [] → 0 < top_size below
-  top_some [] some = absurd (some refl)
-  top_some (b ∷ more) some = by b.head where
-    by : (h : Head) → 0 < head_size h + length b.cells
-    by Marked = omega arith
-    by (Entered level environment back) = omega arith
+  top_some below some = grind arith
 
   return_read : (i from : ℕ) (back : Option Return) (below : List Activation) (under : List Shape) → ReturnFits back below → HasCaller (Entered 0 (record { stack = 0; disp = 0 }) back) below → stack_level below < 2 ^ 5
       → LieDownward (Fits held) core from (Is (rcw_word (return_of back below)) ∷ under) → i ≡ from + length under
       → return_by (wants_value back) (rcw_in (word_seen_at core i)) (top_size below) ≡ back
-  return_read i from None below under fits caller level l e = ap (return_by false (rcw_in (word_seen_at core i))) (ap top_size fits)
-  return_read i from (Some r) below under fits caller level l e =
-      let back : r.segment + 1 - 1 ≡ r.segment = omega arith in
-      return_some r.value (rcw_in (word_seen_at core i)) (top_size below) (top_some below caller)
-      ∙ ap (λ (w : Rcw). Some (record { value = r.value; segment = w.segment - 1; place = w.place })) (rcw_stands i from (return_of (Some r) below) under l e fits.0.syllable fits.0.word level fits.1)
-      ∙ ap (λ (n : ℕ). Some (record { value = r.value; segment = n; place = r.place })) back
+  return_read i from back below under fits caller level l e = grind arith
 
   -- the activation record of a mark
   pub one_read : (k base : ℕ) (h : Head) (cells : List Shape) (below : List Activation) → HeadFits h below → HasCaller h below → stack_level below < 2 ^ 5 → top_size below < 2 ^ 14
@@ -132,22 +112,16 @@ module _ (core : List Tagged) (held : Locations) (finds : FindsHomes core held) 
 
   pub level_small : (stack : List Activation) → HeadsFit stack → stack_level stack < 2 ^ 5
   level_small [] fits = omega arith
-  level_small (a ∷ below) fits = by a.head fits.0 (level_small below fits.1) where
-    by : (h : Head) → HeadFits h below → stack_level below < 2 ^ 5 → level_from h (stack_level below) < 2 ^ 5
-    by Marked h low = low
-    by (Entered level environment back) h low = h.0
+  level_small (a ∷ below) fits = grind (arith, level_small below fits.1)
 
   below_some : (n : ℕ) (g : ℕ → List Activation) → 0 < n → below_by n g ≡ g n
-  below_some zero g h = absurd (omega arith)
-  below_some (suc n) g h = refl
+  below_some n g h = grind arith
 
   pub top_within : (below : List Activation) → top_size below ≤ stack_words below
-  top_within [] = omega arith
-  top_within (b ∷ more) = omega arith
+  top_within below = grind arith
 
   pub place_below : (base f : ℕ) (below : List Activation) → below ≢ [] → f ≡ base + (stack_words below + 1) → f - top_size below ≡ base + mark_place below
-  place_below base f [] some e = absurd (some refl)
-  place_below base f (b ∷ more) some e = omega (arith, e)
+  place_below base f below some e = grind arith
 
   pub stack_read : (k base : ℕ) (stack : List Activation) → HeadsFit stack → HaveCallers stack → stack_words stack < 2 ^ 14 → LieDownward (Fits held) core (suc base) (words k stack) → stack ≢ []
       → (n : ℕ) → length stack ≤ n → (f s : ℕ) → f ≡ base + mark_place stack → s ≡ base + stack_words stack → stack_seen core n f s ≡ stack
@@ -182,16 +156,7 @@ head_at : (core : List Tagged) (b h at : ℕ) (ss : List Span) (x : ℕ) (a : In
     → (slice_get core (x - 1) ≡ Some (head_word a)) × (a.owner < 2 ^ 20)
 head_at core b h at [] x a laid spans e = let z : ⊥ = cc in absurd z
 head_at core b h at (Hole n ∷ ss) x a laid spans e = head_at core at (hole_high n) (at + n) ss x a laid.1 spans.2 e
-head_at core b h at (Area i ∷ ss) x a laid spans e = elim (eqb_tells (at + 1) x) [
-  | inl q ↦
-      let here : Some i ≡ Some a = subst (λ (t : Bool). (if t then Some i else area_at (at + (i.words + 2)) ss x) ≡ Some a) q.0 e in
-      let is : i ≡ a = same_Some i a here in
-      let place : x - 1 ≡ at = omega (arith, q.1) in
-      subst (λ (u : Info). (slice_get core (x - 1) ≡ Some (head_word u)) × (u.owner < 2 ^ 20)) is (ap (slice_get core) place ∙ laid.0, spans.0.owner)
-  | inr q ↦
-      let there : area_at (at + (i.words + 2)) ss x ≡ Some a = subst (λ (t : Bool). (if t then Some i else area_at (at + (i.words + 2)) ss x) ≡ Some a) q.0 e in
-      head_at core b h (at + (i.words + 2)) ss x a laid.2 spans.1 there
-]
+head_at core b h at (Area i ∷ ss) x a laid spans e = grind (arith, eqb_tells, head_at core b h (at + (i.words + 2)) ss x a laid.2 spans.1)
 
 -- each object that is in an area is named by the head of that area
 pub finds_homes : (x : Storage) (core : List Tagged) (r : Regs) (p : MachineView) → Represents x core r p → FindsHomes core x.held
@@ -202,9 +167,7 @@ finds_homes x core r p stands home at e =
     ∙ owner_read (kind_number (info_of x o.0).kind) (info_of x o.0).words (info_of x o.0).owner h.1 ∙ o.2
 
 pub is_stack : (p : MachineView) (k : ℕ) (slot : Slot) (stack : List Activation) → SlotFits p k slot → stack_of slot ≡ stack → stack ≢ [] → IsStack p.size stack
-is_stack p k Free stack fits e some = absurd (some (sym e))
-is_stack p k (Running s) stack fits e some = subst (IsStack p.size) e fits.0
-is_stack p k (Waiting s) stack fits e some = subst (IsStack p.size) e fits.0
+is_stack p k slot stack fits e some = grind arith
 
 pub stacks_read : StacksAreRead
 stacks_read x core r p stands k small stack e some callers n many =

@@ -1,5 +1,5 @@
 -- A live task is read back from core and tables.
-use Rattle.std.proofs.Common.{◌≡◌, ◌≢◌, ℕ, ◌+◌, ◌^◌, ◌<◌, ◌≤◌, ◌==◌, Bool, List, [], ◌∷◌, map, reverse, length, Some, None, refl, sym, ◌∙◌, ap, subst, arith, inl, inr, lt-ltb, le-ltb}
+use Rattle.std.proofs.Common.{◌≡◌, ◌≢◌, ℕ, ◌+◌, ◌^◌, ◌<◌, ◌≤◌, ◌==◌, Bool, List, [], ◌∷◌, map, length, Some, None, refl, sym, ◌∙◌, ap, subst, arith, inl, inr, lt-ltb}
 use Rattle.std.specs.Prelude.{if◌then◌else◌}
 use Rattle.std.proofs.lemmas.Bool.{ne_eqb, eq-eqb}
 use Rattle.b67_lemmas.specs.Lists.{Has}
@@ -72,19 +72,13 @@ module _ (x : Storage) (cpu : Cpu) (plan : Placement) (s : Session) (m : Session
       ∙ ap (λ n. named n disp) is
 
   dictionary_read : frame_seen rs m.constants.number (record { stack = 127 + m.constants.number; disp = 0 }) ≡ 1
-  dictionary_read =
-      ap (λ (b : Bool). if b then named (number_seen rs (127 + m.constants.number)) 0 else (if 127 + m.constants.number == 127 + m.constants.number then 1 else 0)) (le-ltb (127 + m.constants.number) 120 (omega arith))
-      ∙ ap (λ (b : Bool). if b then 1 else 0) (eq-eqb (127 + m.constants.number) (127 + m.constants.number) refl)
+  dictionary_read = grind arith
 
   mcp_read : frame_seen rs m.constants.number (record { stack = 136; disp = 0 }) ≡ 0
   mcp_read = ap (λ (b : Bool). if b then 1 else 0) (ne_eqb 136 (127 + m.constants.number) (λ e. omega (arith, e, numbered)))
 
   pub few_segments : length m.constants.segments < 2 ^ 13
-  few_segments =
-      let d = words_enough 1 m.constants.segments (reverse m.constants.dictionary.cells) ordered.unchanging.dictionary in
-      let n = length-reverse m.constants.dictionary.cells in
-      let few = ordered.unchanging.entries in
-      omega (arith, d, n, few)
+  few_segments = grind (arith, words_enough, length-reverse)
 
   pub task_read : Has m.progress.job.tasks t → frames_of t.number (frame_seen rs m.constants.number) array (stack_of_task plan m.constants.number m.progress.job (slot_of plan m.constants.number t.number) t) ≡ map (frame_by (name_among m.progress.job.tasks) relabel) t.frames
   task_read there =

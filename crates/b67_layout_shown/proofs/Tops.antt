@@ -1,6 +1,6 @@
 -- What is seen of a machine: the row of a slot and the top of a task.
-use Rattle.std.proofs.Common.{◌≡◌, ◌≢◌, ℕ, [], ◌∷◌, true, false, map, ◌+◌, ◌*◌, ◌<◌, ◌≤◌, Bool, List, Some, None, drop, length, get_or, refl, sym, ◌∙◌, ap}
-use Rattle.std.specs.Prelude.{if◌then◌else◌, ◌==◌, Option, option_map}
+use Rattle.std.proofs.Common.{◌≡◌, ◌≢◌, ℕ, [], ◌∷◌, true, false, map, ◌+◌, ◌*◌, ◌<◌, ◌≤◌, Bool, List, Some, None, drop, length, get_or, refl, sym, ◌∙◌, ap, arith}
+use Rattle.std.specs.Prelude.{if◌then◌else◌, Option, option_map}
 use Rattle.std.proofs.lemmas.Bool.{ne_eqb, eq-eqb}
 use Rattle.std.proofs.lemmas.List.{at_drop_more, drop_all}
 use Rattle.b67_model.specs.Keyed.{keyed}
@@ -31,11 +31,7 @@ module _ {A : Type 0} (key : A → ℕ) where
 -- the row of a slot, as the definitions see it
 pub slot_mapped : (xs : List TaskRow) (n : ℕ) (found : Option TaskRow) → found ≡ keyed (λ (r : TaskRow). r.slot) n xs → option_map task_row found ≡ keyed (λ (r : rows.TaskRow). r.slot) n (map task_row xs)
 slot_mapped [] n found e = ap (option_map task_row) e
-slot_mapped (x ∷ xs) n found e = ap (option_map task_row) e ∙ by (x.slot == n) (slot_mapped xs n (keyed (λ (r : TaskRow). r.slot) n xs) refl) where
-  by : (b : Bool) → option_map task_row (keyed (λ (r : TaskRow). r.slot) n xs) ≡ keyed (λ (r : rows.TaskRow). r.slot) n (map task_row xs)
-      → option_map task_row (if b then Some x else keyed (λ (r : TaskRow). r.slot) n xs) ≡ (if b then Some (task_row x) else keyed (λ (r : rows.TaskRow). r.slot) n (map task_row xs))
-  by true rest = refl
-  by false rest = rest
+slot_mapped (x ∷ xs) n found e = grind (arith, slot_mapped xs n)
 
 -- the top of a task, which runs or doesn't
 pub top_running : (k : Sight) (r : rows.TaskRow) → r.slot ≡ k.regs.slot → top_in k r ≡ top_by k r (k.regs.stacks + r.slot * k.regs.stack_size) true

@@ -17,15 +17,11 @@ up_segments i (suc n) = Words.Segment i ∷ up_segments (i + 1) n
 
 more_rows : (n i : ℕ) → up_rows i n ++ (Original (i + n) ∷ []) ≡ up_rows i (suc n)
 more_rows zero i = let e : i + 0 ≡ i = omega arith in ap (λ k. Original k ∷ []) e
-more_rows (suc n) i =
-    let e : i + suc n ≡ i + 1 + n = omega arith in
-    ap (λ k. Original i ∷ (up_rows (i + 1) n ++ (Original k ∷ []))) e ∙ ap (λ ws. Original i ∷ ws) (more_rows n (i + 1))
+more_rows (suc n) i = grind (arith, more_rows n (i + 1))
 
 more_segments : (n i : ℕ) → up_segments i n ++ (Words.Segment (i + n) ∷ []) ≡ up_segments i (suc n)
 more_segments zero i = let e : i + 0 ≡ i = omega arith in ap (λ k. Words.Segment k ∷ []) e
-more_segments (suc n) i =
-    let e : i + suc n ≡ i + 1 + n = omega arith in
-    ap (λ k. Words.Segment i ∷ (up_segments (i + 1) n ++ (Words.Segment k ∷ []))) e ∙ ap (λ ws. Words.Segment i ∷ ws) (more_segments n (i + 1))
+more_segments (suc n) i = grind (arith, more_segments n (i + 1))
 
 pub rows_turned : (n : ℕ) → reverse (row_cells n) ≡ up_rows 1 n
 rows_turned zero = refl

@@ -217,10 +217,7 @@ module _ (x : Storage) (cpu : Cpu) (plan : Placement) (s : Session) (tasks : Lis
   same_view p a b n sl os ea eb en es = rw (ea, eb, en, es) refl
 
   view_is : machine_view plan' jobs' ≡ record (machine_view plan s.jobs) { objects = flat_map (objects_of plan') jobs' }
-  view_is =
-      let r = stands.holds.memory.slots.regs in
-      let slots : slot_at plan' jobs' ≡ slot_at plan s.jobs = λ z i. slot_same i z in
-      same_view (machine_view plan s.jobs) cpu.regs.stacks cpu.regs.stack_size cpu.regs.peak (slot_at plan' jobs') (flat_map (objects_of plan') jobs') r.stacks r.size r.peak slots
+  view_is = grind (arith, slot_same)
 
   pub memory_shown : x.device ≡ None → Represents x cpu.core cpu.regs (machine_view plan' jobs')
   memory_shown untold = subst (Represents x cpu.core cpu.regs) (sym view_is) (represents_over x cpu.core cpu.regs (machine_view plan s.jobs) (flat_map (objects_of plan') jobs') stands.holds.memory reads untold)

@@ -1,7 +1,6 @@
 -- A job that a machine shows is the session's, under names by place.
-use Rattle.std.proofs.Common.{◌≡◌, ◌≢◌, ℕ, suc, ◌+◌, ◌<◌, true, List, [], ◌∷◌, ◌++◌, map, length, refl, ◌∙◌, ap, subst, arith, inl, inr}
-use Rattle.std.specs.Prelude.{ℤ, flat_map, drop}
-use Rattle.std.proofs.lemmas.Bool.{cases_Bool}
+use Rattle.std.proofs.Common.{◌≡◌, ◌≢◌, ℕ, suc, ◌+◌, ◌<◌, true, List, [], ◌∷◌, ◌++◌, map, length, refl, ◌∙◌, ap, subst, arith}
+use Rattle.std.specs.Prelude.{ℤ, flat_map}
 use Rattle.b67_lemmas.specs.Lists.{Has}
 use Rattle.b67_lemmas.proofs.Members.{all_in, has_map}
 use Rattle.b67_model.specs.Common.{Frame, Array, Task, Job, SessionJob, Session, array, IsSegment, OwnsArray, TaskInOrder, ArrayInOrder, outer_of}
@@ -76,14 +75,7 @@ module _ (x : Storage) (cpu : Cpu) (plan : Placement) (s : Session) (m : Session
       ∙ ap (λ a. stack_seen cpu.core cpu.regs.stack_size (slot_base (machine_view plan s.jobs) (slot_of plan m.constants.number t.number) + mark_place stack) a) top.s_is ∙ read
 
   writes : (owner n : ℕ) (q : OwnsArray m.progress.job.arrays owner n) → 1 < owner → q.item.writable ≡ true
-  writes owner n q high = elim (cases_Bool q.item.writable) [
-    | inl t ↦ t
-    | inr f ↦
-        let a = all_in ArrayInOrder m.progress.job.arrays q.item ord.tasks.arrays q.live in
-        let one = a.writes.0 f in
-        let is = q.owned in
-        absurd (omega (arith, one, is, high))
-  ]
+  writes owner n q high = grind (arith, all_in)
 
   arrays_is : (job_seen k row m.constants.number).arrays ≡ (job_placed row.rows numbers m.progress.job).arrays
   arrays_is =
@@ -120,7 +112,4 @@ module _ (x : Storage) (cpu : Cpu) (plan : Placement) (s : Session) (m : Session
 
   -- the job
   pub job_is : job_seen k row m.constants.number ≡ job_placed row.rows numbers m.progress.job
-  job_is =
-      let next = shows.next_task in
-      same_job (job_placed row.rows numbers m.progress.job) (job_seen k row m.constants.number).arrays (job_seen k row m.constants.number).tasks (drop row.next_number row.numbers) row.next_task (named (row.next_task + 1) 0) (named (row.next_task + 1) 0)
-      arrays_is tasks_is shows.numbers shows.next_task (ap (λ n. named (n + 1) 0) shows.next_task) (ap (λ n. named (n + 1) 0) shows.next_task)
+  job_is = grind (arith, arrays_is, tasks_is)

@@ -4,14 +4,14 @@ use Rattle.std.specs.List.{AllByRecursion}
 use Rattle.b67_word.specs.Tagged.{word, bits_at}
 use Rattle.b67_lemmas.specs.Lists.{Has}
 use Rattle.b67_model.specs.Words as Words
-use Rattle.b67_model.specs.Common.{Word, Operand, Name, Ref, Row, Element, Original, Proc, Intrinsic, JobConstants, Job, Array, Known, IsSegment, NamesEntered, NamesArray, OwnsArray, WordInOrder}
+use Rattle.b67_model.specs.Common.{Word, Name, Ref, Proc, JobConstants, Job, Array, Known, IsSegment, NamesEntered, NamesArray, OwnsArray, WordInOrder}
 use Rattle.b67_stack.specs.Stacks.{StackPlace}
 use Rattle.b67_layout.specs.Placement.{Placement}
 use Rattle.b67_layout.specs.Layout.{shape}
 use Rattle.b67_layout_shown.specs.Reading.{is_set}
 use Rattle.b67_layout_shown.specs.Shown.{reference_by, word_seen}
 use Rattle.b67_layout_shown.specs.Places.{word_by}
-use Rattle.b67_layout_shown.proofs.Bits.{sirw_46, sirw_36, sirw_20, sirw_0, irw_46, irw_0, pcw_read}
+use Rattle.b67_layout_shown.proofs.Bits.{sirw_46, sirw_36, sirw_20, sirw_0, irw_46, irw_0}
 
 -- where an activation record stands fits a reference, and its place is read as a name
 pub record PlaceIsRead (frame : StackPlace → ℕ) (rename : ℕ → ℕ) (spot : ℕ → StackPlace) (identity : ℕ) : Type 0 where
@@ -33,10 +33,7 @@ module _ (plan : Placement) (j : ℕ) (constants : JobConstants) (job : Job) (sp
 
   procedure : (s w l g : ℕ) → s < 2 ^ 3 → w < 2 ^ 13 → l < 2 ^ 5 → g + 1 < 2 ^ 14 → let v = word 7 (s * 2 ^ 33 + w * 2 ^ 20 + l * 2 ^ 14 + (g + 1)) in
       Proc (bits_at v 0 14 - 1) (bits_at v 14 5) (record { word = bits_at v 20 13; syllable = bits_at v 33 3 }) ≡ Proc g l (record { word = w; syllable = s })
-  procedure s w l g sh wh lh gh =
-      let r = pcw_read s w l (g + 1) sh wh lh gh in
-      let less : g + 1 - 1 ≡ g = omega arith in
-      rw (r.0, r.1, r.2, r.3, less) refl
+  procedure s w l g sh wh lh gh = grind arith
 
   owned : (owner a : ℕ) → OwnsArray job.arrays owner a → array (plan.home j a) ≡ relabel a
   owned owner a o = subst (λ n. array (plan.home j n) ≡ relabel n) o.named (arrays o.item o.live)
@@ -45,17 +42,7 @@ module _ (plan : Placement) (j : ℕ) (constants : JobConstants) (job : Job) (sp
   copied a o = subst (λ n. array (plan.home j n) ≡ relabel n) o.named (arrays o.item o.live)
 
   pub word_read : (owner : ℕ) (w : Word) → WordInOrder (IsSegment constants) job.arrays reach owner w → word_seen frame array (shape plan j job spot w) ≡ word_by rename relabel w
-  word_read owner (Operand bits) o = refl
-  word_read owner (Name couple) o = plain couple o
-  word_read owner (Ref identity offset) o = let p = frames identity o.0 in stuffed (spot identity).stack (spot identity).disp offset (rename identity) p.stack p.disp (omega (arith, o.1)) p.is
-  word_read owner (Row a) o = ap Row (copied a o)
-  word_read owner (Element a index) o = ap (λ n. Element n index) (copied a o)
-  word_read owner (Original a) o = ap Original (owned owner a o)
-  word_read owner (Proc segment level place) o =
-      let within = o.1.within in
-      procedure place.syllable place.word level segment o.1.syllable_fits o.1.word_fits (omega (arith, o.0)) (omega (arith, within, few))
-  word_read owner (Intrinsic number) o = absurd o
-  word_read owner (Words.Segment number) o = absurd o
+  word_read owner w o = grind arith
 
   pub words_read : (owner : ℕ) (ws : List Word) → AllByRecursion (WordInOrder (IsSegment constants) job.arrays reach owner) ws → map (word_seen frame array) (map (shape plan j job spot) ws) ≡ map (word_by rename relabel) ws
   words_read owner [] o = refl

@@ -1,11 +1,11 @@
 -- A job with another number in an array: its stacks look the same, and of its objects one is replaced.
-use Rattle.std.proofs.Common.{◌≡◌, ℕ, List, [], ◌∷◌, map, Option, Some, None, refl, sym, ◌∙◌, ap, Bool, true, false, not, ◌==◌, ⊎_elim}
+use Rattle.std.proofs.Common.{◌≡◌, ℕ, List, [], ◌∷◌, map, Option, Some, None, refl, sym, ◌∙◌, ap, ⊎_elim, arith}
 use Rattle.std.specs.Prelude.{if◌then◌else◌, unwrap_or}
-use Rattle.std.proofs.lemmas.Bool.{cases_Bool, cases_eq}
+use Rattle.std.proofs.lemmas.Bool.{cases_eq}
 use Rattle.b67_model.specs.Keyed.{keyed, change_keyed}
 use Rattle.b67_model.specs.Words as Words
-use Rattle.b67_model.specs.Common.{Word, Operand, Name, Ref, Row, Element, Original, Proc, Intrinsic, Frame, Array, Task, Job, JobProgress, SessionJob, height, array, no_array, with_number, with_array, number_of, from_frame, frames_of_task, critical_of, is_critical}
-use Rattle.b67_stack.specs.Common.{Shape, Copy, StackPlace, Activation, Slot, Running, Waiting}
+use Rattle.b67_model.specs.Common.{Word, Frame, Array, Task, Job, JobProgress, SessionJob, height, array, no_array, with_number, with_array, number_of, is_critical}
+use Rattle.b67_stack.specs.Common.{Shape, StackPlace, Activation}
 use Rattle.b67_layout.specs.Common.{Slotted, Placement, slot_of, spot_in, outer_spots, spots, shape, head, activations, slot_with, slot_in, slot_by, slot_at, critical_mark}
 use Rattle.b67_layout.proofs.MachineViews.{with_course, member-same, member-other}
 
@@ -22,16 +22,7 @@ number_renumbers i v = record { identity = λ a. refl; owner = λ a. refl; writa
 same_in : (id n : ℕ) (f : Array → Array) → Renumbers f → (xs : List Array) → let a = unwrap_or (keyed (λ (z : Array). z.identity) n xs) no_array in let b = unwrap_or (keyed (λ (z : Array). z.identity) n (change_keyed (λ (z : Array). z.identity) id f xs)) no_array in
     b.writable ≡ a.writable
 same_in id n f k [] = refl
-same_in id n f k (x ∷ xs) = ⊎_elim
-    (λ (t : (x.identity == id) ≡ true). ⊎_elim
-    (λ (u : (x.identity == n) ≡ true). let w : ((f x).identity == n) ≡ true = ap (λ (q : ℕ). q == n) (k.identity x) ∙ u in rw (t, u, w) (k.writable x))
-    (λ (u : (x.identity == n) ≡ false). let w : ((f x).identity == n) ≡ false = ap (λ (q : ℕ). q == n) (k.identity x) ∙ u in rw (t, u, w) refl)
-    (cases_Bool (x.identity == n)))
-    (λ (t : (x.identity == id) ≡ false). ⊎_elim
-    (λ (u : (x.identity == n) ≡ true). rw (t, u) refl)
-    (λ (u : (x.identity == n) ≡ false). rw (t, u) (same_in id n f k xs))
-    (cases_Bool (x.identity == n)))
-    (cases_Bool (x.identity == id))
+same_in id n f k (x ∷ xs) = grind (arith, same_in id n f k xs)
 
 module _ (plan : Placement) (j : ℕ) (job : Job) (id : ℕ) (f : Array → Array) (keeps : Renumbers f) where
   abbrev job' : Job
@@ -41,15 +32,7 @@ module _ (plan : Placement) (j : ℕ) (job : Job) (id : ℕ) (f : Array → Arra
   same n = same_in id n f keeps job.arrays
 
   shape_same : (spot : ℕ → StackPlace) (w : Word) → shape plan j (with_array job id f) spot w ≡ shape plan j job spot w
-  shape_same spot (Operand bits) = refl
-  shape_same spot (Name couple) = refl
-  shape_same spot (Ref identity offset) = refl
-  shape_same spot (Row a) = ap (λ (b : Bool). Copy (record { index = None; read_only = not b }) (plan.home j a)) (same a)
-  shape_same spot (Element a index) = ap (λ (b : Bool). Copy (record { index = Some index; read_only = not b }) (plan.home j a)) (same a)
-  shape_same spot (Original a) = refl
-  shape_same spot (Proc segment level place) = refl
-  shape_same spot (Intrinsic n) = refl
-  shape_same spot (Words.Segment n) = refl
+  shape_same spot w = grind (arith, same)
 
   shapes_same : (spot : ℕ → StackPlace) (ws : List Word) → map (shape plan j (with_array job id f) spot) ws ≡ map (shape plan j job spot) ws
   shapes_same spot [] = refl
@@ -64,10 +47,7 @@ module _ (plan : Placement) (j : ℕ) (job : Job) (id : ℕ) (f : Array → Arra
 
   outer_by : (parents : List ℕ) (c g : ℕ) → outer_spots plan j (with_array job id f) c parents g ≡ outer_spots plan j job c parents g
   outer_by [] c g = refl
-  outer_by (parent ∷ more) c g =
-      let t = keyed (λ (u : Task). u.number) parent job.tasks in
-      let inner : outer_spots plan j (with_array job id f) (critical_of t) more ≡ outer_spots plan j job (critical_of t) more = λ z x. outer_by more (critical_of t) x z in
-      ap (λ (o : ℕ → StackPlace). spot_in (slot_of plan j parent) o (from_frame c (frames_of_task t)) g) inner
+  outer_by (parent ∷ more) c g = grind arith
 
   pub outer_same : (c : ℕ) (parents : List ℕ) → outer_spots plan j (with_array job id f) c parents ≡ outer_spots plan j job c parents
   outer_same c parents = λ z g. outer_by parents c g z
@@ -76,10 +56,7 @@ module _ (plan : Placement) (j : ℕ) (job : Job) (id : ℕ) (f : Array → Arra
   spots_same t = ap (λ (o : ℕ → StackPlace). spot_in (slot_of plan j t.number) o t.frames) (outer_same t.critical t.parents)
 
   slot_with_same : (k : ℕ) (o : Option Task) → slot_with plan k j (with_array job id f) o ≡ slot_with plan k j job o
-  slot_with_same k None = refl
-  slot_with_same k (Some t) =
-      let S : List Activation → Slot = λ xs. if k == plan.running then Running xs else Waiting xs in
-      ap S (activations_same k (outer_spots plan j job' t.critical t.parents) t.frames ∙ ap (λ (o : ℕ → StackPlace). activations plan j job k o t.frames) (outer_same t.critical t.parents))
+  slot_with_same k o = grind (arith, activations_same)
 
   pub mark_same : (fs : List Frame) → critical_mark (with_array job id f) fs ≡ critical_mark job fs
   mark_same [] = refl

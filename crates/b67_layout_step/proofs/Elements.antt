@@ -1,5 +1,5 @@
 -- The machine after a store into an element of a present array.
-use Rattle.std.proofs.Common.{◌≡◌, ◌≢◌, ℕ, zero, suc, ◌+◌, ◌<◌, ◌≤◌, ◌^◌, List, [], ◌∷◌, map, length, Option, Some, None, refl, sym, ◌∙◌, ap, arith, inl, inr, ◌⊎◌, ⊎_elim, subst, slice_set}
+use Rattle.std.proofs.Common.{◌≡◌, ◌≢◌, ℕ, zero, suc, ◌+◌, ◌<◌, ◌≤◌, List, [], ◌∷◌, map, length, Option, Some, None, refl, sym, ◌∙◌, ap, arith, inl, inr, ◌⊎◌, ⊎_elim, subst, slice_set, ◌^◌}
 use Rattle.std.specs.List.{slice_get}
 use Rattle.std.proofs.Math.ListN.{length-set}
 use Rattle.std.proofs.lemmas.Bool.{cases_eq}
@@ -23,15 +23,8 @@ use Rattle.b67_stack.proofs.Heights.{words-length}
 -- another word among words that lie upward
 upward_set : (core : List Tagged) (at i v : ℕ) (ns : List ℕ) → i < length ns → at + length ns ≤ length core → LieUpward core at (map (word 0) ns) → LieUpward (slice_set core (at + i) (word 0 v)) at (map (word 0) (slice_set ns i v))
 upward_set core at i v [] low inside u = absurd (omega (arith, low))
-upward_set core at zero v (n ∷ ns) low inside u =
-    let e : at + 0 ≡ at = omega arith in
-    let P : ℕ → Type 0 = λ q. slice_get (slice_set core q (word 0 v)) at ≡ Some (word 0 v) in
-    let Q : ℕ → Type 0 = λ q. LieUpward (slice_set core q (word 0 v)) (at + 1) (map (word 0) ns) in
-    (subst P (sym e) (slice_get-set_same core at (word 0 v) (omega (arith, inside))), subst Q (sym e) (Upward-same core (slice_set core at (word 0 v)) (at + 1) (map (word 0) ns) (λ q down up. slice_get-set_other core at q (word 0 v) (λ z. omega (arith, z, down))) u.1))
-upward_set core at (suc i) v (n ∷ ns) low inside u =
-    let e : at + 1 + i ≡ at + suc i = omega arith in
-    let P : ℕ → Type 0 = λ q. LieUpward (slice_set core q (word 0 v)) (at + 1) (map (word 0) (slice_set ns i v)) in
-    (slice_get-set_other core (at + suc i) at (word 0 v) (λ z. omega (arith, z)) ∙ u.0, subst P e (upward_set core (at + 1) i v ns (omega (arith, low)) (omega (arith, inside)) u.1))
+upward_set core at zero v (n ∷ ns) low inside u = grind (arith, slice_get-set_same, Upward-same, slice_get-set_other)
+upward_set core at (suc i) v (n ∷ ns) low inside u = grind (arith, slice_get-set_other, upward_set core (at + 1) i v ns)
 
 -- the object with another number
 abbrev pub with_number : ℕ → ℕ → PagedObject → PagedObject
@@ -44,11 +37,7 @@ pub record Replaces (objects objects' : List PagedObject) (t : PagedObject) (i v
   pub kept : (u : PagedObject) → Has objects u → u.home ≢ t.home → Has objects' u
 
 keeps_same : (x : Storage) (t : PagedObject) (i v first : ℕ) → t.kind ≡ kind.Array → KeptChain x t t.kind first → KeptChain x (with_number i v t) t.kind first
-keeps_same x t i v first is k =
-    let P : Kind → Type 0 = λ q. KeptChain x (with_number i v t) q first in
-    let Q : Kind → Type 0 = λ q. KeptChain x t q first in
-    let n = length-set t.numbers i v in
-    subst P (sym is) (⊎_elim inl (λ c. inr (record { some = c.some; small = c.small; sectors = c.sectors ∙ ap Rattle.b67_backing.specs.Held.sectors_for (sym n) })) (subst Q is k))
+keeps_same x t i v first is k = grind (arith, length-set)
 
 module _ (x : Storage) (core : List Tagged) (r : Regs) (p : MachineView) (objects' : List PagedObject) (t : PagedObject) (i v b : ℕ) (s : Represents x core r p) (int : Has p.objects t) (is_array : t.kind ≡ kind.Array) (low : i < length t.numbers)
     (held : (x.held t.home).area ≡ Some b) (re : Replaces p.objects objects' t i v) where
@@ -99,9 +88,7 @@ module _ (x : Storage) (core : List Tagged) (r : Regs) (p : MachineView) (object
   slot_fits k (Waiting stack) f = (f.0, λ d home h. named home (f.1 d home h))
 
   slot_room : (k : ℕ) (y : Slot) → SlotFits p k y → 0 < p.size → stack_words (stack_of y) < p.size
-  slot_room k Free f some = some
-  slot_room k (Running stack) f some = f.0.fits
-  slot_room k (Waiting stack) f some = f.0.fits
+  slot_room k y f some = grind arith
 
   slot_inside : (k : ℕ) → k < p.peak → slot_base p k + p.size ≤ x.low
   slot_inside k h = let a = base-apart p k p.peak h in let l = laid.low in omega (arith, a, l)
@@ -110,9 +97,7 @@ module _ (x : Storage) (core : List Tagged) (r : Regs) (p : MachineView) (object
   slot_below k h = let l = slot_inside k h in omega (arith, l)
 
   slot_stands : (k : ℕ) → k < p.peak → (y : Slot) → RepresentsSlot core r p k y → RepresentsSlot new r p' k y
-  slot_stands k h Free f = (f.0, below (slot_base p k) (slot_below k h) ∙ f.1)
-  slot_stands k h (Running stack) f = record { slot = f.slot; first = f.first; last = f.last; top = f.top; mark = f.mark; level = f.level }
-  slot_stands k h (Waiting stack) f = (f.0, below (slot_base p k) (slot_below k h) ∙ f.1)
+  slot_stands k h y f = grind (arith, below, slot_below)
 
   laid' : IsLaidOut x.low p'
   laid' = record {

@@ -8,7 +8,7 @@ use Rattle.b67_model.specs.Keyed.{change_keyed}
 use Rattle.b67_lemmas.specs.Lists.{Has}
 use Rattle.b67_lemmas.proofs.Members.{reverse_cons}
 use Rattle.b67_lemmas.proofs.Places.{same_test}
-use Rattle.b67_model.specs.Common.{Word, Operand, Frame, Standing, Task, Job, no_frame, height, with_cell_of, with_cell, known_of, identities, from_frame, IsEntered, frames_named}
+use Rattle.b67_model.specs.Common.{Word, Operand, Frame, Standing, Task, Job, no_frame, height, with_cell, known_of, identities, from_frame, IsEntered, frames_named}
 use Rattle.b67_model.specs.State as State
 use Rattle.b67_stack.specs.Common.{Shape, Is, StackPlace, Activation, head_size, stack_words}
 use Rattle.b67_layout.specs.Common.{Placement, spot_in, shape, head, activations}
@@ -27,12 +27,7 @@ reverse_last (y ∷ ys) x = reverse_cons y (ys ++ x ∷ []) ∙ ap (λ zs. zs ++
 -- the cells from the top down, with another one by its number from the first
 pub stored_cells : {A : Type 0} (i : ℕ) (w : A) (cs : List A) → reverse (slice_set (reverse cs) i w) ≡ put i w cs
 stored_cells i w [] = refl
-stored_cells i w (x ∷ xs) =
-    ap (λ ys. reverse (slice_set ys i w)) (reverse_cons x xs)
-    ∙ ap reverse (set_last (reverse xs) x w i)
-    ∙ reverse_last (slice_set (reverse xs) i w) (if i == length (reverse xs) then w else x)
-    ∙ ap (λ (n : ℕ). (if i == n then w else x) ∷ reverse (slice_set (reverse xs) i w)) (length-reverse xs)
-    ∙ ap (λ ys. (if i == length xs then w else x) ∷ ys) (stored_cells i w xs)
+stored_cells i w (x ∷ xs) = grind (arith, reverse_cons, set_last, reverse_last, length-reverse, stored_cells i w xs)
 
 abbrev pub put_frame : ℕ → Word → Frame → Frame
 put_frame i w f = record f { cells = put i w f.cells }
@@ -45,9 +40,7 @@ abbrev pub put_job : Job → ℕ → ℕ → Word → Job
 put_job job id i w = record job { tasks = map (λ (t : Task). record t { frames = put_frames id i w t.frames }) job.tasks }
 
 pub with_cell_is : (job : Job) (id offset : ℕ) (w : Word) → with_cell job id offset w ≡ put_job job id (offset - 2) w
-with_cell_is job id offset w =
-    let same : with_cell_of offset w ≡ put_frame (offset - 2) w = λ z f. (record { identity = f.identity; standing = f.standing; cells = stored_cells (offset - 2) w f.cells z }) in
-    ap (λ (g : Frame → Frame). let j : Job = record job { tasks = map (λ (t : Task). record t { frames = change_keyed (λ (f : Frame). f.identity) id g t.frames }) job.tasks } in j) same
+with_cell_is job id offset w = grind (arith, stored_cells)
 
 -- the frames under the first one of an identity, and that one
 abbrev pub frames_under : ℕ → List Frame → List Frame
@@ -61,25 +54,15 @@ frame_found id (f ∷ fs) = if f.identity == id then f else frame_found id fs
 module _ (id i : ℕ) (w : Word) where
   pub put_known : (fs : List Frame) → map known_of (put_frames id i w fs) ≡ map known_of fs
   put_known [] = refl
-  put_known (f ∷ fs) = ⊎_elim
-      (λ (t : (f.identity == id) ≡ true). rw t refl)
-      (λ (t : (f.identity == id) ≡ false). rw t (ap (λ ks. known_of f ∷ ks) (put_known fs)))
-      (cases_Bool (f.identity == id))
+  put_known (f ∷ fs) = grind (arith, put_known fs)
 
   pub put_height : (fs : List Frame) → height (put_frames id i w fs) ≡ height fs
   put_height [] = refl
-  put_height (f ∷ fs) = ⊎_elim
-      (λ (t : (f.identity == id) ≡ true). rw t (let n = put_length i w f.cells in omega (arith, n)))
-      (λ (t : (f.identity == id) ≡ false). rw t (let n = put_height fs in omega (arith, n)))
-      (cases_Bool (f.identity == id))
+  put_height (f ∷ fs) = grind (arith, put_length, put_height fs)
 
   spot_by : (k : ℕ) (outer : ℕ → StackPlace) (fs : List Frame) (g : ℕ) → spot_in k outer (put_frames id i w fs) g ≡ spot_in k outer fs g
   spot_by k outer [] g = refl
-  spot_by k outer (f ∷ fs) g = ⊎_elim
-      (λ (t : (f.identity == id) ≡ true). rw t refl)
-      (λ (t : (f.identity == id) ≡ false). rw t (ap (λ (n : ℕ). cond (f.identity == g) (let s : StackPlace = record { stack = k; disp = n } in s) (spot_in k outer (put_frames id i w fs) g)) (put_height fs)
-      ∙ ap (λ (s : StackPlace). cond (f.identity == g) (let s : StackPlace = record { stack = k; disp = height fs } in s) s) (spot_by k outer fs g)))
-      (cases_Bool (f.identity == id))
+  spot_by k outer (f ∷ fs) g = grind (arith, put_height, spot_by k outer fs g)
 
   pub put_spot : (k : ℕ) (outer : ℕ → StackPlace) (fs : List Frame) → spot_in k outer (put_frames id i w fs) ≡ spot_in k outer fs
   put_spot k outer fs = λ z g. spot_by k outer fs g z
@@ -87,20 +70,7 @@ module _ (id i : ℕ) (w : Word) where
   -- frames from one down are found where they were
   from_by : (c k : ℕ) (outer : ℕ → StackPlace) (fs : List Frame) (g : ℕ) → spot_in k outer (from_frame c (put_frames id i w fs)) g ≡ spot_in k outer (from_frame c fs) g
   from_by c k outer [] g = refl
-  from_by c k outer (f ∷ fs) g = ⊎_elim
-      (λ (t : (f.identity == id) ≡ true). ⊎_elim
-      (λ (u : (f.identity == c) ≡ true). rw t (rw u refl))
-      (λ (u : (f.identity == c) ≡ false). rw t (rw u refl))
-      (cases_Bool (f.identity == c)))
-      (λ (t : (f.identity == id) ≡ false). ⊎_elim
-      (λ (u : (f.identity == c) ≡ true).
-      (let S : List Frame → Type 0 = λ gs. spot_in k outer (from_frame c gs) g ≡ spot_in k outer (from_frame c (f ∷ fs)) g in
-      let e : put_frames id i w (f ∷ fs) ≡ f ∷ put_frames id i w fs = rw t refl in
-      subst S (sym e) (rw u (ap (λ (n : ℕ). cond (f.identity == g) (let s : StackPlace = record { stack = k; disp = n } in s) (spot_in k outer (put_frames id i w fs) g)) (put_height fs)
-      ∙ ap (λ (s : StackPlace). cond (f.identity == g) (let s : StackPlace = record { stack = k; disp = height fs } in s) s) (spot_by k outer fs g)))))
-      (λ (u : (f.identity == c) ≡ false). rw t (rw u (from_by c k outer fs g)))
-      (cases_Bool (f.identity == c)))
-      (cases_Bool (f.identity == id))
+  from_by c k outer (f ∷ fs) g = grind (arith, put_height, spot_by, from_by c k outer fs g)
 
   pub put_from : (c k : ℕ) (outer : ℕ → StackPlace) (fs : List Frame) → spot_in k outer (from_frame c (put_frames id i w fs)) ≡ spot_in k outer (from_frame c fs)
   put_from c k outer fs = λ z g. from_by c k outer fs g z
@@ -108,15 +78,11 @@ module _ (id i : ℕ) (w : Word) where
   -- frames without that one stay
   pub put_none : (fs : List Frame) → frames_named id fs ≡ 0 → put_frames id i w fs ≡ fs
   put_none [] n = refl
-  put_none (f ∷ fs) n = ⊎_elim
-      (λ (t : (f.identity == id) ≡ true). absurd (let m : 1 + frames_named id fs ≡ 0 = rw t at n in omega (arith, m)))
-      (λ (t : (f.identity == id) ≡ false). (let m : 0 + frames_named id fs ≡ 0 = rw t at n in rw t (ap (λ gs. f ∷ gs) (put_none fs (omega (arith, m))))))
-      (cases_Bool (f.identity == id))
+  put_none (f ∷ fs) n = grind (arith, put_none fs)
 
   module _ (plan : Placement) (j : ℕ) (job : Job) (k : ℕ) (outer : ℕ → StackPlace) where
     entered_size : (spot : ℕ → StackPlace) (s : Standing) → IsEntered s → head_size (head spot s) ≡ 2
-    entered_size spot State.Marked e = absurd e
-    entered_size spot (State.Entered level environment back) e = refl
+    entered_size spot s e = grind arith
 
     -- the activation records, where the word is that of a cell of an entered frame
     pub put_activations : (bits : ℕ) → w ≡ Operand bits → (fs : List Frame) → Has (identities fs) id → IsEntered (frame_found id fs).standing → i < length (frame_found id fs).cells

@@ -1,5 +1,5 @@
 -- No two arrays have their originals at one address.
-use Rattle.std.proofs.Common.{◌≡◌, ◌≢◌, ℕ, suc, ◌+◌, ◌<◌, ◌≤◌, List, [], ◌∷◌, ◌++◌, map, length, reverse, sym, ◌∙◌, ap, arith, inl, inr, ◌⊎◌, ⊎_elim, subst}
+use Rattle.std.proofs.Common.{◌≡◌, ◌≢◌, ℕ, suc, ◌+◌, ◌<◌, ◌≤◌, List, [], ◌∷◌, ◌++◌, map, length, sym, ◌∙◌, ap, arith, inl, inr, ◌⊎◌, ⊎_elim, subst}
 use Rattle.std.proofs.lemmas.Bool.{cases_eq, cases_lt}
 use Rattle.std.proofs.lemmas.List.{length-reverse}
 use Rattle.std.proofs.lemmas.Option.{same_Some}
@@ -11,7 +11,7 @@ use Rattle.b67_model.specs.Keyed.{keyed}
 use Rattle.b67_model.specs.Common.{Word, Original, Frame, Array, Task, Job, SessionJob, number_of, Session, IsSegment}
 use Rattle.b67_layout.specs.Common.{JobInOrderButCounts, IsInOrderButCounts, Slotted, Placement, slot_of, spot_in, outer_spots, shape, head, activations, stack_of_task, slot_at, machine_view, DictionariesFollow, PlanFits}
 use Rattle.b67_stack.specs.Shapes as Shapes
-use Rattle.b67_stack.specs.Common.{Shape, Fits, LieDownward, StackPlace, Head, Marked, Entered, Activation, stack_words, headed, words, MachineView, Slot, Free, Running, Waiting, stack_of, slot_base, SlotFits, Storage, Represents}
+use Rattle.b67_stack.specs.Common.{Shape, Fits, LieDownward, StackPlace, Head, Activation, stack_words, headed, words, MachineView, Slot, stack_of, slot_base, SlotFits, Storage, Represents}
 use Rattle.b67_stack.proofs.Bases.{base-apart}
 use Rattle.b67_stack.proofs.Heights.{words-length}
 use Rattle.b67_stack.proofs.Lies.{Lie-under}
@@ -35,12 +35,10 @@ module _ (x : Storage) (core : List Tagged) (plan : Placement) (j : ℕ) (job : 
   cells_one spot rest (w ∷ ws) a b l (inr ha) (inr hb) e = cells_one spot rest ws a b l.1 ha hb e
 
   lie_head : (h : Head) (below : List Activation) (under : List Shape) → LieDownward (Fits x.held) core from (headed k h below under) → LieDownward (Fits x.held) core from under
-  lie_head Marked below under l = l.1
-  lie_head (Entered level environment back) below under l = l.1.1
+  lie_head h below under l = grind arith
 
   head_length : (h : Head) (below : List Activation) (under : List Shape) → 1 + length under ≤ length (headed k h below under)
-  head_length Marked below under = omega arith
-  head_length (Entered level environment back) below under = omega arith
+  head_length h below under = grind arith
 
   -- one in the frame on top, one below
   over_under : (f g : Frame) (below : List Frame) (a b : ℕ) → LieDownward (Fits x.held) core from (words k (activations plan j job k outer (f ∷ below))) → Has f.cells (Original a) → Has below g → Has g.cells (Original b) → plan.home j a ≡ plan.home j b → ⊥
@@ -60,33 +58,21 @@ module _ (x : Storage) (core : List Tagged) (plan : Placement) (j : ℕ) (job : 
       cells_one (spot_in k outer (y ∷ below)) (let bs = activations plan j job k outer below in headed k (head (spot_in k outer below) y.standing) bs (words k bs)) y.cells a b l (subst (λ (z : Frame). Has z.cells (Original a)) (sym yf) ha) (subst (λ (z : Frame). Has z.cells (Original b)) (sym yg) hb) e
   frames_one (y ∷ below) f g a b l (inl yf) ha (inr hg) hb e = absurd (over_under y g below a b l (subst (λ (z : Frame). Has z.cells (Original a)) (sym yf) ha) hg hb e)
   frames_one (y ∷ below) f g a b l (inr hf) ha (inl yg) hb e = absurd (over_under y f below b a l (subst (λ (z : Frame). Has z.cells (Original b)) (sym yg) hb) hf ha (sym e))
-  frames_one (y ∷ below) f g a b l (inr hf) ha (inr hg) hb e =
-      let bs = activations plan j job k outer below in
-      let fh : Head = head (spot_in k outer below) y.standing in
-      let under = lie_head fh bs (words k bs) (Lie-under (Fits x.held) core from (map (shape plan j job (spot_in k outer (y ∷ below))) y.cells) (headed k fh bs (words k bs)) l) in
-      frames_one below f g a b under hf ha hg hb e
+  frames_one (y ∷ below) f g a b l (inr hf) ha (inr hg) hb e = grind (arith, lie_head, Lie-under, frames_one below f g a b)
 
 abbrev dictionary_top : Placement → SessionJob → ℕ
 dictionary_top plan y = plan.dictionary y.constants.number + (2 + length y.constants.dictionary.cells)
 
 dictionary_under : (plan : Placement) (at : ℕ) (ms : List SessionJob) (y : SessionJob) → DictionariesFollow plan at ms → Has ms y → dictionary_top plan y ≤ plan.stacks
 dictionary_under plan at [] y d h = absurd h
-dictionary_under plan at (m ∷ more) y d (inl e) =
-    let P : SessionJob → Type 0 = λ z. dictionary_top plan z ≤ plan.stacks in
-    subst P e (omega (arith, d.0, follow-up plan (at + (2 + length m.constants.dictionary.cells)) more d.1))
+dictionary_under plan at (m ∷ more) y d (inl e) = grind (arith, follow-up)
 dictionary_under plan at (m ∷ more) y d (inr h) = dictionary_under plan (at + (2 + length m.constants.dictionary.cells)) more y d.1 h
 
 dictionaries_apart : (plan : Placement) (at : ℕ) (ms : List SessionJob) (y z : SessionJob) → DictionariesFollow plan at ms → Has ms y → Has ms z → (y ≡ z) ⊎ ((dictionary_top plan y ≤ plan.dictionary z.constants.number) ⊎ (dictionary_top plan z ≤ plan.dictionary y.constants.number))
 dictionaries_apart plan at [] y z d hy hz = absurd hy
 dictionaries_apart plan at (m ∷ more) y z d (inl ey) (inl ez) = inl (sym ey ∙ ez)
-dictionaries_apart plan at (m ∷ more) y z d (inl ey) (inr hz) =
-    let low = dictionary_above plan (at + (2 + length m.constants.dictionary.cells)) more z d.1 hz in
-    let same = ap (λ (v : SessionJob). dictionary_top plan v) ey in
-    inr (inl (omega (arith, low, d.0, same)))
-dictionaries_apart plan at (m ∷ more) y z d (inr hy) (inl ez) =
-    let low = dictionary_above plan (at + (2 + length m.constants.dictionary.cells)) more y d.1 hy in
-    let same = ap (λ (v : SessionJob). dictionary_top plan v) ez in
-    inr (inr (omega (arith, low, d.0, same)))
+dictionaries_apart plan at (m ∷ more) y z d (inl ey) (inr hz) = grind (arith, dictionary_above)
+dictionaries_apart plan at (m ∷ more) y z d (inr hy) (inl ez) = grind (arith, dictionary_above)
 dictionaries_apart plan at (m ∷ more) y z d (inr hy) (inr hz) = dictionaries_apart plan (at + (2 + length m.constants.dictionary.cells)) more y z d.1 hy hz
 
 module _ (x : Storage) (core : List Tagged) (r : Regs) (plan : Placement) (s : Session) (o : IsInOrderButCounts s) (fits : PlanFits plan s) (memory : Represents x core r (machine_view plan s.jobs)) where
@@ -97,9 +83,7 @@ module _ (x : Storage) (core : List Tagged) (r : Regs) (plan : Placement) (s : S
   order_of y h = job_in_order s y o h
 
   room : (p : MachineView) (k : ℕ) (q : Slot) → SlotFits p k q → 0 < p.size → stack_words (stack_of q) < p.size
-  room p k Free f some = some
-  room p k (Running stack) f some = f.0.fits
-  room p k (Waiting stack) f some = f.0.fits
+  room p k q f some = grind arith
 
   -- an original in a dictionary
   record InDictionary (y : SessionJob) (b : ℕ) : Type 0 where
@@ -108,11 +92,7 @@ module _ (x : Storage) (core : List Tagged) (r : Regs) (plan : Placement) (s : S
     is : plan.home y.constants.number b ≡ plan.dictionary y.constants.number + 1 + length y.constants.segments + b
 
   in_dictionary : (y : SessionJob) (b : ℕ) → Has s.jobs y → Has y.constants.dictionary.cells (Original b) → InDictionary y b
-  in_dictionary y b h d =
-      let e = entry_number 1 y.constants.segments (reverse y.constants.dictionary.cells) b (order_of y h).unchanging.dictionary (has_reverse y.constants.dictionary.cells (Original b) d) in
-      let n : length (reverse y.constants.dictionary.cells) ≡ length y.constants.dictionary.cells = length-reverse y.constants.dictionary.cells in
-      let is = fits.row_homes y h b e.0 (omega (arith, e.1, n)) in
-      record { low = omega (arith, is); high = omega (arith, is, e.1, n); is = is }
+  in_dictionary y b h d = grind (arith, entry_number, order_of, has_reverse, length-reverse)
 
   -- the words of a live task on its slot
   task_lies : (y : SessionJob) (u : Task) → Has s.jobs y → Has y.progress.job.tasks u → let k = slot_of plan y.constants.number u.number in
@@ -187,12 +167,7 @@ module _ (x : Storage) (core : List Tagged) (r : Regs) (plan : Placement) (s : S
       omega (arith, d.high, under, i.0, e)
 
   in_dictionaries : (y z : SessionJob) (b c : ℕ) → InDictionary y b → InDictionary z c → Has s.jobs y → Has s.jobs z → plan.home y.constants.number b ≡ plan.home z.constants.number c → (y ≡ z) × (b ≡ c)
-  in_dictionaries y z b c d f hy hz e = ⊎_elim
-      (λ (same : y ≡ z).
-      let n = ap (λ (v : SessionJob). plan.dictionary v.constants.number + 1 + length v.constants.segments) same in
-      (same, omega (arith, d.is, f.is, n, e)))
-      (λ n. absurd (⊎_elim (λ up. omega (arith, up, d.high, f.low, e)) (λ up. omega (arith, up, f.high, d.low, e)) n))
-      (dictionaries_apart plan 160 s.jobs y z fits.dictionaries hy hz)
+  in_dictionaries y z b c d f hy hz e = grind (arith, dictionaries_apart)
 
   -- the address tells the array
   pub one_home : (y z : SessionJob) (b c : Array) → Has s.jobs y → Has s.jobs z → Has y.progress.job.arrays b → Has z.progress.job.arrays c → plan.home y.constants.number b.identity ≡ plan.home z.constants.number c.identity → (y ≡ z) × (b.identity ≡ c.identity)

@@ -1,16 +1,16 @@
 -- The laws: what a row keeps, and which array a step touches.
-use Rattle.std.proofs.Common.{◌≡◌, ℕ, true, false, not, List, [], ◌∷◌, ◌++◌, map, filter, Some, Ok, Err, refl, inl, inr, ◌==◌}
+use Rattle.std.proofs.Common.{◌≡◌, ℕ, true, false, not, List, [], ◌∷◌, filter, Some, Ok, Err, refl, inl, inr, ◌==◌, arith}
 use Rattle.std.specs.List.{list_any}
 use Rattle.b67_word.specs.declared.couples.Place.{Place}
 use Rattle.b67_lemmas.specs.Lists.{Has}
 use Rattle.b67_lemmas.proofs.Members.{all_in}
 use Rattle.b67_model.specs.Words as Words
-use Rattle.b67_model.specs.Common.{Word, Operand, Name, Ref, Row, Element, Original, Proc, Intrinsic, Frame, Array, Task, JobConstants, Job, SessionJob, OperatorContext, Reading, Line, Goes, row, reading_of, step_by, step, Starts, IsSegment, Known, known_of, WordInOrder, EntryInOrder, FramesInOrder, TaskInOrder, TasksInOrder, outer_of}
+use Rattle.b67_model.specs.Common.{Word, Frame, Array, Task, JobConstants, Job, SessionJob, OperatorContext, Reading, Line, Goes, row, reading_of, step_by, step, Starts, IsSegment, Known, WordInOrder, EntryInOrder, FramesInOrder, TasksInOrder}
 use Rattle.b67_layout.specs.Orders.{JobInOrderButCounts}
 use Rattle.b67_law_order.proofs.Posts.{Post, post_err, post_at}
 use Rattle.b67_law_order.proofs.Kept.{here}
 use Rattle.b67_layout_step.specs.Keeping.{RowsKeepArrays, StepsTouchArrays}
-use Rattle.b67_layout_step.proofs.Words.{Names, AllName, FramesName, Holds}
+use Rattle.b67_layout_step.proofs.Words.{Names, FramesName, Holds}
 use Rattle.b67_layout_step.proofs.Rows.{Stands, stands_in, Keeps, Source, row_good}
 
 none_gone : (new old : List Array) → ((a : Array) → Has old a → Stands new a.identity) → filter (λ (a : Array). not (list_any (λ (b : Array). b.identity == a.identity) new)) old ≡ []
@@ -22,21 +22,10 @@ abbrev Any : ℕ → Type 0
 Any n = Unit {0}
 
 any_names : (w : Word) → Names Any w
-any_names (Operand bits) = tt
-any_names (Name couple) = tt
-any_names (Ref f offset) = tt
-any_names (Row a) = tt
-any_names (Element a index) = tt
-any_names (Original a) = tt
-any_names (Proc segment level place) = tt
-any_names (Intrinsic n) = tt
-any_names (Words.Segment n) = tt
+any_names w = grind arith
 
 any_source : (h : OperatorContext) → Source Any h.job.arrays (Unit {0}) h
-any_source h = record {
-  words = record { tasks = λ t k f m w i. any_names w; own = λ f m w i. any_names w; dictionary = λ w i. any_names w };
-  arrays = λ k n there. there;
-}
+any_source h = grind arith
 
 pub keeps_arrays : RowsKeepArrays
 keeps_arrays op h e after printed touched is =
@@ -48,44 +37,18 @@ abbrev pub IsOf : Job → ℕ → Type 0
 IsOf job n = (a : Array) × Has job.arrays a × (a.identity ≡ n)
 
 word_names : (P : Starts) (job : Job) (reach : List Known) (owner : ℕ) (w : Word) → WordInOrder P job.arrays reach owner w → Names (IsOf job) w
-word_names P job reach owner (Row a) g = (g.item, g.live, g.named)
-word_names P job reach owner (Element a index) g = (g.item, g.live, g.named)
-word_names P job reach owner (Original a) g = (g.item, g.live, g.named)
-word_names P job reach owner (Operand bits) g = tt
-word_names P job reach owner (Name couple) g = tt
-word_names P job reach owner (Ref f offset) g = tt
-word_names P job reach owner (Proc segment level place) g = tt
-word_names P job reach owner (Intrinsic n) g = tt
-word_names P job reach owner (Words.Segment n) g = tt
+word_names P job reach owner w g = grind arith
 
 entry_names : (job : Job) (w : Word) → EntryInOrder job.arrays w → Names (IsOf job) w
-entry_names job (Original a) g = (g.item, g.live, g.named)
-entry_names job (Row a) g = absurd g
-entry_names job (Element a index) g = absurd g
-entry_names job (Operand bits) g = tt
-entry_names job (Name couple) g = tt
-entry_names job (Ref f offset) g = tt
-entry_names job (Proc segment level place) g = tt
-entry_names job (Intrinsic n) g = tt
-entry_names job (Words.Segment n) g = tt
+entry_names job w g = grind arith
 
 frames_name : (P : Starts) (job : Job) (outer : List Known) (frames : List Frame) → FramesInOrder P job.arrays outer frames → FramesName (IsOf job) frames
 frames_name P job outer [] g f k = absurd k
-frames_name P job outer (x ∷ below) g f k = elim k [
-  | inl e ↦ λ w m. let words : AllName (IsOf job) x.cells = λ v i. word_names P job (map known_of (x ∷ below) ++ outer) x.identity v (all_in (WordInOrder P job.arrays (map known_of (x ∷ below) ++ outer) x.identity) x.cells v g.0.0 i) in
-      (rw e at words) w m
-  | inr m ↦ frames_name P job outer below g.2 f m
-]
+frames_name P job outer (x ∷ below) g f k = grind (arith, all_in, frames_name P job outer below g.2 f)
 
 -- every word of a job in order names an array of it
 pub order_holds : (P : Starts) (constants : JobConstants) (job : Job) (t : Task) (next : Place) → TasksInOrder P constants job → Has job.tasks t → Holds (IsOf job) (here constants job t next)
-order_holds P constants job t next g k =
-    let each : (u : Task) → Has job.tasks u → FramesName (IsOf job) u.frames = λ u m. frames_name P job (outer_of job u) u.frames (all_in (TaskInOrder P constants job) job.tasks u g.tasks m).frames in
-    record {
-      tasks = each;
-      own = each t k;
-      dictionary = λ w m. entry_names job w (all_in (EntryInOrder job.arrays) constants.dictionary.cells w g.entries m);
-    }
+order_holds P constants job t next g k = grind (arith, frames_name, all_in)
 
 by_reading : (P : Starts) (constants : JobConstants) (job : Job) (t : Task) → TasksInOrder P constants job → Has job.tasks t → (r : Reading) → Post (Keeps (IsOf job) job.arrays (true ≡ false)) (step_by constants job t r)
 by_reading P constants job t g k (Err why) = post_err (Keeps (IsOf job) job.arrays (true ≡ false)) _

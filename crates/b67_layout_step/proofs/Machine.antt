@@ -1,8 +1,7 @@
 -- A number stored into an element of a present array: the machine represents the session with that array changed.
-use Rattle.std.proofs.Common.{◌≡◌, ◌≢◌, ℕ, ◌+◌, ◌<◌, ◌≤◌, List, [], ◌∷◌, flat_map, length, Some, refl, sym, ◌∙◌, ap, arith, Bool, true, false, ◌==◌, ⊎_elim, subst, slice_set}
+use Rattle.std.proofs.Common.{◌≡◌, ◌≢◌, ℕ, ◌+◌, ◌<◌, ◌≤◌, List, [], ◌∷◌, flat_map, length, Some, sym, ◌∙◌, ap, arith, Bool, true, ⊎_elim, subst, slice_set}
 use Rattle.std.specs.List.{slice_get}
 use Rattle.std.proofs.Math.ListN.{length-set}
-use Rattle.std.proofs.lemmas.Bool.{cases_Bool}
 use Rattle.b67_core.proofs.Writes.{slice_get-set_other}
 use Rattle.b67_word.specs.Tagged.{Tagged, word}
 use Rattle.b67_area.specs.declared.Kind.TheVariants as kind
@@ -10,26 +9,19 @@ use Rattle.b67_area.proofs.Laws.{area_inside}
 use Rattle.b67_lemmas.specs.Lists.{Has}
 use Rattle.b67_lemmas.proofs.Members.{keyed_has}
 use Rattle.b67_model.specs.Keyed.{keyed}
-use Rattle.b67_model.specs.Common.{Array, Task, Job, JobProgress, SessionJob, OperatorContext, frame_at, with_element, number_of, Session, Known}
+use Rattle.b67_model.specs.Common.{Array, Task, Job, JobProgress, SessionJob, with_element, number_of, Session}
 use Rattle.b67_model.specs.Arrays as Arrays
-use Rattle.b67_layout.specs.Common.{IsInOrderButCounts, Placement, slot_of, spots, address_of, array_object, objects_of, machine_view, RowsFit, DictionariesFollow, RowHomes, PlanFits, RepresentsDictionary, vector_word, critical_mark, RepresentsTask, IsRunning, ShowsDisplay, SessionHolds, RepresentsSession}
+use Rattle.b67_layout.specs.Common.{IsInOrderButCounts, Placement, slot_of, array_object, objects_of, machine_view, RowsFit, DictionariesFollow, RowHomes, PlanFits, RepresentsDictionary, vector_word, critical_mark, RepresentsTask, IsRunning, ShowsDisplay, SessionHolds, RepresentsSession}
 use Rattle.b67_stack.specs.declared.Cpu.{Cpu}
 use Rattle.b67_stack.specs.Common.{PagedObject, Slot, MachineView, NoOriginalAboveTop, Storage, Represents, info_of}
-use Rattle.b67_layout.proofs.Common.{same_frame_at, with_course, member-same, slot_below, change-has, change-kept, dictionary_below, running_only}
+use Rattle.b67_layout.proofs.Common.{with_course, member-same, slot_below, change-has, change-kept, dictionary_below, running_only}
 use Rattle.b67_layout_step.proofs.Elements.{with_number, Replaces, Represents-element}
-use Rattle.b67_layout_step.proofs.Arrays.{number_renumbers, spots_same, mark_same, slots_same}
+use Rattle.b67_layout_step.proofs.Arrays.{number_renumbers, mark_same, slots_same}
 use Rattle.b67_layout_step.proofs.Objects.{old_object, replaces}
 
 -- the display
 pub Shows-element : (display : List ℕ) (plan : Placement) (m : SessionJob) (t : Task) (id i v : ℕ) → ShowsDisplay display plan m t → ShowsDisplay display plan (record m { progress = record m.progress { job = with_element m.progress.job id i v } }) t
-Shows-element display plan m t id i v shown n up =
-    let job' = with_element m.progress.job id i v in
-    let h : OperatorContext = record { constants = m.constants; job = m.progress.job; task = t; at = t.place } in
-    let h' : OperatorContext = record { constants = m.constants; job = job'; task = t; at = t.place } in
-    let same : (frame_at h' n).identity ≡ (frame_at h n).identity = ap (λ (k : Known). k.0) (same_frame_at h h' refl n refl) in
-    shown n up
-    ∙ ap (λ (g : ℕ). Some (address_of plan (spots plan m.constants.number m.progress.job t g))) (sym same)
-    ∙ ap (λ s. Some (address_of plan (s (frame_at h' n).identity))) (sym (spots_same plan m.constants.number m.progress.job id (Arrays.with_number i v) (number_renumbers i v) t))
+Shows-element display plan m t id i v shown n up = grind arith
 
 module _ (x : Storage) (old : Cpu) (plan : Placement) (s : Session) (m : SessionJob) (t : Task) (o : IsInOrderButCounts s) (h : RepresentsSession x old plan s) (runs : IsRunning plan s.jobs m t)
     (a : Array) (found : keyed (λ (z : Array). z.identity) a.identity m.progress.job.arrays ≡ Some a) (writable : a.writable ≡ true) (i v b : ℕ) (low : i < length a.numbers) (held : (x.held (plan.home m.constants.number a.identity)).area ≡ Some b) where
@@ -109,10 +101,7 @@ module _ (x : Storage) (old : Cpu) (plan : Placement) (s : Session) (m : Session
 
   follow : (from : ℕ) (xs : List SessionJob) → DictionariesFollow plan from xs → DictionariesFollow plan from (with_course xs m.constants.number c')
   follow from [] d = d
-  follow from (y ∷ more) d = ⊎_elim
-      (λ (z : (number_of y == m.constants.number) ≡ true). rw z d)
-      (λ (z : (number_of y == m.constants.number) ≡ false). rw z (d.0, follow (from + (2 + length y.constants.dictionary.cells)) more d.1))
-      (cases_Bool (number_of y == m.constants.number))
+  follow from (y ∷ more) d = grind (arith, follow (from + (2 + length y.constants.dictionary.cells)) more d.1)
 
   rows : RowsFit plan jobs'
   rows = let fit = h.holds.fits.rows in record {
@@ -158,10 +147,7 @@ module _ (x : Storage) (old : Cpu) (plan : Placement) (s : Session) (m : Session
   vector y u in_y in_u = same (32 + slot_of plan y.constants.number u.number) (let d = slot_below plan s.jobs y u h.holds.fits.rows in_y in_u in let few = h.holds.fits.few in let first = h.holds.memory.slots.laid.first in omega (arith, d, few, first, stacks_under)) ∙ h.holds.vector.live y u in_y in_u
 
   dictionary : (y : SessionJob) → Has s.jobs y → RepresentsDictionary (slice_set old.core (b + i) (word 0 v)) plan y
-  dictionary y in_y =
-      let d = dictionary_below plan 160 s.jobs y h.holds.fits.dictionaries in_y in
-      let q = h.holds.dictionaries y in_y in
-      record { mark = same (plan.dictionary y.constants.number) (omega (arith, d, stacks_under)) ∙ q.mark; entries = same (plan.dictionary y.constants.number + 1) (omega (arith, d, stacks_under)) ∙ q.entries }
+  dictionary y in_y = grind (arith, dictionary_below, same)
 
   SessionHolds-element : SessionHolds x (slice_set old.core (b + i) (word 0 v)) old.regs old.critical plan s'
   SessionHolds-element = record {

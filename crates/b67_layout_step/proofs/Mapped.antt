@@ -1,17 +1,17 @@
 -- A job with a word stored in one frame's cell: what all its tasks see stays.
-use Rattle.std.proofs.Common.{◌≡◌, ◌≢◌, ℕ, ◌≤◌, List, [], ◌∷◌, ◌++◌, map, flat_map, Option, Some, None, refl, sym, ◌∙◌, ap, arith, Bool, true, false, ◌==◌, ⊎_elim, subst}
-use Rattle.std.specs.Prelude.{if◌then◌else◌, option_map, ◌||◌}
+use Rattle.std.proofs.Common.{◌≡◌, ◌≢◌, ℕ, ◌≤◌, List, [], ◌∷◌, ◌++◌, map, flat_map, Option, Some, None, refl, sym, ◌∙◌, ap, arith, Bool, ◌==◌, ⊎_elim, subst}
+use Rattle.std.specs.Prelude.{option_map, ◌||◌}
 use Rattle.std.specs.List.{slice_get, list_any}
-use Rattle.std.proofs.lemmas.Bool.{cases_Bool, cases_eq, eqb-true}
+use Rattle.std.proofs.lemmas.Bool.{cases_eq, eqb-true}
 use Rattle.std.proofs.lemmas.List.{map-append}
 use Rattle.b67_lemmas.specs.Lists.{Has}
 use Rattle.b67_lemmas.proofs.Members.{has_map, has_map_back, found-has, keyed_has}
 use Rattle.b67_model.specs.Keyed.{keyed}
-use Rattle.b67_model.specs.Common.{Word, Frame, Task, Job, JobProgress, SessionJob, OperatorContext, height, all_frames, level_of_standing, level_of_frame, running, frame_at, is_critical, number_of, Known, known_of, identities, from_frame, frames_of_task, critical_of, frames_named, frames_in_job}
+use Rattle.b67_model.specs.Common.{Word, Frame, Task, Job, JobProgress, SessionJob, OperatorContext, all_frames, level_of_standing, level_of_frame, running, frame_at, is_critical, number_of, Known, known_of, identities, from_frame, frames_of_task, critical_of, frames_named, frames_in_job}
 use Rattle.b67_model.specs.State as State
-use Rattle.b67_stack.specs.Common.{StackPlace, Activation, PagedObject, Slot, Running, Waiting, MachineView, with_slot}
+use Rattle.b67_stack.specs.Common.{StackPlace, Slot, with_slot}
 use Rattle.b67_stack.proofs.Slots.{slot-same, slot-other}
-use Rattle.b67_layout.specs.Common.{Slotted, Placement, slot_of, spot_in, outer_spots, spots, address_of, activations, stack_of_task, slot_with, slot_in, slot_by, slot_at, objects_of, machine_view, RowsFit, critical_mark, ShowsDisplay}
+use Rattle.b67_layout.specs.Common.{Slotted, Placement, slot_of, spot_in, outer_spots, spots, address_of, activations, stack_of_task, slot_with, slot_in, slot_by, slot_at, machine_view, RowsFit, critical_mark, ShowsDisplay}
 use Rattle.b67_layout.proofs.Common.{activations-job, with_course, member-same, member-other, task_row, change-has, change-kept, same_running, same_frame_at}
 use Rattle.b67_layout.proofs.MachineViews.{objects-after}
 use Rattle.b67_refer.proofs.Slots.{live_slot}
@@ -25,10 +25,7 @@ put_task id i w t = record t { frames = put_frames id i w t.frames }
 module _ (plan : Placement) (j : ℕ) (job : Job) (id i : ℕ) (w : Word) where
   pub keyed_put : (n : ℕ) (xs : List Task) → keyed (λ (v : Task). v.number) n (map (put_task id i w) xs) ≡ option_map (put_task id i w) (keyed (λ (v : Task). v.number) n xs)
   keyed_put n [] = refl
-  keyed_put n (x ∷ xs) = ⊎_elim
-      (λ (t : (x.number == n) ≡ true). rw t refl)
-      (λ (t : (x.number == n) ≡ false). rw t (keyed_put n xs))
-      (cases_Bool (x.number == n))
+  keyed_put n (x ∷ xs) = grind (arith, keyed_put n xs)
 
   outer_by : (parents : List ℕ) (c : ℕ) (g : ℕ) → outer_spots plan j (put_job job id i w) c parents g ≡ outer_spots plan j job c parents g
   outer_by [] c g = refl
@@ -61,17 +58,11 @@ module _ (plan : Placement) (j : ℕ) (job : Job) (id i : ℕ) (w : Word) where
 
   mark_same : (fs : List Frame) → critical_mark (put_job job id i w) fs ≡ critical_mark job fs
   mark_same [] = refl
-  mark_same (f ∷ fs) =
-      ap (λ (b : Bool). if b then height fs else critical_mark (put_job job id i w) fs) (critical_put f.identity)
-      ∙ ap (λ (n : ℕ). if is_critical job f.identity then height fs else n) (mark_same fs)
+  mark_same (f ∷ fs) = grind (arith, critical_put)
 
   mark_frames : (fs : List Frame) → critical_mark job (put_frames id i w fs) ≡ critical_mark job fs
   mark_frames [] = refl
-  mark_frames (f ∷ fs) = ⊎_elim
-      (λ (t : (f.identity == id) ≡ true). rw t refl)
-      (λ (t : (f.identity == id) ≡ false). rw t (ap (λ (n : ℕ). if is_critical job f.identity then n else critical_mark job (put_frames id i w fs)) (put_height id i w fs)
-      ∙ ap (λ (n : ℕ). if is_critical job f.identity then height fs else n) (mark_frames fs)))
-      (cases_Bool (f.identity == id))
+  mark_frames (f ∷ fs) = grind (arith, put_height, mark_frames fs)
 
   pub mark_put : (fs : List Frame) → critical_mark (put_job job id i w) (put_frames id i w fs) ≡ critical_mark job fs
   mark_put fs = mark_same (put_frames id i w fs) ∙ mark_frames fs
@@ -82,17 +73,11 @@ module _ (plan : Placement) (j : ℕ) (job : Job) (id i : ℕ) (w : Word) where
       ∙ activations-job plan j job (put_job job id i w) refl k (outer_spots plan j job t.critical t.parents) (put_frames id i w t.frames)
 
   pub slot_unchanged : (k : ℕ) (t : Task) → frames_named id t.frames ≡ 0 → slot_with plan k j (put_job job id i w) (Some (put_task id i w t)) ≡ slot_with plan k j job (Some t)
-  slot_unchanged k t none =
-      let S : List Activation → Slot = λ xs. if k == plan.running then Running xs else Waiting xs in
-      ap S (stack_put k t ∙ ap (λ fs. activations plan j job k (outer_spots plan j job t.critical t.parents) fs) (put_none id i w t.frames none))
+  slot_unchanged k t none = grind (arith, stack_put, put_none)
 
 flat_known : (id i : ℕ) (w : Word) (xs : List Task) → map known_of (flat_map (λ (t : Task). t.frames) (map (put_task id i w) xs)) ≡ map known_of (flat_map (λ (t : Task). t.frames) xs)
 flat_known id i w [] = refl
-flat_known id i w (x ∷ xs) =
-    map-append known_of (put_frames id i w x.frames) (flat_map (λ (t : Task). t.frames) (map (put_task id i w) xs))
-    ∙ ap (λ (ks : List Known). ks ++ map known_of (flat_map (λ (t : Task). t.frames) (map (put_task id i w) xs))) (put_known id i w x.frames)
-    ∙ ap (λ (ks : List Known). map known_of x.frames ++ ks) (flat_known id i w xs)
-    ∙ sym (map-append known_of x.frames (flat_map (λ (t : Task). t.frames) xs))
+flat_known id i w (x ∷ xs) = grind (arith, map-append, put_known, flat_known id i w xs)
 
 -- the display
 pub Shows-put : (display : List ℕ) (plan : Placement) (m : SessionJob) (c : JobProgress) (t : Task) (id i : ℕ) (w : Word) → c.job ≡ put_job m.progress.job id i w → ShowsDisplay display plan m t → ShowsDisplay display plan (record m { progress = c }) (put_task id i w t)
@@ -200,8 +185,4 @@ module _ (plan : Placement) (jobs : List SessionJob) (m : SessionJob) (id i : �
         (cases_eq q (slot_of plan m.constants.number u.number))
 
     pub machine_view_put : machine_view plan (with_course jobs m.constants.number (record m.progress { job = put_job m.progress.job id i w })) ≡ with_slot (machine_view plan jobs) (slot_of plan m.constants.number u.number) after
-    machine_view_put =
-        let P : (ℕ → Slot) → List PagedObject → MachineView = λ s objects. record { stacks = plan.stacks; size = plan.size; peak = plan.peak; slots = s; objects = objects } in
-        let slots : slot_at plan (with_course jobs m.constants.number c) ≡ (with_slot (machine_view plan jobs) (slot_of plan m.constants.number u.number) after).slots = λ z q. slots_after q z in
-        ap (λ (s : ℕ → Slot). P s (flat_map (objects_of plan) (with_course jobs m.constants.number c))) slots
-        ∙ ap (P (with_slot (machine_view plan jobs) (slot_of plan m.constants.number u.number) after).slots) (objects-after plan jobs m.constants.number c m member refl)
+    machine_view_put = grind (arith, slots_after, objects-after)

@@ -1,6 +1,5 @@
 -- Sessions with other numbers: what they share.
-use Rattle.std.proofs.Common.{◌≡◌, ℕ, ◌==◌, List, [], ◌∷◌, Option, Some, None, refl, sym, ◌∙◌, ap, true, false, ⊎_elim, subst}
-use Rattle.std.proofs.lemmas.Bool.{cases_Bool}
+use Rattle.std.proofs.Common.{◌≡◌, ℕ, List, [], ◌∷◌, Option, Some, None, refl, sym, ◌∙◌, ap, subst, arith}
 use Rattle.b67_model.specs.Common.{Task, SessionJob, number_of}
 use Rattle.b67_model.specs.Keyed.{keyed}
 use Rattle.b67_law_order.specs.Weaker.{OtherNumbers, AllOtherNumbers}
@@ -9,13 +8,7 @@ use Rattle.b67_layout.specs.Common.{Placement, slot_of, IsRunning}
 use Rattle.b67_layout.proofs.Alike.{Alike, AllAlike}
 
 pub other_alike : (m n : SessionJob) → OtherNumbers m n → Alike m n
-other_alike m n h = record {
-  number = ap (λ (z : SessionJob). z.constants.number) h.rest;
-  stack_size = ap (λ (z : SessionJob). z.constants.stack_size) h.rest;
-  dictionary = ap (λ (z : SessionJob). z.constants.dictionary) h.rest;
-  count = recoded_count m.constants.segments n.constants.segments h.segments;
-  tasks = ap (λ (z : SessionJob). z.progress.job.tasks) h.rest;
-}
+other_alike m n h = grind (arith, recoded_count)
 
 pub others_alike : (ms ns : List SessionJob) → AllOtherNumbers ms ns → AllAlike ms ns
 others_alike [] [] h = tt
@@ -30,12 +23,7 @@ OtherOption _ _ = ⊥
 
 others_keyed : (j : ℕ) (ms ns : List SessionJob) → AllOtherNumbers ms ns → OtherOption (keyed number_of j ms) (keyed number_of j ns)
 others_keyed j [] [] e = tt
-others_keyed j (m ∷ ms) (n ∷ ns) e =
-    let same : number_of n ≡ number_of m = ap (λ (z : SessionJob). z.constants.number) e.0.rest in
-    ⊎_elim
-    (λ (t : (number_of m == j) ≡ true). let u : (number_of n == j) ≡ true = ap (λ (i : ℕ). i == j) same ∙ t in rw (t, u) e.0)
-    (λ (t : (number_of m == j) ≡ false). let u : (number_of n == j) ≡ false = ap (λ (i : ℕ). i == j) same ∙ t in rw (t, u) (others_keyed j ms ns e.1))
-    (cases_Bool (number_of m == j))
+others_keyed j (m ∷ ms) (n ∷ ns) e = grind (arith, others_keyed j ms ns e.1)
 others_keyed j [] (n ∷ ns) e = absurd e
 others_keyed j (m ∷ ms) [] e = absurd e
 

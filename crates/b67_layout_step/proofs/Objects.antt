@@ -1,11 +1,11 @@
 -- The objects of a session with another number in an array: one of them is replaced.
-use Rattle.std.proofs.Common.{◌≡◌, ◌≢◌, ℕ, ◌<◌, ◌^◌, length, List, [], ◌∷◌, map, flat_map, Some, refl, sym, ◌∙◌, ap, Bool, true, false, ◌==◌, ⊎_elim, inl, inr, ◌⊎◌, subst}
-use Rattle.std.proofs.lemmas.Bool.{cases_Bool, cases_eq}
+use Rattle.std.proofs.Common.{◌≡◌, ◌≢◌, ℕ, ◌<◌, ◌^◌, length, List, [], ◌∷◌, map, flat_map, Some, refl, sym, ◌∙◌, ap, Bool, ⊎_elim, inl, inr, ◌⊎◌, subst, arith}
+use Rattle.std.proofs.lemmas.Bool.{cases_eq}
 use Rattle.std.proofs.lemmas.Option.{same_Some}
 use Rattle.b67_word.specs.Tagged.{Tagged}
 use Rattle.b67_area.specs.declared.Kind.TheVariants as kind
 use Rattle.b67_ctl.specs.declared.registers.Regs.{Regs}
-use Rattle.b67_lemmas.specs.Lists.{Has, Falls}
+use Rattle.b67_lemmas.specs.Lists.{Has}
 use Rattle.b67_lemmas.proofs.Members.{falls_same, has_append_cases, has_append_left, has_append_right, has_flat, has_flat_back, has_map, has_map_back, keyed_has}
 use Rattle.b67_lemmas.proofs.Keyed.{changed_there}
 use Rattle.b67_model.specs.Keyed.{keyed, change_keyed}
@@ -19,16 +19,10 @@ use Rattle.b67_law_order.proofs.Numbered.{keyed_member}
 
 pub identities_kept : (id : ℕ) (f : Array → Array) → Renumbers f → (xs : List Array) → map (λ (a : Array). a.identity) (change_keyed (λ (a : Array). a.identity) id f xs) ≡ map (λ (a : Array). a.identity) xs
 identities_kept id f keeps [] = refl
-identities_kept id f keeps (x ∷ xs) = ⊎_elim
-    (λ (t : (x.identity == id) ≡ true). rw t (ap (λ (n : ℕ). n ∷ map (λ (a : Array). a.identity) xs) (keeps.identity x)))
-    (λ (t : (x.identity == id) ≡ false). rw t (ap (λ (ns : List ℕ). x.identity ∷ ns) (identities_kept id f keeps xs)))
-    (cases_Bool (x.identity == id))
+identities_kept id f keeps (x ∷ xs) = grind (arith, identities_kept id f keeps xs)
 
 array_kind : (plan : Placement) (j : ℕ) (a : Array) → (array_object plan j a).kind ≢ kind.Code
-array_kind plan j a = by a.writable where
-  by : (b : Bool) → Rattle.std.specs.Prelude.if◌then◌else◌ b kind.Array kind.Row ≢ kind.Code
-  by true e = let f : ⊥ = cc in f
-  by false e = let f : ⊥ = cc in f
+array_kind plan j a = grind arith
 
 module _ (x : Storage) (core : List Tagged) (r : Regs) (plan : Placement) (s : Session) (o : IsInOrderButCounts s) (fits : PlanFits plan s) (memory : Represents x core r (machine_view plan s.jobs))
     (m : SessionJob) (member : keyed number_of m.constants.number s.jobs ≡ Some m) (a : Array) (found : keyed (λ (z : Array). z.identity) a.identity m.progress.job.arrays ≡ Some a) (f : Array → Array) (keeps : Renumbers f) where
@@ -73,12 +67,7 @@ module _ (x : Storage) (core : List Tagged) (r : Regs) (plan : Placement) (s : S
 
   -- an array of the changed job: the changed one, or another of before
   array_of : (b : Array) → Has (with_array m.progress.job a.identity f).arrays b → (b ≡ f a) ⊎ (Has m.progress.job.arrays b × (b.identity ≢ a.identity))
-  array_of b h = ⊎_elim
-      (λ (e : b.identity ≡ a.identity). inl (falls_same (λ (z : Array). z.identity) m.progress.job.next_array job'.arrays b a' falls h has_new (e ∙ sym (keeps.identity a))))
-      (λ (ne : b.identity ≡ a.identity → ⊥). inr (⊎_elim (λ k. k) (λ (e : b ≡ a'). absurd (ne (ap (λ (z : Array). z.identity) e ∙ keeps.identity a))) (change-has (λ (z : Array). z.identity) a.identity f m.progress.job.arrays a found b h), ne))
-      (cases_eq b.identity a.identity) where
-        falls : Falls m.progress.job.next_array (map (λ (z : Array). z.identity) (with_array m.progress.job a.identity f).arrays)
-        falls = subst (Falls m.progress.job.next_array) (sym (identities_kept a.identity f keeps m.progress.job.arrays)) (job_in_order s m o has_m).tasks.names
+  array_of b h = grind (arith, falls_same, has_new, change-has, identities_kept, job_in_order, has_m)
 
   -- a member of the changed session: the changed one, or another of before
   member_of : (y : SessionJob) → Has jobs' y → (y ≡ moved) ⊎ (Has s.jobs y × (y.constants.number ≢ m.constants.number))
@@ -91,10 +80,7 @@ module _ (x : Storage) (core : List Tagged) (r : Regs) (plan : Placement) (s : S
 
   -- code has another address
   code_apart : (y : SessionJob) → Has s.jobs y → (u : PagedObject) → Has (code_objects plan y.constants.number 1 y.constants.segments) u → u.home ≢ t.home
-  code_apart y h u k e =
-      let there = has_flat (objects_of plan) s.jobs y u h (has_append_left (code_objects plan y.constants.number 1 y.constants.segments) (map (array_object plan y.constants.number) y.progress.job.arrays) u k) in
-      let same : u ≡ t = memory.slots.laid.differ u t there old_object e in
-      array_kind plan j a (ap (λ (z : PagedObject). z.kind) (sym same) ∙ code_kind plan y.constants.number 1 y.constants.segments u k)
+  code_apart y h u k e = grind (arith, has_flat, has_append_left, old_object, code_kind)
 
   other_array : (y : SessionJob) (b : Array) → Has s.jobs y → Has y.progress.job.arrays b → (y ≡ m → b.identity ≢ a.identity) → plan.home y.constants.number b.identity ≢ plan.home j a.identity
   other_array y b hy hb ne e = let one = one_home x core r plan s o fits memory y m b a hy has_m hb has_a e in ne one.0 one.1

@@ -1,5 +1,5 @@
 -- Other numbers in segments and arrays keep the order of a session but for its counts.
-use Rattle.std.proofs.Common.{List, [], ◌∷◌, length, refl, sym, subst, arith}
+use Rattle.std.proofs.Common.{List, [], ◌∷◌, sym, subst, arith}
 use Rattle.std.specs.List.{AllByRecursion}
 use Rattle.b67_model.specs.Common.{SessionJob, Session, IsSegment}
 use Rattle.b67_law_order.specs.Weaker.{AllOtherNumbers}
@@ -23,14 +23,4 @@ jobs_up [] (n ∷ ns) h o = absurd h
 jobs_up (m ∷ ms) [] h o = absurd h
 
 pub others_in_order : (s : Session) (jobs : List SessionJob) → AllOtherNumbers s.jobs jobs → IsInOrderButCounts s → IsInOrderButCounts (record s { jobs = jobs })
-others_in_order s jobs h o =
-    let few = o.few in
-    let low = o.peak_low in
-    record {
-      few = omega (arith, few, count_up s.jobs jobs h);
-      numbered = numbered_up 1 s.jobs jobs h o.numbered;
-      one_size = (o.one_size.0, sizes_up o.one_size.0 s.jobs jobs h o.one_size.1);
-      jobs = jobs_up s.jobs jobs h o.jobs;
-      peak_low = omega (arith, low, sum_up (λ (m : SessionJob). length m.progress.job.tasks) (λ m segments arrays. refl) s.jobs jobs h);
-      peak_high = o.peak_high;
-    }
+others_in_order s jobs h o = grind (arith, count_up, numbered_up, sizes_up, jobs_up, sum_up)

@@ -1,6 +1,6 @@
 -- Whose frame it is that a live task names, and where it lies in its task's stack.
-use Rattle.std.proofs.Common.{◌≡◌, ◌≢◌, ℕ, ◌+◌, ◌<◌, ◌≤◌, List, [], ◌∷◌, ◌++◌, map, Option, Some, refl, sym, ◌∙◌, ap, arith, true, false, ◌==◌, ⊎_elim, inl, inr, subst}
-use Rattle.std.proofs.lemmas.Bool.{cases_Bool, eq-eqb, ne_eqb}
+use Rattle.std.proofs.Common.{◌≡◌, ◌≢◌, ℕ, ◌<◌, ◌≤◌, List, [], ◌∷◌, ◌++◌, map, Option, Some, refl, sym, ◌∙◌, ap, arith, true, false, ◌==◌, ⊎_elim, inl, inr, subst}
+use Rattle.std.proofs.lemmas.Bool.{cases_Bool, ne_eqb}
 use Rattle.b67_lemmas.specs.Lists.{Has, Falls, total}
 use Rattle.b67_lemmas.proofs.Members.{all_in, falls_low, has_append_cases, has_append_right, has_map, keyed_has, total_has}
 use Rattle.b67_model.specs.Keyed.{keyed}
@@ -18,19 +18,11 @@ identity_has (f ∷ fs) id s (inr h) = inr (identity_has fs id s h)
 
 pub spot_under : (k : ℕ) (outer : ℕ → StackPlace) (fs : List Frame) (id : ℕ) → Has (identities fs) id → spot_in k outer fs id ≡ record { stack = k; disp = height (frames_under id fs) }
 spot_under k outer [] id h = absurd h
-spot_under k outer (f ∷ fs) id h = ⊎_elim
-    (λ (t : (f.identity == id) ≡ true). rw t refl)
-    (λ (t : (f.identity == id) ≡ false).
-    let more : Has (identities fs) id = ⊎_elim (λ z. absurd (let y : ⊥ = (let q : (f.identity == id) ≡ true = eq-eqb f.identity id z in let u : false ≡ true = sym t ∙ q in cc) in y)) (λ q. q) h in
-    rw t (spot_under k outer fs id more))
-    (cases_Bool (f.identity == id))
+spot_under k outer (f ∷ fs) id h = grind (arith, spot_under k outer fs id)
 
 from_identity : (c : ℕ) (fs : List Frame) (id : ℕ) → Has (identities (from_frame c fs)) id → Has (identities fs) id
 from_identity c [] id h = h
-from_identity c (f ∷ fs) id h = ⊎_elim
-    (λ (t : (f.identity == c) ≡ true). rw t at h)
-    (λ (t : (f.identity == c) ≡ false). inr (from_identity c fs id (rw t at h)))
-    (cases_Bool (f.identity == c))
+from_identity c (f ∷ fs) id h = grind (arith, from_identity c fs id)
 
 -- a frame at or under the critical one is found under the same frames
 from_under : (bound c : ℕ) (fs : List Frame) (known : List Known) (id : ℕ) → Falls bound (known_numbers (map known_of fs ++ known)) → Has (identities (from_frame c fs)) id → frames_under id (from_frame c fs) ≡ frames_under id fs
@@ -60,9 +52,7 @@ falls_from bound c (f ∷ fs) known g = ⊎_elim
     (cases_Bool (f.identity == c))
 
 no_base : (id : ℕ) (s : Standing) → Has base (id, s) → 1 < id → ⊥
-no_base id s (inl e) high = omega (arith, ap (λ (q : Known). q.0) e, high)
-no_base id s (inr (inl e)) high = omega (arith, ap (λ (q : Known). q.0) e, high)
-no_base id s (inr (inr z)) high = z
+no_base id s h high = grind arith
 
 module _ (plan : Placement) (constants : JobConstants) (job : Job) (ordered : TasksInOrder (IsSegment constants) constants job) where
   order_of : (u : Task) → Has job.tasks u → TaskInOrder (IsSegment constants) constants job u
@@ -125,14 +115,7 @@ module _ (plan : Placement) (constants : JobConstants) (job : Job) (ordered : Ta
 -- a frame's identity is one task's alone
 named_once : (fs : List Frame) (id : ℕ) → Has (identities fs) id → 1 ≤ frames_named id fs
 named_once [] id h = absurd h
-named_once (f ∷ fs) id h = ⊎_elim
-    (λ (t : (f.identity == id) ≡ true). (let e : frames_named id (f ∷ fs) ≡ 1 + frames_named id fs = rw t refl in omega (arith, e)))
-    (λ (t : (f.identity == id) ≡ false).
-    let more : Has (identities fs) id = ⊎_elim (λ z. absurd (let y : ⊥ = (let q : (f.identity == id) ≡ true = eq-eqb f.identity id z in let u : false ≡ true = sym t ∙ q in cc) in y)) (λ q. q) h in
-    let e : frames_named id (f ∷ fs) ≡ 0 + frames_named id fs = rw t refl in
-    let l = named_once fs id more in
-    omega (arith, e, l))
-    (cases_Bool (f.identity == id))
+named_once (f ∷ fs) id h = grind (arith, named_once fs id)
 
 pub others_none : (xs : List Task) (u v : Task) (id : ℕ) → Has xs u → Has xs v → u.number ≢ v.number → Has (identities u.frames) id → total (λ (t : Task). frames_named id t.frames) xs ≤ 1 → frames_named id v.frames ≡ 0
 others_none [] u v id hu hv ne has low = absurd hu

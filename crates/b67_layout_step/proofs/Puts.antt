@@ -1,15 +1,14 @@
 -- A stack with another shape in one cell.
-use Rattle.std.proofs.Common.{◌≡◌, ◌≢◌, ℕ, suc, ◌+◌, ◌<◌, ◌≤◌, List, [], ◌∷◌, ◌++◌, map, length, not, Option, Some, None, refl, sym, ◌∙◌, ap, arith, Bool, true, false, ◌==◌, ⊎_elim, inl, inr, subst, slice_set, length-append}
+use Rattle.std.proofs.Common.{◌≡◌, ◌≢◌, ℕ, suc, ◌+◌, ◌<◌, ◌≤◌, List, [], ◌∷◌, ◌++◌, map, length, Some, None, refl, sym, ◌∙◌, ap, arith, Bool, true, false, ◌==◌, ⊎_elim, inl, inr, subst, slice_set, length-append}
 use Rattle.std.specs.Prelude.{if◌then◌else◌}
 use Rattle.std.specs.List.{slice_get}
-use Rattle.std.proofs.lemmas.Bool.{cases_Bool, ne_eqb, eqb-true, eqb-false}
+use Rattle.std.proofs.lemmas.Bool.{cases_Bool, eqb-true, eqb-false}
 use Rattle.b67_word.specs.Tagged.{Tagged}
 use Rattle.b67_core.proofs.Writes.{slice_get-set_same, slice_get-set_other}
 use Rattle.b67_lemmas.specs.Lists.{Has}
-use Rattle.b67_model.specs.State.{Return}
 use Rattle.std.proofs.lemmas.List.{length-map}
 use Rattle.b67_ctl.specs.Layout.{mscw_word, rcw_word}
-use Rattle.b67_stack.specs.Common.{Copied, Shape, Is, Copy, LieDownward, Head, Marked, Entered, Activation, head_size, top_size, stack_words, mark_place, level_from, stack_level, mark_of, return_of, headed, words, ReturnFits, HeadFits, HeadsFit}
+use Rattle.b67_stack.specs.Common.{Copied, Shape, Is, Copy, LieDownward, Head, Marked, Entered, Activation, head_size, top_size, stack_words, mark_place, level_from, stack_level, mark_of, return_of, headed, words, HeadsFit}
 use Rattle.b67_stack.proofs.Lies.{Lie-same, Lie-under}
 use Rattle.b67_stack.proofs.Heights.{words-length, headed-length}
 
@@ -25,20 +24,14 @@ put_length i w (x ∷ xs) = ap suc (put_length i w xs)
 -- past the first item nothing changes
 pub put_past : {A : Type 0} (i : ℕ) (w : A) (xs : List A) → length xs ≤ i → put i w xs ≡ xs
 put_past i w [] high = refl
-put_past i w (x ∷ xs) high =
-    let t : (i == length xs) ≡ false = ne_eqb i (length xs) (λ e. omega (arith, e, stack_words)) in
-    ap (λ (b : Bool). (if b then w else x) ∷ put i w xs) t ∙ ap (λ ys. x ∷ ys) (put_past i w xs (omega (arith, stack_words)))
+put_past i w (x ∷ xs) high = grind (arith, put_past i w xs)
 
 choice_map : {A B : Type 0} (f : A → B) (b : Bool) (w x : A) → f (if b then w else x) ≡ (if b then f w else f x)
-choice_map f true w x = refl
-choice_map f false w x = refl
+choice_map f b w x = grind arith
 
 pub put_map : {A B : Type 0} (f : A → B) (i : ℕ) (w : A) (xs : List A) → map f (put i w xs) ≡ put i (f w) (map f xs)
 put_map f i w [] = refl
-put_map f i w (x ∷ xs) =
-    ap (λ y. y ∷ map f (put i w xs)) (choice_map f (i == length xs) w x)
-    ∙ ap (λ (n : ℕ). (if i == n then f w else f x) ∷ map f (put i w xs)) (sym (length-map xs f))
-    ∙ ap (λ ys. (if i == length (map f xs) then f w else f x) ∷ ys) (put_map f i w xs)
+put_map f i w (x ∷ xs) = grind (arith, length-map, put_map f i w xs)
 
 -- words that lie, with another one
 pub put_lies : (R : Shape → ℕ → Tagged → Type 0) (core : List Tagged) (from i : ℕ) (c : Shape) (v : Tagged) (cs under : List Shape) → i < length cs → from + length under + i < length core → R c (from + length under + i) v
@@ -71,10 +64,7 @@ put_lies R core from i c v (x ∷ xs) under low inside fit l = ⊎_elim
 -- no copy is new
 pub put_has : (i : ℕ) (c : Shape) (cs under : List Shape) (d : Copied) (home : ℕ) → c ≢ Copy d home → Has (put i c cs ++ under) (Copy d home) → Has (cs ++ under) (Copy d home)
 put_has i c [] under d home ne h = h
-put_has i c (x ∷ xs) under d home ne (inl e) = ⊎_elim
-    (λ (t : (i == length xs) ≡ true). absurd (ne (ap (λ (b : Bool). if b then c else x) (sym t) ∙ e)))
-    (λ (t : (i == length xs) ≡ false). inl (ap (λ (b : Bool). if b then c else x) (sym t) ∙ e))
-    (cases_Bool (i == length xs))
+put_has i c (x ∷ xs) under d home ne (inl e) = grind arith
 put_has i c (x ∷ xs) under d home ne (inr h) = inr (put_has i c xs under d home ne h)
 
 -- one activation record has another shape in a cell, which lies so many words over the first mark
@@ -91,47 +81,32 @@ puts_top {c = c} (within a below i low) = let n = put_length i c a.cells in omeg
 puts_top (lower a p) = refl
 
 pub puts_mark : {c : Shape} {at : ℕ} {st st' : List Activation} → Puts c at st st' → mark_place st' ≡ mark_place st
-puts_mark (within a below i low) = refl
-puts_mark (lower a p) = let h = puts_high p in omega (arith, h)
+puts_mark h = grind (arith, puts_high)
 
 pub puts_level : {c : Shape} {at : ℕ} {st st' : List Activation} → Puts c at st st' → stack_level st' ≡ stack_level st
 puts_level (within a below i low) = refl
 puts_level (lower a p) = ap (level_from a.head) (puts_level p)
 
 pub puts_some : {c : Shape} {at : ℕ} {st st' : List Activation} → Puts c at st st' → st' ≢ []
-puts_some (within a below i low) e = cc
-puts_some (lower a p) e = cc
+puts_some h e = grind arith
 
 puts_none : {c : Shape} {at : ℕ} {st st' : List Activation} → Puts c at st st' → st ≡ [] → ⊥
-puts_none (within a below i low) e = cc
-puts_none (lower a p) e = cc
+puts_none h e = grind arith
 
 pub puts_heads : {c : Shape} {at : ℕ} {st st' : List Activation} → Puts c at st st' → HeadsFit st → HeadsFit st'
 puts_heads (within a below i low) f = f
-puts_heads (lower {below = below} {below' = below'} a p) f = (by_head a.head f.0, puts_heads p f.1) where
-  by_back : (back : Option Return) → ReturnFits back below → ReturnFits back below'
-  by_back None e = absurd (puts_none p e)
-  by_back (Some r) e = e
-
-  by_head : (h : Head) → HeadFits h below → HeadFits h below'
-  by_head Marked g = tt
-  by_head (Entered level environment back) g = (g.0, g.1, g.2, by_back back g.3)
+puts_heads (lower {below = below} {below' = below'} a p) f = grind (arith, puts_none, puts_heads p f.1)
 
 -- the head words on it are the same
 puts_headed : {c : Shape} {at : ℕ} {st st' : List Activation} (k : ℕ) (h : Head) (under : List Shape) → Puts c at st st' → headed k h st' under ≡ headed k h st under
 puts_headed k Marked under p = ap (λ (n : ℕ). Is (mscw_word (record { far = false; entered = false; env_stack = 0; env_disp = 0; value = false; level = 0; back = n })) ∷ under) (puts_top p)
-puts_headed k (Entered level environment None) under p =
-    ap (λ (n : ℕ). Is (rcw_word (record { place = record { word = 0; syllable = 0 }; level = 0; segment = 0 })) ∷ Is (mscw_word (record { far = not (environment.stack == k); entered = true; env_stack = environment.stack; env_disp = environment.disp; value = false; level = level; back = n })) ∷ under) (puts_top p)
-puts_headed {st = st} {st' = st'} k (Entered level environment (Some r)) under p =
-    ap (λ (n : ℕ). Is (rcw_word (record { place = r.place; level = n; segment = r.segment + 1 })) ∷ Is (mscw_word (record { far = not (environment.stack == k); entered = true; env_stack = environment.stack; env_disp = environment.disp; value = r.value; level = level; back = top_size st' })) ∷ under) (puts_level p)
-    ∙ ap (λ (n : ℕ). Is (rcw_word (record { place = r.place; level = stack_level st; segment = r.segment + 1 })) ∷ Is (mscw_word (record { far = not (environment.stack == k); entered = true; env_stack = environment.stack; env_disp = environment.disp; value = r.value; level = level; back = n })) ∷ under) (puts_top p)
+puts_headed k (Entered level environment None) under p = grind (arith, puts_top)
+puts_headed {st = st} {st' = st'} k (Entered level environment (Some r)) under p = grind (arith, puts_level, puts_top)
 
 -- a word over others, where those others are as many
 moved : (R : Shape → ℕ → Tagged → Type 0) (core : List Tagged) (from i : ℕ) (v : Tagged) (sh : Shape) (n n' : ℕ) → n' ≡ n → i < from + n
     → (w : Tagged) × (slice_get core (from + n) ≡ Some w) × R sh (from + n) w → (w : Tagged) × (slice_get (slice_set core i v) (from + n') ≡ Some w) × R sh (from + n') w
-moved R core from i v sh n n' same low m =
-    let P : ℕ → Type 0 = λ q. (w : Tagged) × (slice_get (slice_set core i v) (from + q) ≡ Some w) × R sh (from + q) w in
-    subst P (sym same) (m.0, slice_get-set_other core i (from + n) v (λ z. omega (arith, z, low)) ∙ m.1, m.2)
+moved R core from i v sh n n' same low m = grind (arith, slice_get-set_other)
 
 Lie-tops : (R : Shape → ℕ → Tagged → Type 0) (core : List Tagged) (from i : ℕ) (v : Tagged) (xs under under' : List Shape) → length under' ≡ length under → i < from + length under → LieDownward R (slice_set core i v) from under' → LieDownward R core from (xs ++ under) → LieDownward R (slice_set core i v) from (xs ++ under')
 Lie-tops R core from i v [] under under' same low l m = l
@@ -153,8 +128,7 @@ puts_low (within a below i low) = omega (arith, low)
 puts_low (lower a p) = let h = puts_low p in omega (arith, h)
 
 Lie-down : (R : Shape → ℕ → Tagged → Type 0) (core : List Tagged) (from k : ℕ) (h : Head) (below : List Activation) → LieDownward R core from (headed k h below (words k below)) → LieDownward R core from (words k below)
-Lie-down R core from k Marked below l = l.1
-Lie-down R core from k (Entered level environment back) below l = l.1.1
+Lie-down R core from k h below l = grind arith
 
 pub puts_lies : {c : Shape} {at : ℕ} {st st' : List Activation} (R : Shape → ℕ → Tagged → Type 0) (core : List Tagged) (from k : ℕ) (v : Tagged) → Puts c at st st' → from + at < length core → R c (from + at) v → LieDownward R core from (words k st) → LieDownward R (slice_set core (from + at) v) from (words k st')
 puts_lies {c = c} R core from k v (within a below i low) inside fit l =

@@ -1,19 +1,18 @@
 -- The session whose view has other numbers in an object: what a device that tells nothing may have given back.
-use Rattle.std.proofs.Common.{◌≡◌, ℕ, ◌+◌, ◌<◌, ◌≤◌, ◌^◌, ◌++◌, ◌==◌, List, [], ◌∷◌, length, map, Option, Some, None, refl, sym, ◌∙◌, ap, Bool, true, false, subst, inl, inr, ⊎_elim, unwrap_or}
-use Rattle.std.specs.Prelude.{if◌then◌else◌, flat_map, not, option_map}
+use Rattle.std.proofs.Common.{◌≡◌, ℕ, ◌+◌, ◌<◌, ◌^◌, ◌==◌, List, [], ◌∷◌, length, map, Option, Some, None, refl, sym, ◌∙◌, ap, true, false, subst, inl, inr, ⊎_elim, unwrap_or, arith}
+use Rattle.std.specs.Prelude.{if◌then◌else◌, flat_map, option_map}
 use Rattle.std.proofs.lemmas.Bool.{cases_Bool, eqb-true}
 use Rattle.std.proofs.lemmas.List.{map-append}
 use Rattle.std.specs.List.{AllByRecursion}
 use Rattle.b67_lemmas.specs.Lists.{Has}
 use Rattle.b67_lemmas.proofs.Members.{has_append_left, has_append_right, keyed_has}
-use Rattle.b67_model.specs.Common.{Session, IsSegment, SegmentInOrder, ArrayInOrder, Word, Operand, Name, Ref, Row, Element, Original, Proc, Intrinsic, Frame, Array, Task, Segment, JobConstants, Job, SessionJob, array, no_array, number_of}
-use Rattle.b67_layout.specs.Common.{JobInOrderButCounts, IsInOrderButCounts, Slotted, Placement, spot_in, outer_spots, shape, head, activations, slot_with, slot_in, slot_by, slot_at, array_object, code_objects, objects_of, machine_view}
+use Rattle.b67_model.specs.Common.{Session, IsSegment, SegmentInOrder, ArrayInOrder, Word, Frame, Array, Task, Segment, JobConstants, Job, SessionJob, array, no_array, number_of}
+use Rattle.b67_layout.specs.Common.{JobInOrderButCounts, IsInOrderButCounts, Slotted, Placement, spot_in, shape, head, activations, slot_with, slot_in, slot_by, array_object, code_objects, objects_of, machine_view}
 use Rattle.b67_law_order.specs.Weaker.{Renumbers, Recoded, RefilledArray, Refilled, AllOtherNumbers}
 use Rattle.b67_layout_step.proofs.OtherNumbers.{others_in_order}
 use Rattle.b67_model.specs.Words as Words
 use Rattle.b67_model.specs.Keyed.{keyed}
-use Rattle.b67_stack.specs.Common.{Shape, Copy, StackPlace, Activation, stack_words, PagedObject, Slot, Running, Waiting, MachineView, slot_base, stack_of, NoOriginalAboveTop, renumber, renumbered}
-use Rattle.b67_layout.proofs.Alike.{outer_same}
+use Rattle.b67_stack.specs.Common.{Shape, StackPlace, Activation, PagedObject, MachineView, NoOriginalAboveTop, renumber, renumbered}
 use Rattle.b67_area.specs.declared.kinds.Kind.TheVariants as kind
 
 -- the segments of a dictionary, from number n on, with other code in that of a home
@@ -40,40 +39,23 @@ member_with plan home ns m = record {
 code_renumbered : (plan : Placement) (j home : ℕ) (ns : List ℕ) (n : ℕ) (segments : List Segment)
     → map (renumber home ns) (code_objects plan j n segments) ≡ code_objects plan j n (recoded plan j home ns n segments)
 code_renumbered plan j home ns n [] = refl
-code_renumbered plan j home ns n (s ∷ more) =
-    let rest = code_renumbered plan j home ns (n + 1) more in
-    ⊎_elim
-    (λ (e : (plan.dictionary j + 1 + n == home) ≡ true). rw e (ap (λ (ts : List PagedObject). record { home = plan.dictionary j + 1 + n; kind = kind.Code; numbers = ns } ∷ ts) rest))
-    (λ (e : (plan.dictionary j + 1 + n == home) ≡ false). rw e (ap (λ (ts : List PagedObject). record { home = plan.dictionary j + 1 + n; kind = kind.Code; numbers = s.code } ∷ ts) rest))
-    (cases_Bool (plan.dictionary j + 1 + n == home))
+code_renumbered plan j home ns n (s ∷ more) = grind (arith, code_renumbered plan j home ns (n + 1) more)
 
 array_renumbered : (plan : Placement) (j home : ℕ) (ns : List ℕ) (a : Array) → renumber home ns (array_object plan j a) ≡ array_object plan j (refilled plan j home ns a)
-array_renumbered plan j home ns a = ⊎_elim
-    (λ (e : (plan.home j a.identity == home) ≡ true). rw e refl)
-    (λ (e : (plan.home j a.identity == home) ≡ false). rw e refl)
-    (cases_Bool (plan.home j a.identity == home))
+array_renumbered plan j home ns a = grind arith
 
 arrays_renumbered : (plan : Placement) (j home : ℕ) (ns : List ℕ) (arrays : List Array)
     → map (renumber home ns) (map (array_object plan j) arrays) ≡ map (array_object plan j) (map (refilled plan j home ns) arrays)
 arrays_renumbered plan j home ns [] = refl
-arrays_renumbered plan j home ns (a ∷ more) =
-    ap (λ (t : PagedObject). t ∷ map (renumber home ns) (map (array_object plan j) more)) (array_renumbered plan j home ns a)
-    ∙ ap (λ (ts : List PagedObject). array_object plan j (refilled plan j home ns a) ∷ ts) (arrays_renumbered plan j home ns more)
+arrays_renumbered plan j home ns (a ∷ more) = grind (arith, arrays_renumbered plan j home ns more)
 
 objects_renumbered : (plan : Placement) (home : ℕ) (ns : List ℕ) (m : SessionJob) → map (renumber home ns) (objects_of plan m) ≡ objects_of plan (member_with plan home ns m)
-objects_renumbered plan home ns m =
-    let j = m.constants.number in
-    map-append (renumber home ns) (code_objects plan j 1 m.constants.segments) (map (array_object plan j) m.progress.job.arrays)
-    ∙ ap (λ (ts : List PagedObject). ts ++ map (renumber home ns) (map (array_object plan j) m.progress.job.arrays)) (code_renumbered plan j home ns 1 m.constants.segments)
-    ∙ ap (λ (ts : List PagedObject). code_objects plan j 1 (recoded plan j home ns 1 m.constants.segments) ++ ts) (arrays_renumbered plan j home ns m.progress.job.arrays)
+objects_renumbered plan home ns m = grind (arith, map-append, code_renumbered, arrays_renumbered)
 
 all_renumbered : (plan : Placement) (home : ℕ) (ns : List ℕ) (jobs : List SessionJob)
     → map (renumber home ns) (flat_map (objects_of plan) jobs) ≡ flat_map (objects_of plan) (map (member_with plan home ns) jobs)
 all_renumbered plan home ns [] = refl
-all_renumbered plan home ns (m ∷ more) =
-    map-append (renumber home ns) (objects_of plan m) (flat_map (objects_of plan) more)
-    ∙ ap (λ (ts : List PagedObject). ts ++ map (renumber home ns) (flat_map (objects_of plan) more)) (objects_renumbered plan home ns m)
-    ∙ ap (λ (ts : List PagedObject). objects_of plan (member_with plan home ns m) ++ ts) (all_renumbered plan home ns more)
+all_renumbered plan home ns (m ∷ more) = grind (arith, map-append, objects_renumbered, all_renumbered plan home ns more)
 
 -- the object of a home has as many numbers as before
 abbrev pub Fitting : ℕ → List ℕ → List PagedObject → Type 0
@@ -85,16 +67,10 @@ record SameShape (a b : Array) : Type 0 where
 
 module _ (plan : Placement) (j home : ℕ) (ns : List ℕ) where
   refilled_shape : (a : Array) → (plan.home j a.identity ≡ home → length ns ≡ length a.numbers) → SameShape a (refilled plan j home ns a)
-  refilled_shape a fits = ⊎_elim
-      (λ (e : (plan.home j a.identity == home) ≡ true). rw e (record { writable = refl; count = fits (eqb-true (plan.home j a.identity) home e) }))
-      (λ (e : (plan.home j a.identity == home) ≡ false). rw e (record { writable = refl; count = refl }))
-      (cases_Bool (plan.home j a.identity == home))
+  refilled_shape a fits = grind arith
 
   refilled_identity : (a : Array) → (refilled plan j home ns a).identity ≡ a.identity
-  refilled_identity a = ⊎_elim
-      (λ (e : (plan.home j a.identity == home) ≡ true). rw e refl)
-      (λ (e : (plan.home j a.identity == home) ≡ false). rw e refl)
-      (cases_Bool (plan.home j a.identity == home))
+  refilled_identity a = grind arith
 
   look : (i : ℕ) (arrays : List Array) → Fitting home ns (map (array_object plan j) arrays)
       → SameShape (unwrap_or (keyed (λ (a : Array). a.identity) i arrays) no_array) (unwrap_or (keyed (λ (a : Array). a.identity) i (map (refilled plan j home ns) arrays)) no_array)
@@ -112,19 +88,7 @@ module _ (plan : Placement) (j home : ℕ) (ns : List ℕ) where
     array_same i = look i job.arrays fits
 
     shape_same : (spot : ℕ → StackPlace) (w : Word) → shape plan j (job_refilled plan j home ns job) spot w ≡ shape plan j job spot w
-    shape_same spot (Operand bits) = refl
-    shape_same spot (Name c) = refl
-    shape_same spot (Ref f o) = refl
-    shape_same spot (Row a) =
-        let S : Bool → Shape = λ b. Copy (record { index = None; read_only = not b }) (plan.home j a) in
-        ap S (array_same a).writable
-    shape_same spot (Element a index) =
-        let S : Bool → Shape = λ b. Copy (record { index = Some index; read_only = not b }) (plan.home j a) in
-        ap S (array_same a).writable
-    shape_same spot (Original a) = refl
-    shape_same spot (Proc s l p) = refl
-    shape_same spot (Intrinsic n) = refl
-    shape_same spot (Words.Segment n) = refl
+    shape_same spot w = grind (arith, array_same)
 
     shapes_same : (spot : ℕ → StackPlace) (ws : List Word) → map (shape plan j (job_refilled plan j home ns job) spot) ws ≡ map (shape plan j job spot) ws
     shapes_same spot [] = refl
@@ -138,26 +102,17 @@ module _ (plan : Placement) (j home : ℕ) (ns : List ℕ) where
         ∙ ap (A (map (shape plan j job (spot_in k outer (f ∷ below))) f.cells)) (activations_same k outer below)
 
     slot_with_same : (k : ℕ) (o : Option Task) → slot_with plan k j (job_refilled plan j home ns job) o ≡ slot_with plan k j job o
-    slot_with_same k None = refl
-    slot_with_same k (Some t) =
-        let S : List Activation → Slot = λ xs. if k == plan.running then Running xs else Waiting xs in
-        let outer = outer_same plan j job (job_refilled plan j home ns job) refl t.critical t.parents in
-        ap S (activations_same k (outer_spots plan j (job_refilled plan j home ns job) t.critical t.parents) t.frames ∙ ap (λ (o : ℕ → StackPlace). activations plan j job k o t.frames) outer)
+    slot_with_same k o = grind (arith, activations_same)
 
 keyed_with : (plan : Placement) (home : ℕ) (ns : List ℕ) (j : ℕ) (jobs : List SessionJob)
     → keyed number_of j (map (member_with plan home ns) jobs) ≡ option_map (member_with plan home ns) (keyed number_of j jobs)
 keyed_with plan home ns j [] = refl
-keyed_with plan home ns j (m ∷ more) = ⊎_elim
-    (λ (e : (number_of m == j) ≡ true). rw e refl)
-    (λ (e : (number_of m == j) ≡ false). rw e (keyed_with plan home ns j more))
-    (cases_Bool (number_of m == j))
+keyed_with plan home ns j (m ∷ more) = grind (arith, keyed_with plan home ns j more)
 
 -- the arrays of a job are among the objects
 array_among : (plan : Placement) (jobs : List SessionJob) (m : SessionJob) → Has jobs m → (t : PagedObject) → Has (map (array_object plan m.constants.number) m.progress.job.arrays) t → Has (flat_map (objects_of plan) jobs) t
 array_among plan [] m k t int = absurd k
-array_among plan (y ∷ ys) m (inl e) t int =
-    let P : SessionJob → Type 0 = λ z. Has (map (array_object plan z.constants.number) z.progress.job.arrays) t in
-    has_append_left (objects_of plan y) (flat_map (objects_of plan) ys) t (has_append_right (code_objects plan y.constants.number 1 y.constants.segments) (map (array_object plan y.constants.number) y.progress.job.arrays) t (subst P (sym e) int))
+array_among plan (y ∷ ys) m (inl e) t int = grind (arith, has_append_left, has_append_right)
 array_among plan (y ∷ ys) m (inr k) t int = has_append_right (objects_of plan y) (flat_map (objects_of plan) ys) t (array_among plan ys m k t int)
 
 module _ (plan : Placement) (home : ℕ) (ns : List ℕ) (jobs : List SessionJob) (fits : Fitting home ns (flat_map (objects_of plan) jobs)) where
@@ -177,11 +132,7 @@ module _ (plan : Placement) (home : ℕ) (ns : List ℕ) (jobs : List SessionJob
 
   -- the view of the session with other numbers
   pub machine_view_renumbered : renumbered (machine_view plan jobs) home ns ≡ machine_view plan (map (member_with plan home ns) jobs)
-  machine_view_renumbered =
-      let P : (ℕ → Slot) → List PagedObject → MachineView = λ s objects. record { stacks = plan.stacks; size = plan.size; peak = plan.peak; slots = s; objects = objects } in
-      let slots : slot_at plan jobs ≡ slot_at plan (map (member_with plan home ns) jobs) = λ z k. sym (slot_by_same k (keyed (λ (r : Slotted). r.slot) k plan.rows)) z in
-      ap (λ (s : ℕ → Slot). P s (map (renumber home ns) (flat_map (objects_of plan) jobs))) slots
-      ∙ ap (P (slot_at plan (map (member_with plan home ns) jobs))) (all_renumbered plan home ns jobs)
+  machine_view_renumbered = grind (arith, slot_by_same, all_renumbered)
 
 module _ (plan : Placement) (home : ℕ) (ns : List ℕ) (bits : AllByRecursion (λ (n : ℕ). n < 2 ^ 48) ns) where
   recoded_other : (j n : ℕ) (segments : List Segment) → AllByRecursion SegmentInOrder segments → Fitting home ns (code_objects plan j n segments) → Recoded segments (recoded plan j home ns n segments)
@@ -206,18 +157,7 @@ module _ (plan : Placement) (home : ℕ) (ns : List ℕ) (bits : AllByRecursion 
   pub others_from : (jobs : List SessionJob) → AllByRecursion (λ (m : SessionJob). JobInOrderButCounts (IsSegment m.constants) m.constants m.progress) jobs → Fitting home ns (flat_map (objects_of plan) jobs)
       → AllOtherNumbers jobs (map (member_with plan home ns) jobs)
   others_from [] order fits = tt
-  others_from (m ∷ more) order fits =
-      let own : Fitting home ns (objects_of plan m) = λ t int. fits t (has_append_left (objects_of plan m) (flat_map (objects_of plan) more) t int) in
-      let j = m.constants.number in
-      let code = code_objects plan j 1 m.constants.segments in
-      let filled = map (array_object plan j) m.progress.job.arrays in (
-        record {
-          segments = recoded_other j 1 m.constants.segments order.0.unchanging.segments (λ t int. own t (has_append_left code filled t int));
-          arrays = refilled_other j m.progress.job.arrays order.0.tasks.arrays (λ t int. own t (has_append_right code filled t int));
-          rest = refl;
-        },
-        others_from more order.1 (λ t int. fits t (has_append_right (objects_of plan m) (flat_map (objects_of plan) more) t int)),
-      )
+  others_from (m ∷ more) order fits = grind (arith, has_append_left, recoded_other, refilled_other, has_append_right, others_from more order.1)
 
 renumbered_home : (home : ℕ) (ns : List ℕ) (t : PagedObject) → (renumber home ns t).home ≡ t.home
 renumbered_home home ns t = ⊎_elim (λ (e : (t.home == home) ≡ true). rw e refl) (λ (e : (t.home == home) ≡ false). rw e refl) (cases_Bool (t.home == home))
@@ -228,9 +168,7 @@ renumbered_from home ns (u ∷ us) t (inl e) = (u, inl refl, ap (λ (x : PagedOb
 renumbered_from home ns (u ∷ us) t (inr k) = let (v, inv, e) = renumbered_from home ns us t k in (v, inr inv, e)
 
 pub settled_renumbered : (p : MachineView) (home : ℕ) (ns : List ℕ) → NoOriginalAboveTop p → NoOriginalAboveTop (renumbered p home ns)
-settled_renumbered p home ns s t int k used low up =
-    let (u, inu, e) = renumbered_from home ns p.objects t int in
-    subst (λ (a : ℕ). a ≤ slot_base p k + stack_words (stack_of (p.slots k))) (sym e) (s u inu k used (subst (λ (a : ℕ). slot_base p k ≤ a) e low) (subst (λ (a : ℕ). a < slot_base p k + p.size) e up))
+settled_renumbered p home ns s t int k used low up = grind (arith, renumbered_from)
 
 -- the session that the machine then represents
 abbrev pub session_renumbered : Placement → ℕ → List ℕ → Session → Session

@@ -1,14 +1,14 @@
 -- Each way in which rows are made: what it touches, and which arrays stay.
-use Rattle.std.proofs.Common.{◌≡◌, ℕ, ◌+◌, ℤ, pos, negsuc, Bool, true, false, leb, ltb, List, [], ◌∷◌, reverse, replicate, length, Option, Some, None, refl, subst, inl, inr, ◌==◌}
+use Rattle.std.proofs.Common.{◌≡◌, ℕ, ◌+◌, ℤ, Bool, true, false, leb, ltb, List, [], ◌∷◌, reverse, replicate, length, Option, Some, None, refl, inl, ◌==◌, arith}
 use Rattle.std.specs.List.{list_any}
-use Rattle.std.proofs.lemmas.Bool.{cases_Bool, eq-eqb}
+use Rattle.std.proofs.lemmas.Bool.{eq-eqb}
 use Rattle.b67_word.specs.declared.faults.Fault.TheVariants.{StackOverflow}
 use Rattle.b67_word.specs.declared.couples.Place.{Place}
 use Rattle.b67_model.specs.declared.operators.Op.{Op}
 use Rattle.b67_model.specs.declared.operators.Op.TheVariants.{Valc, Namc, Lt8, Lt16, Lt48, Mpcw, Brun, Brtr, Brfl, Bset, Brst, Isol, Insr, Plain}
 use Rattle.b67_model.specs.declared.operators.Code.{Code}
 use Rattle.b67_model.specs.declared.operators.Code.TheVariants as codes
-use Rattle.b67_model.specs.Common.{Answer, needs, add, subt, mult, idiv, rdiv, less, greq, grtr, lseq, equl, neql, land, lor, leqv, same, chsn, lnot, bset, brst, isol, insr, Word, Operand, Name, Ref, Row, Element, Original, Proc, Intrinsic, operand, Frame, Standing, Marked, Entered, Return, Array, Task, Job, OperatorContext, below_top, with_top_cells, top, array, element, with_number, with_element, with_array, all_zero, resized, indexed, in_order, End, AtCell, AtElement, AtArray, AtProc, AtIntrinsic, chase, follow, follow_reference, Line, Value, Values, Done, Goes, Leaves, Waits, top_of, cells_of, result, with_cells, leaves_cells, pushes, accident, needs_level, back_to, evaluates, enters, left, leaves, returnable, returned, retn_word, answered, needs_free, answers, array_length, arraydec, print, row_copy, numbers_of, printrow, read_from, read, child_of, starts, process, awaits, await, status_of, status, waits_at, wait, causes, cause, needs_writable, deallocate, resize, intrinsic, CellRow, on_one, on_two, dlet, exch, dupl, on_cells, branches, branch_if, stff, load_at, load, indx, nxlv, store_at, store, entr_at, entr_with, entr, proc_of, plain, row}
+use Rattle.b67_model.specs.Common.{Answer, needs, add, subt, mult, idiv, rdiv, less, greq, grtr, lseq, equl, neql, land, lor, leqv, same, chsn, lnot, bset, brst, isol, insr, Word, Operand, Name, Original, operand, Standing, Marked, Entered, Return, Array, Task, Job, OperatorContext, below_top, top, element, with_array, indexed, in_order, End, AtCell, AtElement, AtArray, AtProc, AtIntrinsic, chase, follow, follow_reference, Line, Done, Goes, Leaves, Waits, top_of, cells_of, result, with_cells, leaves_cells, pushes, accident, needs_level, evaluates, enters, left, leaves, returnable, returned, retn_word, answered, needs_free, answers, array_length, arraydec, print, row_copy, printrow, read, child_of, starts, process, awaits, await, status, waits_at, wait, causes, cause, deallocate, resize, intrinsic, CellRow, on_one, on_two, dlet, exch, dupl, on_cells, branches, branch_if, stff, load_at, load, indx, nxlv, store_at, store, entr_at, entr_with, entr, proc_of, plain, row, array}
 use Rattle.b67_model.specs.Keyed.{change_keyed}
 use Rattle.b67_lemmas.specs.Lists.{Has}
 use Rattle.b67_lemmas.proofs.Members.{any_some, has_reverse_back}
@@ -65,52 +65,20 @@ module _ (T : ℕ → Type 0) (first : List Array) (keeps : Type 0) where
   push_good h w s = cells_good h (w ∷ cells_of h) None s tt
 
   accident_good : (h : OperatorContext) (cells : List Word) (back : Return) (end : End) → Source h → Good (accident h cells back end)
-  accident_good h cells back (AtProc f segment level place) s =
-      let entered : Frame = record { identity = h.job.next_frame; standing = Entered level f (Some back); cells = [] } in
-      post_then Keeps (needs_level h f level) _
-      (result_good h (record h.job { next_frame = h.job.next_frame + 1 }) (record h.task { frames = entered ∷ with_top_cells h.task.frames cells; segment = segment; place = place }) [] None tt s.arrays)
-  accident_good h cells back (AtCell f offset bits) s = post_err Keeps _
-  accident_good h cells back (AtElement a index) s = post_err Keeps _
-  accident_good h cells back (AtArray a) s = post_err Keeps _
-  accident_good h cells back (AtIntrinsic n) s = post_err Keeps _
+  accident_good h cells back end s = grind arith
 
   evaluates_good : (h : OperatorContext) (end : End) → Source h → W.EndNames T end → Good (evaluates h end)
-  evaluates_good h (AtCell f offset bits) s g = push_good h _ s
-  evaluates_good h (AtElement a index) s g = cells_good h (Operand (element h.job a index) ∷ cells_of h) (Some a) s g
-  evaluates_good h (AtProc f segment level place) s g = accident_good h _ _ (AtProc f segment level place) s
-  evaluates_good h (AtArray a) s g = post_err Keeps _
-  evaluates_good h (AtIntrinsic n) s g = post_err Keeps _
+  evaluates_good h end s g = grind arith
 
   enters_good : (h : OperatorContext) (arguments : List Word) (end : End) → Source h → Good (enters h arguments end)
-  enters_good h arguments (AtProc f segment level place) s =
-      let entered : Frame = record (top_of h) { standing = Entered level f (Some (back_to h false h.task.place)); cells = reverse arguments } in
-      post_then Keeps (needs_level h f level) _ (result_good h h.job (record h.task { frames = entered ∷ below_top h.task.frames; segment = segment; place = place }) [] None tt s.arrays)
-  enters_good h arguments (AtCell f offset bits) s = post_err Keeps _
-  enters_good h arguments (AtElement a index) s = post_err Keeps _
-  enters_good h arguments (AtArray a) s = post_err Keeps _
-  enters_good h arguments (AtIntrinsic n) s = post_err Keeps _
+  enters_good h arguments end s = grind arith
 
   -- a frame is left, where no array has to stay
   left_source : (h : OperatorContext) (back : Return) → Source h → (keeps → false ≡ true) → Source (left h back)
-  left_source h back s never =
-      let task : Task = record h.task { frames = below_top h.task.frames; segment = back.segment; place = back.place } in
-      let own : W.FramesName T task.frames = W.below_names T h.task.frames s.words.own in
-      record {
-        words = record {
-          tasks = λ t k. elim (W.has_put h.task.number task h.job.tasks t k) [
-            | inl e ↦ subst (λ (u : Task). W.FramesName T u.frames) e own
-            | inr m ↦ s.words.tasks t m
-          ];
-          own = own;
-          dictionary = s.words.dictionary;
-        };
-        arrays = λ k. let e = never k in absurd cc;
-      }
+  left_source h back s never = grind (arith, W.has_put)
 
   leaves_good : (h : OperatorContext) (standing : Standing) (go : OperatorContext → Bool → Answer Done) → ((back : Return) → Good (go (left h back) back.value)) → Good (leaves h standing go)
-  leaves_good h Marked go each = post_err Keeps _
-  leaves_good h (Entered level environment None) go each = post_then Keeps _ _ (post_ok Keeps Leaves tt)
-  leaves_good h (Entered level environment (Some back)) go each = post_then Keeps _ _ (each back)
+  leaves_good h standing go each = grind arith
 
   returned_good : (h : OperatorContext) (w : Word) (value : Bool) → Source h → W.Names T w → Good (returned h w value)
   returned_good h w false s g = push_good h w s
@@ -118,15 +86,7 @@ module _ (T : ℕ → Type 0) (first : List Array) (keeps : Type 0) where
   returned_good h w true s g = post_bind (W.EndNames T) Keeps (follow h w) _ (W.follow_names T h s.words w g) (λ end is. evaluates_good h end s is)
 
   returnable_good : (job : Job) (n : ℕ) (w : Word) → W.Names T w → Post (W.Names T) (returnable job n w)
-  returnable_good job n (Ref f offset) g = post_then (W.Names T) _ _ (post_ok (W.Names T) (Ref f offset) g)
-  returnable_good job n (Row a) g = post_then (W.Names T) _ _ (post_ok (W.Names T) (Row a) g)
-  returnable_good job n (Element a index) g = post_then (W.Names T) _ _ (post_ok (W.Names T) (Element a index) g)
-  returnable_good job n (Original a) g = post_err (W.Names T) _
-  returnable_good job n (Name couple) g = post_err (W.Names T) _
-  returnable_good job n (Operand bits) g = post_ok (W.Names T) _ g
-  returnable_good job n (Proc segment level place) g = post_ok (W.Names T) _ g
-  returnable_good job n (Intrinsic number) g = post_ok (W.Names T) _ g
-  returnable_good job n (Words.Segment number) g = post_ok (W.Names T) _ g
+  returnable_good job n w g = grind arith
 
   retn_good : (h : OperatorContext) (standing : Standing) (cells : List Word) → Source h → (keeps → false ≡ true) → AllName cells → Good (retn_word h standing cells)
   retn_good h Marked cells s never all = post_err Keeps _
@@ -136,15 +96,10 @@ module _ (T : ℕ → Type 0) (first : List Array) (keeps : Type 0) where
       (λ v g. leaves_good h (Entered level environment back) (λ after value. returned after v value) (λ b. returned_good (left h b) v b.value (left_source h b s never) g))
 
   branch_good : (wanted : Bool) (h : OperatorContext) (cells : List Word) (target : Place) → Source h → Good (branch_if wanted h cells target)
-  branch_good wanted h [] target s = post_err Keeps _
-  branch_good wanted h (a ∷ rest) target s = post_any Keeps (operand a) _ (λ x. cells_good (branches h _) rest None (record { words = record { tasks = s.words.tasks; own = s.words.own; dictionary = s.words.dictionary }; arrays = s.arrays }) tt)
+  branch_good wanted h cells target s = grind arith
 
   load_at_good : (h : OperatorContext) (rest : List Word) (end : End) → Source h → W.EndNames T end → Good (load_at h rest end)
-  load_at_good h rest (AtCell f offset bits) s g = cells_good h _ None s tt
-  load_at_good h rest (AtElement a index) s g = cells_good h (Operand (element h.job a index) ∷ rest) (Some a) s g
-  load_at_good h rest (AtArray a) s g = cells_good h _ None s tt
-  load_at_good h rest (AtProc f segment level place) s g = accident_good h rest _ (AtProc f segment level place) s
-  load_at_good h rest (AtIntrinsic n) s g = post_err Keeps _
+  load_at_good h rest end s g = grind (arith, cells_good)
 
   load_good : (h : OperatorContext) (cells : List Word) → Source h → AllName cells → Good (load h cells)
   load_good h [] s all = post_err Keeps _
@@ -152,15 +107,7 @@ module _ (T : ℕ → Type 0) (first : List Array) (keeps : Type 0) where
 
   -- the reference of two words
   pair_names : (b a : Word) (rest : List Word) → AllName (b ∷ a ∷ rest) → W.Names T (in_order b a).0
-  pair_names (Operand bits) a rest all = all a (inr (inl refl))
-  pair_names (Name couple) a rest all = all (Name couple) (inl refl)
-  pair_names (Ref f offset) a rest all = all (Ref f offset) (inl refl)
-  pair_names (Row n) a rest all = all (Row n) (inl refl)
-  pair_names (Element n index) a rest all = all (Element n index) (inl refl)
-  pair_names (Original n) a rest all = all (Original n) (inl refl)
-  pair_names (Proc segment level place) a rest all = all (Proc segment level place) (inl refl)
-  pair_names (Intrinsic n) a rest all = all (Intrinsic n) (inl refl)
-  pair_names (Words.Segment n) a rest all = all (Words.Segment n) (inl refl)
+  pair_names b a rest all = grind arith
 
   indx_good : (h : OperatorContext) (cells : List Word) → Source h → Good (indx h cells)
   indx_good h [] s = post_err Keeps _
@@ -177,20 +124,13 @@ module _ (T : ℕ → Type 0) (first : List Array) (keeps : Type 0) where
   -- a change of an array's numbers leaves the identities
   stored : (n : ℕ) (f : Array → Array) → ((x : Array) → (f x).identity ≡ x.identity) → (m : ℕ) (arrays : List Array) → list_any (λ (b : Array). b.identity == m) (change_keyed (λ (b : Array). b.identity) n f arrays) ≡ list_any (λ (b : Array). b.identity == m) arrays
   stored n f same m [] = refl
-  stored n f same m (x ∷ xs) = elim (cases_Bool (x.identity == n)) [
-    | inl q ↦ rw (q, same x) refl
-    | inr q ↦ rw (q, stored n f same m xs) refl
-  ]
+  stored n f same m (x ∷ xs) = grind (arith, stored n f same m xs)
 
   numbers_stay : (h : OperatorContext) (a : ℕ) (f : Array → Array) → ((x : Array) → (f x).identity ≡ x.identity) → Source h → keeps → Stay (with_array h.job a f).arrays
   numbers_stay h a f same s k n there = rw (stored a f same n h.job.arrays) (s.arrays k n there)
 
   store_at_good : (h : OperatorContext) (rest kept : List Word) (bits : ℕ) (end : End) → Source h → W.EndNames T end → Good (store_at h rest kept bits end)
-  store_at_good h rest kept bits (AtCell f offset old) s g = post_ok Keeps _ (tt, s.arrays)
-  store_at_good h rest kept bits (AtElement a index) s g = post_then Keeps _ _ (result_good h (with_element h.job a index bits) (with_cells h kept) [] (Some a) g (numbers_stay h a (with_number index bits) (λ x. refl) s))
-  store_at_good h rest kept bits (AtProc f segment level place) s g = accident_good h (Operand bits ∷ rest) _ (AtProc f segment level place) s
-  store_at_good h rest kept bits (AtArray a) s g = post_err Keeps _
-  store_at_good h rest kept bits (AtIntrinsic n) s g = post_err Keeps _
+  store_at_good h rest kept bits end s g = grind (arith, numbers_stay)
 
   store_good : (keep : Bool) (h : OperatorContext) (cells : List Word) → Source h → AllName cells → Good (store keep h cells)
   store_good keep h [] s all = post_err Keeps _
@@ -206,10 +146,7 @@ module _ (T : ℕ → Type 0) (first : List Array) (keeps : Type 0) where
   none_good h words s = answers_good h h.job words [] None tt s.arrays
 
   more_stay : (h : OperatorContext) (made : Array) → Source h → keeps → Stay (made ∷ h.job.arrays)
-  more_stay h made s k n there = elim (cases_Bool (made.identity == n)) [
-    | inl q ↦ rw q refl
-    | inr q ↦ rw q (s.arrays k n there)
-  ]
+  more_stay h made s k n there = grind arith
 
   arraydec_good : (h : OperatorContext) (arguments : List Word) → Source h → Good (arraydec h arguments)
   arraydec_good h [] s = post_err Keeps _
@@ -219,30 +156,16 @@ module _ (T : ℕ → Type 0) (first : List Array) (keeps : Type 0) where
   arraydec_good h (w ∷ v ∷ more) s = post_err Keeps _
 
   print_good : (h : OperatorContext) (arguments : List Word) → Source h → Good (print h arguments)
-  print_good h [] s = post_err Keeps _
-  print_good h (w ∷ []) s = post_any Keeps (whole w) _ (λ n. answers_good h h.job [] (Value n ∷ []) None tt s.arrays)
-  print_good h (w ∷ v ∷ more) s = post_err Keeps _
+  print_good h arguments s = grind arith
 
   copy_names : (w : Word) → W.Names T w → Post T (row_copy w)
-  copy_names (Row a) g = post_ok T a g
-  copy_names (Name couple) g = post_err T _
-  copy_names (Ref f offset) g = post_err T _
-  copy_names (Operand bits) g = post_err T _
-  copy_names (Element a index) g = post_err T _
-  copy_names (Original a) g = post_err T _
-  copy_names (Proc segment level place) g = post_err T _
-  copy_names (Intrinsic n) g = post_err T _
-  copy_names (Words.Segment n) g = post_err T _
+  copy_names w g = grind arith
 
   printrow_good : (h : OperatorContext) (arguments : List Word) → Source h → AllName arguments → Good (printrow h arguments)
-  printrow_good h [] s all = post_err Keeps _
-  printrow_good h (w ∷ []) s all = post_bind T Keeps (row_copy w) _ (copy_names w (all w (inl refl)))
-      (λ a g. post_any Keeps (numbers_of (array h.job a).numbers) _ (λ values. answers_good h h.job [] (Values values ∷ []) (Some a) g s.arrays))
-  printrow_good h (w ∷ v ∷ more) s all = post_err Keeps _
+  printrow_good h arguments s all = grind (arith, copy_names)
 
   read_good : (h : OperatorContext) (arguments : List Word) → Source h → Good (read h arguments)
-  read_good h [] s = answers_good h (record h.job { numbers = (read_from h.job.numbers).1 }) (Operand (read_from h.job.numbers).0 ∷ []) [] None tt s.arrays
-  read_good h (w ∷ more) s = post_err Keeps _
+  read_good h arguments s = grind arith
 
   starts_good : (h : OperatorContext) (words : List Word) (end : End) → Source h → Good (starts h words end)
   starts_good h words (AtProc f segment level place) s =
@@ -259,25 +182,16 @@ module _ (T : ℕ → Type 0) (first : List Array) (keeps : Type 0) where
   process_good h (r ∷ words) s = post_then Keeps _ _ (post_any Keeps (follow_reference h r) _ (λ end. starts_good h words end s))
 
   awaits_good : (h : OperatorContext) (n : ℤ) → Source h → Good (awaits h n)
-  awaits_good h (negsuc n) s = none_good h [] s
-  awaits_good h (pos n) s = post_if Keeps _ _ _ (post_ok Keeps _ tt) (none_good h [] s)
+  awaits_good h n s = grind arith
 
   await_good : (h : OperatorContext) (arguments : List Word) → Source h → Good (await h arguments)
-  await_good h [] s = post_err Keeps _
-  await_good h (w ∷ []) s = post_any Keeps (whole w) _ (λ n. awaits_good h n s)
-  await_good h (w ∷ v ∷ more) s = post_err Keeps _
+  await_good h arguments s = grind (arith, awaits_good)
 
   status_good : (h : OperatorContext) (arguments : List Word) → Source h → Good (status h arguments)
-  status_good h [] s = post_err Keeps _
-  status_good h (w ∷ []) s = post_any Keeps (whole w) _ (λ n. none_good h (Operand (status_of h.job n) ∷ []) s)
-  status_good h (w ∷ v ∷ more) s = post_err Keeps _
+  status_good h arguments s = grind arith
 
   waits_at_good : (h : OperatorContext) (end : End) → Source h → Good (waits_at h end)
-  waits_at_good h (AtCell f offset bits) s = post_if Keeps _ _ _ (post_ok Keeps _ tt) (none_good h [] s)
-  waits_at_good h (AtElement a index) s = post_err Keeps _
-  waits_at_good h (AtArray a) s = post_err Keeps _
-  waits_at_good h (AtProc f segment level place) s = post_err Keeps _
-  waits_at_good h (AtIntrinsic n) s = post_err Keeps _
+  waits_at_good h end s = grind arith
 
   wait_good : (h : OperatorContext) (arguments : List Word) → Source h → Good (wait h arguments)
   wait_good h [] s = post_err Keeps _
@@ -285,11 +199,7 @@ module _ (T : ℕ → Type 0) (first : List Array) (keeps : Type 0) where
   wait_good h (r ∷ v ∷ more) s = post_err Keeps _
 
   causes_good : (h : OperatorContext) (end : End) → Source h → Good (causes h end)
-  causes_good h (AtCell f offset bits) s = post_then Keeps _ _ (post_ok Keeps _ (tt, s.arrays))
-  causes_good h (AtElement a index) s = post_err Keeps _
-  causes_good h (AtArray a) s = post_err Keeps _
-  causes_good h (AtProc f segment level place) s = post_err Keeps _
-  causes_good h (AtIntrinsic n) s = post_err Keeps _
+  causes_good h end s = grind arith
 
   cause_good : (h : OperatorContext) (arguments : List Word) → Source h → Good (cause h arguments)
   cause_good h [] s = post_err Keeps _
@@ -297,17 +207,10 @@ module _ (T : ℕ → Type 0) (first : List Array) (keeps : Type 0) where
   cause_good h (r ∷ v ∷ more) s = post_err Keeps _
 
   deallocate_good : (h : OperatorContext) (arguments : List Word) → Source h → Good (deallocate h arguments)
-  deallocate_good h [] s = post_err Keeps _
-  deallocate_good h (w ∷ []) s = post_any Keeps (row_copy w) _ (λ a. post_then Keeps (needs_writable h a) _ (answers_good h (with_array h.job a all_zero) [] [] None tt (numbers_stay h a all_zero (λ x. refl) s)))
-  deallocate_good h (w ∷ v ∷ more) s = post_err Keeps _
+  deallocate_good h arguments s = grind (arith, numbers_stay)
 
   resize_good : (h : OperatorContext) (arguments : List Word) → Source h → AllName arguments → Good (resize h arguments)
-  resize_good h [] s all = post_err Keeps _
-  resize_good h (r ∷ []) s all = post_err Keeps _
-  resize_good h (r ∷ w ∷ []) s all = post_bind T Keeps (row_copy r) _ (copy_names r (all r (inl refl)))
-      (λ a g. post_any Keeps (whole w) _ (λ n. post_any Keeps (array_length n) _ (λ len.
-      post_then Keeps (needs_writable h a) _ (answers_good h (with_array h.job a (resized len)) [] [] (Some a) g (numbers_stay h a (resized len) (λ x. refl) s)))))
-  resize_good h (r ∷ w ∷ v ∷ more) s all = post_err Keeps _
+  resize_good h arguments s all = grind (arith, copy_names, numbers_stay)
 
   intrinsic_good : (n : ℕ) (h : OperatorContext) (arguments : List Word) → Source h → AllName arguments → Good (intrinsic n h arguments)
   intrinsic_good n h arguments s all =
@@ -316,11 +219,7 @@ module _ (T : ℕ → Type 0) (first : List Array) (keeps : Type 0) where
       (post_if Keeps _ _ _ (deallocate_good h arguments s) (post_if Keeps _ _ _ (resize_good h arguments s all) (post_err Keeps _)))))))))))
 
   entr_at_good : (h : OperatorContext) (arguments : List Word) (end : End) → Source h → AllName arguments → Good (entr_at h arguments end)
-  entr_at_good h arguments (AtIntrinsic n) s all = intrinsic_good n h arguments s all
-  entr_at_good h arguments (AtProc f segment level place) s all = enters_good h arguments (AtProc f segment level place) s
-  entr_at_good h arguments (AtCell f offset bits) s all = post_err Keeps _
-  entr_at_good h arguments (AtElement a index) s all = post_err Keeps _
-  entr_at_good h arguments (AtArray a) s all = post_err Keeps _
+  entr_at_good h arguments end s all = grind (arith, intrinsic_good)
 
   entr_with_good : (h : OperatorContext) (cells : List Word) → Source h → AllName cells → Good (entr_with h cells)
   entr_with_good h [] s all = post_err Keeps _
@@ -337,9 +236,7 @@ module _ (T : ℕ → Type 0) (first : List Array) (keeps : Type 0) where
   plain_good codes.Entr h s e = entr_good h (top_of h).standing s
   plain_good codes.Indx h s e = indx_good h (cells_of h) s
   plain_good codes.Nxlv h s e = nxlv_good h (cells_of h) s (own_names h s)
-  plain_good codes.Mkst h s e =
-      let marked : Frame = record { identity = h.job.next_frame; standing = Marked; cells = [] } in
-      result_good h (record h.job { next_frame = h.job.next_frame + 1 }) (record h.task { frames = marked ∷ h.task.frames }) [] None tt s.arrays
+  plain_good codes.Mkst h s e = grind arith
   plain_good codes.Zero h s e = push_good h _ s
   plain_good codes.One h s e = push_good h _ s
   plain_good codes.Push h s e = cells_good h _ None s tt

@@ -1,9 +1,9 @@
 -- A number stored into a cell that the running task names: the machine represents the session with that cell changed.
-use Rattle.std.proofs.Common.{◌≡◌, ◌≢◌, ℕ, suc, ◌+◌, ◌-◌, ◌*◌, ◌<◌, ◌≤◌, List, [], ◌∷◌, flat_map, length, Some, unwrap_or, refl, sym, ◌∙◌, ap, arith, Bool, true, false, ◌==◌, ⊎_elim, inl, inr, subst, slice_set}
+use Rattle.std.proofs.Common.{◌≡◌, ◌≢◌, ℕ, suc, ◌+◌, ◌-◌, ◌*◌, ◌<◌, ◌≤◌, List, [], ◌∷◌, flat_map, length, Some, unwrap_or, refl, sym, ◌∙◌, ap, arith, Bool, ◌==◌, ⊎_elim, subst, slice_set}
 use Rattle.std.specs.Prelude.{if◌then◌else◌}
 use Rattle.std.specs.List.{slice_get}
 use Rattle.std.specs.Option.{ok_or}
-use Rattle.std.proofs.lemmas.Bool.{cases_Bool, cases_lt, eq-eqb}
+use Rattle.std.proofs.lemmas.Bool.{cases_lt}
 use Rattle.b67_core.proofs.Writes.{slice_get-set_other}
 use Rattle.b67_word.specs.Tagged.{Tagged, word}
 use Rattle.b67_word.specs.declared.couples.Place.{Place}
@@ -39,17 +39,10 @@ IsNoOperand _ = Unit {0}
 
 pub found_in : (id : ℕ) (fs : List Frame) → Has (identities fs) id → Has fs (frame_found id fs) × ((frame_found id fs).identity ≡ id)
 found_in id [] h = absurd h
-found_in id (f ∷ fs) h = ⊎_elim
-    (λ (t : (f.identity == id) ≡ true). rw t (inl refl, Rattle.std.proofs.lemmas.Bool.eqb-true f.identity id t))
-    (λ (t : (f.identity == id) ≡ false).
-    let more : Has (identities fs) id = ⊎_elim (λ z. absurd (let y : ⊥ = (let q : (f.identity == id) ≡ true = eq-eqb f.identity id z in let u : false ≡ true = sym t ∙ q in cc) in y)) (λ q. q) h in
-    let r = found_in id fs more in
-    rw t (inr r.0, r.1))
-    (cases_Bool (f.identity == id))
+found_in id (f ∷ fs) h = grind (arith, found_in id fs)
 
 slot_puts : (c : Shape) (at : ℕ) (st st' : List Activation) (b : Bool) → Puts c at st st' → SlotPuts c at (if b then Running st else Waiting st) (if b then Running st' else Waiting st')
-slot_puts c at st st' true p = runs p
-slot_puts c at st st' false p = waits p
+slot_puts c at st st' b p = grind (arith, runs, waits)
 
 module _ (core : List Tagged) (r : Regs) (a : RunningContext core r) (q : Place) (at f offset bits : ℕ) (here_at : IsCellAt a q at f offset (Operand bits)) where
   -- an operand's cell lies in a frame of a task
@@ -191,10 +184,7 @@ module _ (x : Storage) (old : Cpu) (plan : Placement) (s : Session) (m : Session
 
     follow : (from : ℕ) (xs : List SessionJob) → Rattle.b67_layout.specs.Session.DictionariesFollow plan from xs → Rattle.b67_layout.specs.Session.DictionariesFollow plan from (with_course xs m.constants.number c')
     follow from [] d = d
-    follow from (y ∷ more) d = ⊎_elim
-        (λ (z : (number_of y == m.constants.number) ≡ true). rw z d)
-        (λ (z : (number_of y == m.constants.number) ≡ false). rw z (d.0, follow (from + (2 + length y.constants.dictionary.cells)) more d.1))
-        (cases_Bool (number_of y == m.constants.number))
+    follow from (y ∷ more) d = grind (arith, follow (from + (2 + length y.constants.dictionary.cells)) more d.1)
 
     fits : PlanFits plan (record s { jobs = jobs' })
     fits = record {
@@ -228,10 +218,7 @@ module _ (x : Storage) (old : Cpu) (plan : Placement) (s : Session) (m : Session
     vector y v in_y in_v = same (32 + slot_of plan y.constants.number v.number) (let b = slot_below plan s.jobs y v h.holds.fits.rows in_y in_v in let few = h.holds.fits.few in let first = h.holds.memory.slots.laid.first in omega (arith, b, few, first)) ∙ h.holds.vector.live y v in_y in_v
 
     dictionary : (y : SessionJob) → Has s.jobs y → RepresentsDictionary (slice_set old.core at (word 0 new_bits)) plan y
-    dictionary y in_y =
-        let d = dictionary_below plan 160 s.jobs y h.holds.fits.dictionaries in_y in
-        let b = h.holds.dictionaries y in_y in
-        record { mark = same (plan.dictionary y.constants.number) (omega (arith, d)) ∙ b.mark; entries = same (plan.dictionary y.constants.number + 1) (omega (arith, d)) ∙ b.entries }
+    dictionary y in_y = grind (arith, dictionary_below, same)
 
     pub SessionHolds-store : SessionHolds x (slice_set old.core at (word 0 new_bits)) old.regs old.critical plan (record s { jobs = with_course s.jobs m.constants.number (record m.progress { job = put_job m.progress.job f (offset - 2) (Operand new_bits) }) })
     SessionHolds-store = record {

@@ -1,16 +1,15 @@
 -- The machine after a store into a cell of some slot's stack.
-use Rattle.std.proofs.Common.{◌≡◌, ◌≢◌, ℕ, suc, ◌+◌, ◌<◌, ◌≤◌, List, length, Some, refl, sym, ◌∙◌, ap, arith, inl, inr, ◌⊎◌, ⊎_elim, subst, slice_set}
+use Rattle.std.proofs.Common.{◌≡◌, ◌≢◌, ℕ, suc, ◌+◌, ◌<◌, ◌≤◌, List, length, refl, ◌∙◌, arith, inl, inr, ◌⊎◌, ⊎_elim, subst, slice_set}
 use Rattle.std.specs.List.{slice_get}
 use Rattle.std.proofs.Math.ListN.{length-set}
 use Rattle.std.proofs.lemmas.Bool.{cases_lt}
 use Rattle.b67_word.specs.Tagged.{Tagged}
-use Rattle.b67_ctl.specs.Layout.{toscw_word}
 use Rattle.b67_core.proofs.Writes.{slice_get-set_other}
 use Rattle.b67_area.proofs.Climbs.{area_at-low}
 use Rattle.b67_area.proofs.Separation.{IsDirectory-same, controls_above}
 use Rattle.b67_lemmas.specs.Lists.{Has}
 use Rattle.b67_ctl.specs.declared.registers.Regs.{Regs}
-use Rattle.b67_stack.specs.Common.{Copied, Shape, Copy, Fits, LieDownward, Activation, IsStack, stack_words, words, PagedObject, MachineView, Slot, Free, Running, Waiting, stack_of, slot_base, SlotFits, CopiesName, IsLaidOut, NoOriginalAboveTop, with_slot, Storage, RepresentsSlot, Represents, info_of}
+use Rattle.b67_stack.specs.Common.{Copied, Shape, Copy, Fits, LieDownward, Activation, IsStack, stack_words, words, PagedObject, MachineView, Slot, Running, Waiting, stack_of, slot_base, SlotFits, CopiesName, IsLaidOut, NoOriginalAboveTop, with_slot, Storage, RepresentsSlot, Represents, info_of}
 use Rattle.b67_stack.proofs.Bases.{base-apart}
 use Rattle.b67_stack.proofs.Lies.{Lie-same}
 use Rattle.b67_stack.proofs.Heights.{words-length}
@@ -23,16 +22,13 @@ pub data SlotPuts (c : Shape) (at : ℕ) : Slot → Slot → Type 0 where
   waits : {st st' : List Activation} → Puts c at st st' → SlotPuts c at (Waiting st) (Waiting st')
 
 slot_high : {c : Shape} {at : ℕ} {y y' : Slot} → SlotPuts c at y y' → stack_words (stack_of y') ≡ stack_words (stack_of y)
-slot_high (runs p) = puts_high p
-slot_high (waits p) = puts_high p
+slot_high h = grind (arith, puts_high)
 
 slot_low : {c : Shape} {at : ℕ} {y y' : Slot} → SlotPuts c at y y' → at < stack_words (stack_of y)
-slot_low (runs p) = puts_low p
-slot_low (waits p) = puts_low p
+slot_low h = grind (arith, puts_low)
 
 slot_lies : {c : Shape} {at : ℕ} {y y' : Slot} (R : Shape → ℕ → Tagged → Type 0) (core : List Tagged) (from k : ℕ) (v : Tagged) → SlotPuts c at y y' → from + at < length core → R c (from + at) v → LieDownward R core from (words k (stack_of y)) → LieDownward R (slice_set core (from + at) v) from (words k (stack_of y'))
-slot_lies R core from k v (runs p) inside fit l = puts_lies R core from k v p inside fit l
-slot_lies R core from k v (waits p) inside fit l = puts_lies R core from k v p inside fit l
+slot_lies R core from k v h inside fit l = grind (arith, puts_lies)
 
 stack_fits : {c : Shape} {at : ℕ} {st st' : List Activation} (room : ℕ) → Puts c at st st' → IsStack room st → IsStack room st'
 stack_fits room p f = record { some = puts_some p; heads = puts_heads p f.heads; fits = (let h = puts_high p in let n = f.fits in omega (arith, h, n)) }
@@ -45,32 +41,14 @@ slot_fits p k plain (runs q) f = (stack_fits p.size q f.0, copies_name p.objects
 slot_fits p k plain (waits q) f = (stack_fits p.size q f.0, copies_name p.objects k plain q f.1)
 
 slot_size : {c : Shape} {at : ℕ} {y y' : Slot} (p : MachineView) (k : ℕ) → SlotPuts c at y y' → SlotFits p k y → stack_words (stack_of y) < p.size
-slot_size p k (runs q) f = f.0.fits
-slot_size p k (waits q) f = f.0.fits
+slot_size p k h f = grind arith
 
 slot_stands : (old new : List Tagged) (r : Regs) (p p' : MachineView) (j : ℕ) (y : Slot) → slot_base p' j ≡ slot_base p j → p'.size ≡ p.size → slice_get new (slot_base p j) ≡ slice_get old (slot_base p j) → RepresentsSlot old r p j y → RepresentsSlot new r p' j y
-slot_stands old new r p p' j Free b z same t = (t.0, ap (slice_get new) b ∙ same ∙ t.1)
-slot_stands old new r p p' j (Running stack) b z same t = record {
-  slot = t.slot;
-  first = t.first ∙ sym b;
-  last = (let q = t.last in omega (arith, q, b, z));
-  top = (let q = t.top in omega (arith, q, b));
-  mark = (let q = t.mark in omega (arith, q, b));
-  level = t.level;
-}
-slot_stands old new r p p' j (Waiting stack) b z same t = (t.0, ap (slice_get new) b ∙ same ∙ t.1)
+slot_stands old h r p p' j y b z same t = grind arith
 
 slot_put : {c : Shape} {at : ℕ} {y y' : Slot} (old new : List Tagged) (r : Regs) (p : MachineView) (k : ℕ) → SlotPuts c at y y' → slice_get new (slot_base p k) ≡ slice_get old (slot_base p k) → RepresentsSlot old r p k y → RepresentsSlot new r (with_slot p k y') k y'
-slot_put old new r p k (runs q) same t = record {
-  slot = t.slot;
-  first = t.first;
-  last = t.last;
-  top = (let a = t.top in let h = puts_high q in omega (arith, a, h));
-  mark = (let a = t.mark in let h = puts_mark q in omega (arith, a, h));
-  level = t.level ∙ sym (puts_level q);
-}
-slot_put old new r p k (waits q) same t =
-    (t.0, same ∙ t.1 ∙ (λ i. Some (toscw_word (record { s = sym (puts_high q) i; level = sym (puts_level q) i; f = sym (puts_mark q) i }))))
+slot_put old new r p k (runs q) same t = grind (arith, puts_high, puts_mark, puts_level)
+slot_put old new r p k (waits q) same t = grind (arith, puts_high, puts_level, puts_mark)
 
 module _ (x : Storage) (core : List Tagged) (r : Regs) (p : MachineView) (k : ℕ) (y y' : Slot) (c : Shape) (at : ℕ) (v : Tagged) (s : Represents x core r p) (used : k < p.peak) (is : p.slots k ≡ y) (puts : SlotPuts c at y y') (plain : (d : Copied) (home : ℕ) → c ≢ Copy d home)
     (fit : Fits x.held c (suc (slot_base p k) + at) v) (no_home : (t : PagedObject) → Has p.objects t → t.home ≢ suc (slot_base p k) + at) where
@@ -105,9 +83,7 @@ module _ (x : Storage) (core : List Tagged) (r : Regs) (p : MachineView) (k : �
       (cases_lt j k)
 
   fits_same : (j : ℕ) (z : Slot) → SlotFits p j z → SlotFits (with_slot p k y') j z
-  fits_same j Free f = f
-  fits_same j (Running q) f = f
-  fits_same j (Waiting q) f = f
+  fits_same j z f = grind arith
 
   laid' : IsLaidOut x.low (with_slot p k y')
   laid' = record {
@@ -150,6 +126,4 @@ module _ (x : Storage) (core : List Tagged) (r : Regs) (p : MachineView) (k : �
   }
 
   pub Settled-store : NoOriginalAboveTop p → NoOriginalAboveTop (with_slot p k y')
-  Settled-store settled t int = by_slot p k y' (λ j z. slot_base p j ≤ t.home → t.home < slot_base p j + p.size → t.home ≤ slot_base p j + stack_words (stack_of z))
-      (λ low up. let o = settled t int k used low up in let e : stack_words (stack_of (p.slots k)) ≡ stack_words (stack_of y) = ap (λ (z : Slot). stack_words (stack_of z)) is in let h = slot_high puts in omega (arith, o, e, h))
-      (λ j hj n. settled t int j hj)
+  Settled-store settled t int = grind (arith, slot_high)

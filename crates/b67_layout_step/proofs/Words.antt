@@ -1,7 +1,6 @@
 -- The array that a word names, a reference leads to, or an end is in.
-use Rattle.std.proofs.Common.{ltb, ◌≡◌, ℕ, zero, suc, List, [], ◌∷◌, flat_map, length, Option, Some, None, unwrap_or, Ok, Err, refl, subst, inl, inr, ◌⊎◌, ◌==◌}
-use Rattle.std.proofs.lemmas.Bool.{cases_Bool}
-use Rattle.b67_model.specs.Common.{Answer, array, array_at, array_of, index_below, indexed, Word, Operand, Name, Ref, Row, Element, Original, Proc, Intrinsic, operand, number, Frame, Task, OperatorContext, mcp, no_frame, all_frames, frame, top, below_top, cell, place_of, End, AtCell, AtElement, AtArray, AtProc, AtIntrinsic, Link, Stops, Leads, element_end, link_at, link_in, link_from, link, chase_on, chase, follow}
+use Rattle.std.proofs.Common.{ltb, ◌≡◌, ℕ, zero, suc, List, [], ◌∷◌, flat_map, length, Option, Some, None, unwrap_or, Ok, refl, subst, inl, inr, ◌⊎◌, arith}
+use Rattle.b67_model.specs.Common.{Answer, array, array_at, array_of, index_below, indexed, Word, Operand, Name, Ref, Row, Element, Original, Proc, Intrinsic, operand, number, Frame, Task, OperatorContext, mcp, no_frame, all_frames, frame, top, below_top, cell, place_of, End, AtElement, AtArray, Link, Stops, Leads, element_end, link_at, link_in, link_from, link, chase_on, chase, follow}
 use Rattle.b67_model.specs.Keyed.{keyed, change_keyed}
 use Rattle.b67_lemmas.specs.Lists.{Has}
 use Rattle.b67_lemmas.proofs.Members.{all_in, has_append_cases, keyed_has, has_flat_back}
@@ -13,10 +12,7 @@ use Rattle.b67_model.specs.declared.limits.TheConstants.{MOST_LINKS}
 -- a task put in the place of another
 pub has_put : (n : ℕ) (new : Task) (ts : List Task) (t : Task) → Has (change_keyed (λ (u : Task). u.number) n (λ (u : Task). new) ts) t → (new ≡ t) ⊎ Has ts t
 has_put n new [] t h = absurd h
-has_put n new (u ∷ us) t h = elim (cases_Bool (u.number == n)) [
-  | inl q ↦ elim (rw q at h) [ inl e ↦ inl e | inr m ↦ inr (inr m) ]
-  | inr q ↦ elim (rw q at h) [ inl e ↦ inr (inl e) | inr m ↦ elim (has_put n new us t m) [ inl e ↦ inl e | inr k ↦ inr (inr k) ] ]
-]
+has_put n new (u ∷ us) t h = grind (arith, has_put n new us t)
 
 -- a fact of the arrays that words name
 module _ (T : ℕ → Type 0) where
@@ -39,12 +35,10 @@ module _ (T : ℕ → Type 0) where
     pub dictionary : AllName h.constants.dictionary.cells
 
   pub below_names : (frames : List Frame) → FramesName frames → FramesName (below_top frames)
-  below_names [] all f k = absurd k
-  below_names (x ∷ below) all f k = all f (inr k)
+  below_names frames all f k = grind arith
 
   pub top_names : (frames : List Frame) → FramesName frames → AllName (top frames).cells
-  top_names [] all w k = absurd k
-  top_names (f ∷ below) all w k = all f (inl refl) w k
+  top_names frames all w k = grind arith
 
   pub tail_names : (w : Word) (words : List Word) → AllName (w ∷ words) → AllName words
   tail_names w words all v k = all v (inr k)
@@ -82,24 +76,14 @@ module _ (T : ℕ → Type 0) where
   element_names h a index g = post_if EndNames (ltb index (length (array h.job a).numbers)) _ _ (post_ok EndNames (AtElement a index) g) (post_err EndNames _)
 
   link_word : (h : OperatorContext) (f offset : ℕ) (w : Word) → Names w → LinkNames (link_at h f offset w)
-  link_word h f offset (Operand bits) g = post_ok EndNames _ tt
-  link_word h f offset (Name couple) g = tt
-  link_word h f offset (Ref identity other) g = tt
-  link_word h f offset (Element a index) g = element_names h a index g
-  link_word h f offset (Original a) g = post_ok EndNames (AtArray a) g
-  link_word h f offset (Row a) g = post_ok EndNames (AtArray a) g
-  link_word h f offset (Proc segment level place) g = post_ok EndNames _ tt
-  link_word h f offset (Intrinsic n) g = post_ok EndNames _ tt
-  link_word h f offset (Words.Segment n) g = post_err EndNames _
+  link_word h f offset w g = grind arith
 
   module _ (h : OperatorContext) (s : Holds h) where
     link_cell : (f offset : ℕ) (a : Answer Word) → cell h f offset ≡ a → LinkNames (link_in h f offset a)
-    link_cell f offset (Err fault) e = post_err EndNames fault
-    link_cell f offset (Ok w) e = link_word h f offset w (cell_names h s f offset w e)
+    link_cell f offset a e = grind (arith, link_word, cell_names)
 
     link_place : (a : Answer (ℕ × ℕ)) → LinkNames (link_from h a)
-    link_place (Err fault) = post_err EndNames fault
-    link_place (Ok at) = link_cell at.0 at.1 (cell h at.0 at.1) refl
+    link_place a = grind (arith, link_cell)
 
     chase_links : (links : ℕ) (l : Link) → LinkNames l → Post EndNames (chase_on h links l)
     chase_links links (Stops end) g = g
@@ -121,11 +105,7 @@ module _ (T : ℕ → Type 0) where
     follow_names (Words.Segment n) g = post_err EndNames _
 
     at_names : (end : End) → EndNames end → Post T (array_at end)
-    at_names (AtArray a) g = post_ok T a g
-    at_names (AtCell f offset bits) g = post_err T _
-    at_names (AtElement a index) g = post_err T _
-    at_names (AtProc f segment level place) g = post_err T _
-    at_names (AtIntrinsic n) g = post_err T _
+    at_names end g = grind arith
 
     array_names : (w : Word) → Names w → Post T (array_of h w)
     array_names (Row a) g = post_ok T a g

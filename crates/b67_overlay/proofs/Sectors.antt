@@ -7,7 +7,9 @@ use Rattle.b67_word.specs.Tagged.{Tagged}
 use Rattle.b67_word.specs.Numbers.{number}
 use Rattle.b67_area.specs.declared.Kind.{Kind}
 use Rattle.b67_area.specs.declared.Kind.TheVariants.{Array, Row, Code}
-use Rattle.b67_area.specs.Spans.{area_at}
+use Rattle.b67_area.specs.Spans.{Span, area_at}
+use Rattle.b67_area.specs.Directory.{IsDirectory}
+use Rattle.b67_area.specs.declared.Info.{Info}
 use Rattle.b67_backing.specs.Shelf.{Shelf, Table, IsShelf, first, taken, chain_of}
 use Rattle.b67_backing.specs.Held.{sectors_for, SameBut, Stores}
 use Rattle.b67_backing.proofs.News.{chain_of-taken}
@@ -56,6 +58,17 @@ module _ (x : Storage) (core : List Tagged) (r : Regs) (p : MachineView) (s : Re
         words = c.0;
         keeps = c.1;
       }
+
+  -- by the directory, and by what info says of it
+  module _ (low : ℕ) (is : low ≡ x.low) where
+    pub directory_at : IsDirectory core low x.spans
+    directory_at = subst (λ (n : ℕ). IsDirectory core n x.spans) (sym is) s.directory
+
+    pub area_here : area_at low x.spans area ≡ Some (info_of x t)
+    area_here = ap (λ (n : ℕ). area_at n x.spans area) is ∙ about.here
+
+    pub info_is : (i : Info) → ((spans : List Span) (j : Info) → IsDirectory core low spans → area_at low spans area ≡ Some j → i ≡ j) → i ≡ info_of x t
+    info_is i says = says x.spans (info_of x t) directory_at area_here
 
   object_chain : (u : PagedObject) → Has p.objects u → ((x.held u.home).chain ≡ 0) ⊎ ObjectHasChain x u (x.held u.home).chain
   object_chain u inu = Content-chain x core u (x.held u.home).area (x.held u.home).chain (s.objects u inu).content

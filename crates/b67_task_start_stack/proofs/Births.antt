@@ -1,14 +1,14 @@
 -- The machine represents the session with a new task, once its stack waits in its slot.
-use Rattle.std.proofs.Common.{◌≡◌, ◌≢◌, ℕ, ◌+◌, ◌*◌, ◌^◌, ◌<◌, ◌≤◌, List, [], ◌∷◌, ◌++◌, length, Some, refl, sym, ◌∙◌, ap, arith, Bool, true, false, ◌==◌, inl, inr, ◌⊎◌, ⊎_elim, subst, unwrap_or}
-use Rattle.std.specs.Prelude.{if◌then◌else◌, flat_map}
+use Rattle.std.proofs.Common.{◌≡◌, ◌≢◌, ℕ, ◌+◌, ◌*◌, ◌^◌, ◌<◌, ◌≤◌, List, [], ◌∷◌, length, Some, refl, sym, ◌∙◌, ap, arith, Bool, ◌==◌, inl, inr, ◌⊎◌, ⊎_elim, subst}
+use Rattle.std.specs.Prelude.{if◌then◌else◌}
 use Rattle.std.specs.List.{slice_get, list_any}
-use Rattle.std.proofs.lemmas.Bool.{cases_eq, cases_Bool, eq-eqb, ne_eqb, eqb-true}
+use Rattle.std.proofs.lemmas.Bool.{cases_eq, eq-eqb, ne_eqb}
 use Rattle.std.proofs.lemmas.Option.{same_Some}
 use Rattle.b67_word.specs.Tagged.{Tagged, word}
 use Rattle.b67_ctl.specs.declared.registers.Regs.{Regs}
 use Rattle.b67_lemmas.specs.Lists.{Has}
 use Rattle.b67_model.specs.State as State
-use Rattle.b67_model.specs.Common.{Frame, Task, Job, JobProgress, SessionJob, OperatorContext, frame, no_frame, height, number_of, is_critical, Session, frame_at, IsSegment, NumberedFrom, SettingInOrder, TasksInOrder}
+use Rattle.b67_model.specs.Common.{Frame, Task, Job, JobProgress, SessionJob, OperatorContext, frame, height, number_of, is_critical, Session, frame_at, IsSegment, NumberedFrom, SettingInOrder, TasksInOrder}
 use Rattle.b67_model.specs.Keyed.{keyed}
 use Rattle.b67_stack.specs.Common.{StackPlace, NoOriginalAboveTop, Storage, Represents}
 use Rattle.b67_layout.specs.Common.{Placement, Slotted, slot_of, spots, address_of, machine_view, RowsFit, DictionariesFollow, RowHomes, PlanFits, RepresentsDictionary, vector_word, critical_mark, RepresentsTask, IsRunning, ShowsDisplay, SessionHolds}
@@ -34,41 +34,18 @@ keyed_numbered n (w ∷ ws) g z (inr i) = rw (ne_eqb (number_of w) z.constants.n
 pub changed_member : (k j : ℕ) (c : JobProgress) (jobs : List SessionJob) (m : SessionJob) → NumberedFrom k jobs → keyed number_of j jobs ≡ Some m → (y : SessionJob) → Has (with_course jobs j c) y
     → (Has jobs y × (y.constants.number ≢ j)) ⊎ (y ≡ record m { progress = c })
 changed_member k j c [] m n e y h = absurd h
-changed_member k j c (x ∷ xs) m n e y h = ⊎_elim
-    (λ (t : (number_of x == j) ≡ true).
-    let same : x ≡ m = same_Some x m (rw t at e) in
-    let there : Has (record x { progress = c } ∷ xs) y = rw t at h in
-    ⊎_elim
-    (λ (q : record x { progress = c } ≡ y). inr (sym q ∙ ap (λ (z : SessionJob). record z { progress = c }) same))
-    (λ (q : Has xs y). inl (inr q, λ z. omega (arith, numbered_low (k + 1) xs y n.1 q, z, eqb-true (number_of x) j t, n.0)))
-    there)
-    (λ (t : (number_of x == j) ≡ false).
-    let there : Has (x ∷ with_course xs j c) y = rw t at h in
-    ⊎_elim
-    (λ (q : x ≡ y). inl (inl q, λ z. (let b : (number_of x == j) ≡ true = eq-eqb (number_of x) j (ap number_of q ∙ z) in let f : false ≡ true = sym t ∙ b in absurd cc)))
-    (λ (q : Has (with_course xs j c) y). ⊎_elim (λ r. inl (inr r.0, r.1)) (λ r. inr r) (changed_member (k + 1) j c xs m n.1 (rw t at e) y q))
-    there)
-    (cases_Bool (number_of x == j))
+changed_member k j c (x ∷ xs) m n e y h = grind (arith, numbered_low, changed_member (k + 1) j c xs m n.1)
 
 pub kept_member : (j : ℕ) (c : JobProgress) (jobs : List SessionJob) (y : SessionJob) → Has jobs y → y.constants.number ≢ j → Has (with_course jobs j c) y
 kept_member j c [] y h ne = absurd h
-kept_member j c (x ∷ xs) y h ne = ⊎_elim
-    (λ (t : (number_of x == j) ≡ true). rw t (⊎_elim (λ (q : x ≡ y). absurd (ne (ap number_of (sym q) ∙ eqb-true (number_of x) j t))) (λ (q : Has xs y). inr q) h))
-    (λ (t : (number_of x == j) ≡ false). rw t (⊎_elim (λ (q : x ≡ y). inl q) (λ (q : Has xs y). inr (kept_member j c xs y q ne)) h))
-    (cases_Bool (number_of x == j))
+kept_member j c (x ∷ xs) y h ne = grind (arith, kept_member j c xs y)
 
 pub moved_member : (j : ℕ) (c : JobProgress) (jobs : List SessionJob) (m : SessionJob) → keyed number_of j jobs ≡ Some m → Has (with_course jobs j c) (record m { progress = c })
 moved_member j c jobs m e = (keyed_has number_of j (with_course jobs j c) (record m { progress = c }) (member-same jobs j c m e)).0
 
 follow-more : (plan : Placement) (j n k peak i at : ℕ) (c : JobProgress) (jobs : List SessionJob) → DictionariesFollow plan at jobs → DictionariesFollow (with_task_at plan j n k peak) at (with_course jobs i c)
 follow-more plan j n k peak i at c [] d = d
-follow-more plan j n k peak i at c (m ∷ rest) d = ⊎_elim
-    (λ (q : (number_of m == i) ≡ true). rw q (d.0, follow-rest plan j n k peak (at + (2 + length m.constants.dictionary.cells)) rest d.1))
-    (λ (q : (number_of m == i) ≡ false). rw q (d.0, follow-more plan j n k peak i (at + (2 + length m.constants.dictionary.cells)) c rest d.1))
-    (cases_Bool (number_of m == i)) where
-      follow-rest : (plan : Placement) (j n k peak at : ℕ) (jobs : List SessionJob) → DictionariesFollow plan at jobs → DictionariesFollow (with_task_at plan j n k peak) at jobs
-      follow-rest plan j n k peak at [] d = d
-      follow-rest plan j n k peak at (m ∷ rest) d = (d.0, follow-rest plan j n k peak (at + (2 + length m.constants.dictionary.cells)) rest d.1)
+follow-more plan j n k peak i at c (m ∷ rest) d = grind (arith, follow-more plan j n k peak i (at + (2 + length m.constants.dictionary.cells)) c rest d.1)
 
 vector-more : (plan : Placement) (j n k peak i : ℕ) (parents : List ℕ) → (i ≡ j → (u : ℕ) → Has parents u → u ≢ n) → vector_word (with_task_at plan j n k peak) i parents ≡ vector_word plan i parents
 vector-more plan j n k peak i [] old = refl
@@ -322,13 +299,7 @@ module _ (x y : Storage) (core new : List Tagged) (r r' : Regs) (marks marks' : 
     now = record { constants = m.constants; job = job'; task = t; at = t.place }
 
     frames_same : (id : ℕ) → id < m.progress.job.next_frame → frame now id ≡ frame before id
-    frames_same id small =
-        let rest : List Task → List Frame = λ ts. flat_map (λ (u : Task). u.frames) ts ++ (m.constants.dictionary ∷ State.mcp ∷ []) in
-        let look : List Frame → Frame = λ fs. unwrap_or (keyed (λ (g : Frame). g.identity) id fs) no_frame in
-        let skip : look ((f ∷ []) ++ rest m.progress.job.tasks) ≡ look (rest m.progress.job.tasks) = rw (ne_eqb f.identity id (λ e. omega (arith, e, new_id, small))) refl in
-        ap (λ (ts : List Task). look (rest ts)) joins.tasks
-        ∙ ap (λ (fs : List Frame). look ((fs ++ flat_map (λ (u : Task). u.frames) m.progress.job.tasks) ++ (m.constants.dictionary ∷ State.mcp ∷ []))) one
-        ∙ skip
+    frames_same id small = grind arith
 
     pub ShowsDisplay-born : (display : List ℕ) → ShowsDisplay display plan m t → ShowsDisplay display after_plan after_member t
     ShowsDisplay-born display d n up =

@@ -11,7 +11,6 @@ use Rattle.b67_lemmas.specs.Lists.{Has}
 use Rattle.b67_model.specs.Common.{Task, Job, SessionJob, Session, NumberedFrom}
 use Rattle.b67_stack.specs.declared.Cpu.{Cpu}
 use Rattle.b67_stack.specs.Common.{StackPlace, Entered, mark_of, mark_place, activations_below, RunsOn, slot_base, Storage}
-use Rattle.b67_stack.proofs.Pushes.{room_of}
 use Rattle.b67_layout.specs.Common.{Placement, slot_of, machine_view, stack_of_task, vector_word, critical_mark, RepresentsSession}
 use Rattle.b67_layout.proofs.Starts.{runs_here}
 use Rattle.b67_task_start_stack.specs.Born.{with_task_at}
@@ -37,14 +36,10 @@ module _ (x : Storage) (cpu : Cpu) (plan : Placement) (s : Session) (m : Session
   two_marks = below_some x cpu plan s m t job' child k b.ordered b.stands b.running b.joins b.calls
 
   pub few_words : (cpu.regs.s < 2 ^ 20 - 1) × (cpu.regs.s + 1 ≤ length cpu.core)
-  few_words =
-      let r = room_of x cpu.core cpu.regs (machine_view plan s.jobs) cpu.regs.slot (stack_of_task plan m.constants.number m.progress.job plan.running t) b.stands.holds.memory on_stack in
-      (omega (arith, r.last, r.under, r.inside, r.bound), omega (arith, r.last, r.under, r.inside))
+  few_words = grind (arith, on_stack)
 
   pub base_is : (a c : ℕ) → a ≡ k → c ≡ cpu.regs.stack_size → cpu.regs.stacks + a * c ≡ slot_base (machine_view plan s.jobs) k
-  base_is a c ea ec =
-      let r = b.stands.holds.memory.slots.regs in
-      ap (λ (n : ℕ). n + a * c) r.stacks ∙ ap (λ (n : ℕ). plan.stacks + n * c) ea ∙ ap (λ (n : ℕ). plan.stacks + k * n) (ec ∙ r.size)
+  base_is a c ea ec = grind arith
 
   pub few_copied : count ≤ cpu.regs.s + 1
   few_copied = omega (arith, enough x cpu plan s m t job' child k b.ordered b.stands b.running b.joins b.calls, b.count_is)
@@ -91,10 +86,7 @@ module _ (x : Storage) (cpu : Cpu) (plan : Placement) (s : Session) (m : Session
     at_base P q = subst P start q
 
     vector_there : slice_get new (32 + k) ≡ Some (word 3 vector)
-    vector_there = ap (λ (c : List Tagged). slice_get c (32 + k)) written ∙ slice_get-set_same mid (32 + k) (word 3 vector) (omega (arith, len, small, inside))
-      where
-        inside : 160 ≤ length cpu.core
-        inside = omega (arith, b.stands.holds.memory.slots.laid.first, b.stands.holds.memory.slots.laid.low, b.stands.holds.memory.inside)
+    vector_there = grind (arith, slice_get-set_same)
 
     built : Built cpu after plan m t job' child k (slot_base (machine_view plan s.jobs) k) (length b.calls.only.cells) b.calls.level b.calls.spot
     built = record {

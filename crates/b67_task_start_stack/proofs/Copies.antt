@@ -7,9 +7,9 @@ use Rattle.b67_word.specs.Tagged.{Tagged}
 use Rattle.b67_ctl.specs.Layout.{mscw_word, rcw_word}
 use Rattle.b67_lemmas.specs.Lists.{Has}
 use Rattle.b67_model.specs.Words as Words
-use Rattle.b67_model.specs.Common.{Word, Operand, Name, Ref, Row, Element, Original, Proc, Intrinsic, Frame, Job, is_original, from_frame}
+use Rattle.b67_model.specs.Common.{Word, Original, Frame, Job, is_original, from_frame}
 use Rattle.b67_stack.specs.Shapes as Shapes
-use Rattle.b67_stack.specs.Common.{Locations, Shape, Is, Copy, Fits, LieDownward, StackPlace, Head, Entered, mark_of, return_of, headed}
+use Rattle.b67_stack.specs.Common.{Locations, Shape, Fits, LieDownward, StackPlace, Head, Entered, mark_of, return_of, headed}
 use Rattle.b67_task_start_stack.specs.Joining.{Sees}
 use Rattle.b67_layout.specs.Common.{Placement, spot_in, shape}
 
@@ -31,32 +31,14 @@ LieDownward-copied R core new from to sh sh' (x ∷ xs) ys zs copied fits old re
 
 -- a word but an original fits wherever it lies
 pub fits_anywhere : (held : Locations) (c : Shape) (at at' : ℕ) (w : Tagged) → ((home : ℕ) → c ≢ Shapes.Original home) → Fits held c at w → Fits held c at' w
-fits_anywhere held (Is v) at at' w plain f = f
-fits_anywhere held (Copy c home) at at' w plain f = f
-fits_anywhere held (Shapes.Original home) at at' w plain f = absurd (plain home refl)
+fits_anywhere held c at at' w plain f = grind arith
 
 -- a shape depends on the spots of the frames that the word names
 pub shape_seen : (plan : Placement) (j : ℕ) (job : Job) (spot spot' : ℕ → StackPlace) (w : Word) → Sees (λ (f : ℕ). spot' f ≡ spot f) w → shape plan j job spot' w ≡ shape plan j job spot w
-shape_seen plan j job spot spot' (Ref frame offset) e = ap (λ (s : StackPlace). shape plan j job (λ f. s) (Ref frame offset)) e
-shape_seen plan j job spot spot' (Operand bits) e = refl
-shape_seen plan j job spot spot' (Name couple) e = refl
-shape_seen plan j job spot spot' (Row a) e = refl
-shape_seen plan j job spot spot' (Element a index) e = refl
-shape_seen plan j job spot spot' (Original a) e = refl
-shape_seen plan j job spot spot' (Proc segment level place) e = refl
-shape_seen plan j job spot spot' (Intrinsic number) e = refl
-shape_seen plan j job spot spot' (Words.Segment number) e = refl
+shape_seen plan j job spot spot' w e = grind arith
 
 plain_shape : (plan : Placement) (j : ℕ) (job : Job) (spot : ℕ → StackPlace) (w : Word) → is_original w ≡ false → (home : ℕ) → shape plan j job spot w ≢ Shapes.Original home
-plain_shape plan j job spot (Original a) p home e = absurd cc
-plain_shape plan j job spot (Operand bits) p home e = cc
-plain_shape plan j job spot (Name couple) p home e = cc
-plain_shape plan j job spot (Ref frame offset) p home e = cc
-plain_shape plan j job spot (Row a) p home e = cc
-plain_shape plan j job spot (Element a index) p home e = cc
-plain_shape plan j job spot (Proc segment level place) p home e = cc
-plain_shape plan j job spot (Intrinsic number) p home e = cc
-plain_shape plan j job spot (Words.Segment number) p home e = cc
+plain_shape plan j job spot w p home e = grind arith
 
 -- from the parent's critical frame, the one under the call's mark, its spots are those that the parent sees, but for the mark
 pub seen_below : (k : ℕ) (outer : ℕ → StackPlace) (f g : Frame) (below : List Frame) (id : ℕ) → f.identity ≢ g.identity → f.identity ≢ id

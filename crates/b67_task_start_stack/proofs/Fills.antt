@@ -1,5 +1,5 @@
 -- A stack in a slot in which no task lived: the machine represents the view with that stack waiting there.
-use Rattle.std.proofs.Common.{◌≡◌, ◌≢◌, ℕ, suc, ◌+◌, ◌<◌, ◌≤◌, List, [], ◌∷◌, ◌∙◌, arith, inl, inr, ⊎_elim, subst}
+use Rattle.std.proofs.Common.{◌≡◌, ◌≢◌, ℕ, ◌+◌, ◌<◌, ◌≤◌, List, [], ◌∷◌, ◌∙◌, arith, inl, inr, ⊎_elim}
 use Rattle.std.specs.List.{slice_get}
 use Rattle.std.proofs.lemmas.Bool.{cases_lt}
 use Rattle.b67_word.specs.Tagged.{Tagged}
@@ -8,7 +8,7 @@ use Rattle.b67_area.proofs.Climbs.{area_at-low}
 use Rattle.b67_area.proofs.Separation.{Controls, IsDirectory-same}
 use Rattle.b67_ctl.specs.declared.registers.Regs.{Regs}
 use Rattle.b67_lemmas.specs.Lists.{Has}
-use Rattle.b67_stack.specs.Common.{Fits, LieDownward, Activation, stack_words, words, PagedObject, Slot, Free, Running, Waiting, stack_of, MachineView, slot_base, SlotFits, IsLaidOut, with_slot, NoOriginalAboveTop, Storage, RepresentsSlot, StacksLie, RepresentsObjects, Represents, info_of}
+use Rattle.b67_stack.specs.Common.{Activation, stack_words, words, PagedObject, Slot, Waiting, stack_of, MachineView, slot_base, SlotFits, IsLaidOut, with_slot, NoOriginalAboveTop, Storage, RepresentsSlot, StacksLie, RepresentsObjects, Represents, info_of}
 use Rattle.b67_stack.proofs.Bases.{base-apart}
 use Rattle.b67_stack.proofs.Heights.{words-length}
 use Rattle.b67_stack.proofs.Lies.{Lie-same}
@@ -16,19 +16,13 @@ use Rattle.b67_stack.proofs.Slots.{by_slot, Content-areas}
 use Rattle.b67_task_start_stack.specs.Slots.{SlotFilled}
 
 slot_room : (p : MachineView) (k : ℕ) (s : Slot) → SlotFits p k s → 0 < p.size → stack_words (stack_of s) < p.size
-slot_room p k Free f some = some
-slot_room p k (Running stack) f some = f.0.fits
-slot_room p k (Waiting stack) f some = f.0.fits
+slot_room p k s f some = grind arith
 
 fits_same : (p : MachineView) (k : ℕ) (slot : Slot) (j : ℕ) (s : Slot) → SlotFits p j s → SlotFits (with_slot p k slot) j s
-fits_same p k slot j Free f = f
-fits_same p k slot j (Running q) f = f
-fits_same p k slot j (Waiting q) f = f
+fits_same p k slot j s f = grind arith
 
 stands_other : (core new : List Tagged) (r : Regs) (p : MachineView) (k : ℕ) (slot : Slot) (j : ℕ) (s : Slot) → slice_get new (slot_base p j) ≡ slice_get core (slot_base p j) → RepresentsSlot core r p j s → RepresentsSlot new r (with_slot p k slot) j s
-stands_other core new r p k slot j Free e t = (t.0, e ∙ t.1)
-stands_other core new r p k slot j (Running stack) e t = record { slot = t.slot; first = t.first; last = t.last; top = t.top; mark = t.mark; level = t.level }
-stands_other core new r p k slot j (Waiting stack) e t = (t.0, e ∙ t.1)
+stands_other core new r p k slot j s e t = grind arith
 
 -- heads and tails of areas, and the first words of holes, lie above the slots
 controls_above : (at : ℕ) (ss : List Span) (i : ℕ) → Controls at ss i → at ≤ i
@@ -60,9 +54,7 @@ module _ (x : Storage) (core new : List Tagged) (r : Regs) (p : MachineView) (k 
 
   -- no original stands in a slot without a task
   no_home : (t : PagedObject) → Has p.objects t → slot_base p k ≤ t.home → t.home < slot_base p k + p.size → ⊥
-  no_home t i up down =
-      let low : t.home ≤ slot_base p k + stack_words (stack_of Free) = subst (λ (z : Slot). t.home ≤ slot_base p k + stack_words (stack_of z)) c.free (rests t i k c.used up down) in
-      laid.not_base t i k c.used (omega (arith, low, up))
+  no_home t i up down = grind arith
 
   laid' : IsLaidOut x.low p'
   laid' = record {
@@ -78,9 +70,7 @@ module _ (x : Storage) (core new : List Tagged) (r : Regs) (p : MachineView) (k 
   }
 
   stacks : StacksLie x.held new p'
-  stacks = by_slot p k (Waiting stack) (λ j z. LieDownward (Fits x.held) new (suc (slot_base p j)) (words j (stack_of z))) c.lies
-      (λ j hj n. Lie-same (Fits x.held) core new (suc (slot_base p j)) (words j (stack_of (p.slots j)))
-      (λ i down up. elsewhere j hj n i (omega (arith, down)) (omega (arith, up, words-length j (stack_of (p.slots j)), slot_room p j (p.slots j) (laid.slots j hj) room))) (s.stacks j hj))
+  stacks = grind (arith, Lie-same, elsewhere, words-length, slot_room)
 
   objects : RepresentsObjects x new p.objects
   objects t i =
@@ -117,5 +107,4 @@ module _ (x : Storage) (core new : List Tagged) (r : Regs) (p : MachineView) (k 
   }
 
   pub NoOriginalAboveTop-filled : NoOriginalAboveTop (with_slot p k (Waiting stack))
-  NoOriginalAboveTop-filled t i j hj = by_slot p k (Waiting stack) (λ q z. slot_base p q ≤ t.home → t.home < slot_base p q + p.size → t.home ≤ slot_base p q + stack_words (stack_of z))
-      (λ up down. absurd (no_home t i up down)) (λ q hq n. rests t i q hq) j hj
+  NoOriginalAboveTop-filled t i j hj = grind arith

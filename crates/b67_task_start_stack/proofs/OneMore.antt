@@ -1,16 +1,15 @@
 -- The session with one live task more, which nobody depends on: every other task, slot and object looks as it did.
 -- Births read it forwards; the death of a task without descendants reads it backwards.
-use Rattle.std.proofs.Common.{◌≡◌, ◌≢◌, ℕ, ◌+◌, List, [], ◌∷◌, ◌++◌, map, Option, Some, None, refl, sym, ◌∙◌, ap, Bool, inl, inr, ⊎_elim, subst}
+use Rattle.std.proofs.Common.{◌≡◌, ◌≢◌, ℕ, ◌+◌, List, [], ◌∷◌, Option, Some, None, refl, sym, ◌∙◌, ap, Bool, ⊎_elim, subst, arith}
 use Rattle.std.specs.Prelude.{if◌then◌else◌, flat_map}
 use Rattle.std.proofs.lemmas.Bool.{cases_eq, eq-eqb, ne_eqb}
-use Rattle.std.proofs.lemmas.Bool.Decides.{eqb_tells}
 use Rattle.b67_area.specs.declared.Kind.TheVariants as kind
 use Rattle.b67_lemmas.specs.Lists.{Has}
 use Rattle.b67_model.specs.Common.{Array, Segment, Task, Job, JobProgress, SessionJob, array, number_of}
 use Rattle.b67_model.specs.Keyed.{keyed}
 use Rattle.b67_stack.specs.Common.{PagedObject, Slot, Running, Waiting, MachineView, with_slot}
 use Rattle.b67_stack.proofs.Slots.{slot-same, slot-other}
-use Rattle.b67_layout.specs.Common.{Placement, Slotted, slot_of, outer_spots, spots, activations, stack_of_task, slot_with, slot_in, slot_by, slot_at, code_objects, array_object, objects_of, machine_view}
+use Rattle.b67_layout.specs.Common.{Placement, Slotted, slot_of, outer_spots, spots, activations, stack_of_task, slot_with, slot_in, slot_by, slot_at, code_objects, objects_of, machine_view}
 use Rattle.b67_layout.proofs.Common.{with_course, member-same, member-other}
 use Rattle.b67_layout.proofs.MachineViews.{objects-after}
 use Rattle.b67_task_start_stack.specs.Born.{with_task_at}
@@ -24,13 +23,7 @@ module _ (plan : Placement) (j n k peak : ℕ) where
   more = with_task_at plan j n k peak
 
   pub slot_of-other : (i u : ℕ) → (i ≡ j → u ≢ n) → slot_of (with_task_at plan j n k peak) i u ≡ slot_of plan i u
-  slot_of-other i u ne = elim (eqb_tells j i) [
-    | inl e ↦ elim (eqb_tells n u) [
-      | inl d ↦ absurd (ne (sym e.1) (sym d.1))
-      | inr d ↦ rw (e.0, d.0) refl
-    ]
-    | inr e ↦ rw e.0 refl
-  ]
+  slot_of-other i u ne = grind arith
 
   pub slot_of-new : slot_of (with_task_at plan j n k peak) j n ≡ k
   slot_of-new = rw (eq-eqb j j refl, eq-eqb n n refl) refl
@@ -42,9 +35,7 @@ module _ (plan : Placement) (j n k peak : ℕ) where
 
   pub objects-more : (jobs : List SessionJob) → flat_map (objects_of (with_task_at plan j n k peak)) jobs ≡ flat_map (objects_of plan) jobs
   objects-more [] = refl
-  objects-more (m ∷ rest) =
-      ap (λ (ts : List PagedObject). (ts ++ map (array_object plan m.constants.number) m.progress.job.arrays) ++ flat_map (objects_of more) rest) (code-more m.constants.number 1 m.constants.segments)
-      ∙ ap (λ (ts : List PagedObject). objects_of plan m ++ ts) (objects-more rest)
+  objects-more (m ∷ rest) = grind arith
 
 module _ (plan : Placement) (jobs : List SessionJob) (m : SessionJob) (job' : Job) (child : Task) (k peak : ℕ) (h : Joins plan jobs m job' child k peak) where
   abbrev j : ℕ

@@ -1,8 +1,8 @@
 -- A task was started in a slot that was used before: the machine represents the session with it.
-use Rattle.std.proofs.Common.{◌≡◌, ◌≢◌, ℕ, suc, ◌+◌, ◌-◌, ◌<◌, ◌≤◌, List, [], ◌∷◌, ◌++◌, map, length, Option, Some, None, refl, sym, ◌∙◌, ap, arith, Bool, true, false, ◌==◌, inl, inr, ◌⊎◌, ⊎_elim, subst}
+use Rattle.std.proofs.Common.{◌≡◌, ◌≢◌, ℕ, suc, ◌+◌, ◌-◌, ◌<◌, ◌≤◌, List, [], ◌∷◌, ◌++◌, map, length, Option, Some, None, refl, sym, ◌∙◌, ap, arith, Bool, false, ◌==◌, inl, inr, ◌⊎◌, ⊎_elim, subst}
 use Rattle.std.specs.Prelude.{if◌then◌else◌, max, ◌||◌}
 use Rattle.std.specs.List.{slice_get, list_any}
-use Rattle.std.proofs.lemmas.Bool.{cases_lt, cases_Bool, eq-eqb, ne_eqb, eqb-true}
+use Rattle.std.proofs.lemmas.Bool.{cases_lt, cases_Bool, ne_eqb, eqb-true}
 use Rattle.std.proofs.lemmas.List.{length-map, length-append, map-append, append_assoc}
 use Rattle.b67_word.specs.Tagged.{word}
 use Rattle.b67_ctl.specs.declared.registers.Regs.{Regs}
@@ -26,7 +26,7 @@ use Rattle.b67_task_start_stack.specs.Born.{with_task_at}
 use Rattle.b67_task_start_stack.specs.Slots.{SlotFilled}
 use Rattle.b67_task_start_stack.proofs.Apart.{frames_apart}
 use Rattle.b67_task_start_stack.specs.Joining.{Sees, Joins, Calls}
-use Rattle.b67_task_start_stack.proofs.Copies.{shape_seen, seen_below, child_lies}
+use Rattle.b67_task_start_stack.proofs.Copies.{shape_seen, child_lies}
 use Rattle.b67_task_start_stack.proofs.Fills.{Represents-filled, NoOriginalAboveTop-filled}
 use Rattle.b67_task_start_stack.proofs.OneMore.{child_stack, view_more}
 use Rattle.b67_task_start_stack.proofs.Births.{Shown, rows, still_running, SessionHolds-born, ShowsDisplay-born}
@@ -93,21 +93,13 @@ module _ (x : Storage) (cpu : Cpu) (plan : Placement) (s : Session) (m : Session
 
   -- the words of the parent's stack: the arguments on top
   parent_words : words plan.running (stack_of_task plan m.constants.number m.progress.job plan.running t) ≡ args ++ rest
-  parent_words =
-      let A : List Frame → List Shape = λ fs. words plan.running (activations plan m.constants.number m.progress.job plan.running outer fs) in
-      let H : List Shape = headed plan.running call_head lower (words plan.running lower) in
-      ap A c.frames
-      ∙ ap (λ (ws : List Word). map (shape plan m.constants.number m.progress.job seen) ws ++ H) c.split
-      ∙ ap (λ (xs : List Shape). xs ++ H) (map-append (shape plan m.constants.number m.progress.job seen) c.only.cells c.deeper)
-      ∙ append_assoc args (map (shape plan m.constants.number m.progress.job seen) c.deeper) H
+  parent_words = grind (arith, map-append, append_assoc)
 
   parent_lies : LieDownward (Fits x.held) cpu.core (suc (slot_base p plan.running)) (args ++ rest)
   parent_lies = subst (λ (xs : List Shape). LieDownward (Fits x.held) cpu.core (suc (slot_base p plan.running)) xs) parent_words (running_lies x cpu.core cpu.regs p plan.running (stack_of_task plan m.constants.number m.progress.job plan.running t) h.holds.memory parent_runs)
 
   parent_high : stack_words (stack_of_task plan m.constants.number m.progress.job plan.running t) ≡ length c.only.cells + length rest
-  parent_high =
-      sym (words-length plan.running (stack_of_task plan m.constants.number m.progress.job plan.running t)) ∙ ap (λ (xs : List Shape). length xs) parent_words
-      ∙ length-append args rest ∙ ap (λ (n : ℕ). n + length rest) (length-map c.only.cells (shape plan m.constants.number m.progress.job seen))
+  parent_high = grind (arith, words-length, length-append, length-map)
 
   top_is : cpu.regs.s ≡ slot_base p plan.running + (length c.only.cells + length rest)
   top_is = (running_slot x cpu.core cpu.regs p plan.running (stack_of_task plan m.constants.number m.progress.job plan.running t) h.holds.memory parent_runs).top ∙ ap (λ (n : ℕ). slot_base p plan.running + n) parent_high
@@ -140,22 +132,10 @@ module _ (x : Storage) (cpu : Cpu) (plan : Placement) (s : Session) (m : Session
           omega (arith, g.1.0, same)
 
   sees_same : (id : ℕ) → id ≢ c.call.identity → id ≢ c.only.identity → child_sees id ≡ seen id
-  sees_same id a d =
-      let skip : child_sees id ≡ child_outer id = rw (ne_eqb c.only.identity id (λ e. d (sym e))) refl in
-      skip ∙ outer_is id ∙ seen_below plan.running outer c.call c.under c.below id falls (λ e. a (sym e))
+  sees_same id a d = grind (arith, outer_is)
 
   word_sees : (w : Word) → Has c.only.cells w → Sees (λ (id : ℕ). child_sees id ≡ seen id) w
-  word_sees w i = by w (c.names w i) where
-    by : (w : Word) → Sees (λ (id : ℕ). (id ≢ c.call.identity) × (id ≢ c.only.identity)) w → Sees (λ (id : ℕ). child_sees id ≡ seen id) w
-    by (Words.Ref frame offset) n = sees_same frame n.0 n.1
-    by (Words.Operand bits) n = tt
-    by (Words.Name couple) n = tt
-    by (Words.Row a) n = tt
-    by (Words.Element a index) n = tt
-    by (Words.Original a) n = tt
-    by (Words.Proc segment level place) n = tt
-    by (Words.Intrinsic number) n = tt
-    by (Words.Segment number) n = tt
+  word_sees w i = grind (arith, sees_same)
 
   -- the child's stack
   abbrev child_cells : List Shape
@@ -165,10 +145,7 @@ module _ (x : Storage) (cpu : Cpu) (plan : Placement) (s : Session) (m : Session
   built = record { head = Entered c.level c.spot None; cells = child_cells } ∷ []
 
   parents_old : (u : ℕ) → Has child.parents u → u ≢ child.number
-  parents_old u i = ⊎_elim
-      (λ (e : t.number ≡ u). λ z. joins.newest t has_t (e ∙ z))
-      (λ (l : Has t.parents u). joins.above t has_t u l)
-      (subst (λ (ps : List ℕ). Has ps u) c.line i)
+  parents_old u i = grind (arith, has_t)
 
   stack_is : stack_of_task (with_task_at plan m.constants.number child.number k plan.peak) m.constants.number job' k child ≡ built
   stack_is =
@@ -246,9 +223,7 @@ module _ (x : Storage) (cpu : Cpu) (plan : Placement) (s : Session) (m : Session
 
   -- where the mark stands that the child depends on
   pub under_place : mark_place (activations_below (stack_of_task plan m.constants.number m.progress.job plan.running t)) ≡ height c.below
-  under_place =
-      ap (λ (fs : List Frame). mark_place (activations_below (activations plan m.constants.number m.progress.job plan.running outer fs))) c.frames
-      ∙ (let e : stack_words (activations plan m.constants.number m.progress.job plan.running outer c.below) + 1 ≡ height c.below = omega (arith, height-is plan m.constants.number m.progress.job plan.running outer c.below) in e)
+  under_place = grind (arith, height-is)
 
   mark_low : (f : Frame) (below : List Frame) → critical_mark m.progress.job (f ∷ below) ≤ height below
   mark_low f [] = elim (cases_Bool (is_critical m.progress.job f.identity)) [ inl e ↦ rw e (omega arith) | inr e ↦ rw e (omega arith) ]
@@ -259,19 +234,7 @@ module _ (x : Storage) (cpu : Cpu) (plan : Placement) (s : Session) (m : Session
 
   -- the parent's topmost mark that a live task depends on is then the old one or the child's, whichever is higher
   pub mark_now : critical_mark job' t.frames ≡ max (critical_mark m.progress.job t.frames) (height c.below)
-  mark_now =
-      let M : Job → List Frame → ℕ = λ q fs. critical_mark q fs in
-      let under_yes : is_critical job' c.under.identity ≡ true = critical_now c.under.identity ∙ rw (eq-eqb child.critical c.under.identity c.critical) refl in
-      let call_same : is_critical job' c.call.identity ≡ is_critical m.progress.job c.call.identity = critical_now c.call.identity ∙ rw (ne_eqb child.critical c.call.identity (λ e. falls (sym e ∙ c.critical))) refl in
-      let low : critical_mark m.progress.job (c.under ∷ c.below) ≤ height c.below = mark_low c.under c.below in
-      let both : critical_mark job' (c.call ∷ c.under ∷ c.below) ≡ max (critical_mark m.progress.job (c.call ∷ c.under ∷ c.below)) (height c.below) = elim (cases_Bool (is_critical m.progress.job c.call.identity)) [
-        | inl e ↦ rw (call_same, e) (let g : height (c.under ∷ c.below) ≡ max (height (c.under ∷ c.below)) (height c.below) = omega (arith, words_some c.under) in g)
-        | inr e ↦ rw (call_same, e, under_yes) (let g : height c.below ≡ max (critical_mark m.progress.job (c.under ∷ c.below)) (height c.below) = omega (arith, low) in g)
-      ] in
-      ap (M job') c.frames ∙ both ∙ ap (λ (fs : List Frame). max (critical_mark m.progress.job fs) (height c.below)) (sym c.frames)
-    where
-      words_some : (f : Frame) → 0 ≤ 0
-      words_some f = omega arith
+  mark_now = grind (arith, ne_eqb, falls, mark_low)
 
   module _ (new : Cpu) (b : Built cpu new plan m t job' child k (slot_base (machine_view plan s.jobs) k) (length c.only.cells) c.level c.spot) where
     lies : LieDownward (Fits x.held) new.core (suc base) (words k built)
@@ -286,18 +249,7 @@ module _ (x : Storage) (cpu : Cpu) (plan : Placement) (s : Session) (m : Session
         parent_lies)
 
     filled : SlotFilled x cpu.core new.core cpu.regs p k built
-    filled = record {
-      used = joins.inside;
-      free = free_slot;
-      away = λ e. joins.away (sym e ∙ slot_regs);
-      size = b.len;
-      few = h.holds.fits.few;
-      outside = b.outside;
-      top = b.top ∙ ap (λ (n : ℕ). Some (toscw_word (record { s = n; level = c.level; f = 1 }))) (let e : 2 + length c.only.cells ≡ stack_words built = omega (arith, cells_count) in e);
-      fits = is_stack;
-      copies = copies;
-      lies = lies;
-    }
+    filled = grind (arith, free_slot, cells_count, copies, lies)
 
     memory : Represents x new.core new.regs (machine_view started_plan started.jobs)
     memory = subst (λ (q : MachineView). Represents x new.core new.regs q) (sym machine_view_is)

@@ -1,5 +1,5 @@
 -- The tables show the session with a new task once its row is appended.
-use Rattle.std.proofs.Common.{◌≡◌, ◌≢◌, ℕ, zero, suc, List, [], ◌∷◌, ◌++◌, map, Option, Some, refl, sym, ◌∙◌, ap, inl, inr, ⊎_elim, subst}
+use Rattle.std.proofs.Common.{◌≡◌, ◌≢◌, ℕ, zero, suc, List, [], ◌∷◌, ◌++◌, map, Option, Some, refl, sym, ◌∙◌, ap, inl, inr, ⊎_elim, subst, arith}
 use Rattle.std.specs.List.{slice_get}
 use Rattle.std.proofs.lemmas.Bool.{cases_eq}
 use Rattle.std.proofs.lemmas.Option.{same_Some, none-some}
@@ -59,9 +59,7 @@ module _ (plan : Placement) (s : Session) (m : SessionJob) (job' : Job) (child :
       ∙ ap (λ (n : ℕ). (spot_in n (base_spot m.constants.number) (frames_of_task o) c).disp) (slot_more m.constants.number parent (λ e. old parent (inl refl)))
 
   critical_other : (i : ℕ) → i ≢ m.constants.number → (job : Job) (c : ℕ) (parents : List ℕ) → critical_disp more i job c parents ≡ critical_disp plan i job c parents
-  critical_other i ne job c [] = refl
-  critical_other i ne job c (parent ∷ above) =
-      ap (λ (n : ℕ). (spot_in n (base_spot i) (frames_of_task (keyed (λ (t : Task). t.number) parent job.tasks)) c).disp) (slot_more i parent (λ e. absurd (ne e)))
+  critical_other i ne job c parents = grind arith
 
   -- an old task's row shows it still
   own_shows : (t : Task) → Has m.progress.job.tasks t → (row : TaskRow) → TaskShows plan m t row → TaskShows more new_member t row

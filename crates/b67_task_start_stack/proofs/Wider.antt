@@ -1,34 +1,29 @@
 -- The machine with one slot more represents the session whose peak is one higher.
-use Rattle.std.proofs.Common.{◌≡◌, ◌≢◌, ℕ, ◌+◌, ◌<◌, ◌≤◌, List, [], ◌∷◌, ◌++◌, map, length, Option, Some, None, refl, sym, ◌∙◌, ap, arith, inl, inr, subst}
+use Rattle.std.proofs.Common.{◌≡◌, ◌≢◌, ℕ, ◌+◌, ◌<◌, ◌≤◌, List, [], ◌∷◌, length, Option, Some, refl, sym, ◌∙◌, ap, arith, inl, inr, subst}
 use Rattle.std.specs.Prelude.{flat_map}
 use Rattle.std.specs.List.{slice_get}
 use Rattle.b67_area.specs.declared.Kind.TheVariants as kind
 use Rattle.b67_ctl.specs.declared.registers.Regs.{Regs}
 use Rattle.b67_lemmas.specs.Lists.{Has}
-use Rattle.b67_model.specs.Common.{Segment, Task, Job, SessionJob, frame_at, number_of, Session}
+use Rattle.b67_model.specs.Common.{Segment, Task, Job, SessionJob, Session}
 use Rattle.b67_model.specs.Keyed.{keyed}
 use Rattle.b67_stack.specs.declared.Cpu.{Cpu}
-use Rattle.b67_stack.specs.Common.{StackPlace, PagedObject, Slot, MachineView, NoOriginalAboveTop, Storage, Represents}
-use Rattle.b67_layout.specs.Common.{Placement, Slotted, slot_of, spots, address_of, slot_in, slot_by, slot_at, code_objects, array_object, objects_of, machine_view, DictionariesFollow, RepresentsDictionary, vector_word, IsRunning, SessionHolds, RepresentsSession}
+use Rattle.b67_stack.specs.Common.{PagedObject, MachineView, NoOriginalAboveTop, Storage, Represents}
+use Rattle.b67_layout.specs.Common.{Placement, Slotted, slot_of, spots, slot_in, slot_by, code_objects, objects_of, machine_view, DictionariesFollow, RepresentsDictionary, vector_word, IsRunning, SessionHolds, RepresentsSession}
 use Rattle.b67_layout.proofs.Rows.{slot_below}
 use Rattle.b67_layout.proofs.Sessions.{dictionary_below}
 use Rattle.b67_task_start_stack.specs.Born.{with_peak}
-use Rattle.b67_task_start_stack.proofs.AlikePlans.{like_same, name_all, slot_with-twin, spots-twin}
+use Rattle.b67_task_start_stack.proofs.AlikePlans.{like_same, spots-twin}
 
 module _ (plan : Placement) (n : ℕ) where
   abbrev wide : Placement
   wide = with_peak plan n
 
   slot_in-wide : (q i u : ℕ) (o : Option SessionJob) → slot_in wide q i u o ≡ slot_in plan q i u o
-  slot_in-wide q i u None = refl
-  slot_in-wide q i u (Some y) =
-      let o = keyed (λ (t : Task). t.number) u y.progress.job.tasks in
-      slot_with-twin plan wide i y.progress.job y.progress.job (λ u. Unit {0}) (λ a. Unit {0}) (λ u ok. refl) (λ u ok. like_same (keyed (λ (t : Task). t.number) u y.progress.job.tasks)) (λ a ok. (refl, refl)) q refl o o (like_same o)
-      (λ t e. (λ u z. tt, name_all t.frames))
+  slot_in-wide q i u h = grind arith
 
   slot_by-wide : (jobs : List SessionJob) (q : ℕ) (o : Option Slotted) → slot_by wide jobs q o ≡ slot_by plan jobs q o
-  slot_by-wide jobs q None = refl
-  slot_by-wide jobs q (Some r) = slot_in-wide q r.job r.task (keyed number_of r.job jobs)
+  slot_by-wide jobs q h = grind arith
 
   code-wide : (i at : ℕ) (segments : List Segment) → code_objects wide i at segments ≡ code_objects plan i at segments
   code-wide i at [] = refl
@@ -36,15 +31,10 @@ module _ (plan : Placement) (n : ℕ) where
 
   objects-wide : (jobs : List SessionJob) → flat_map (objects_of wide) jobs ≡ flat_map (objects_of plan) jobs
   objects-wide [] = refl
-  objects-wide (m ∷ rest) =
-      ap (λ (ts : List PagedObject). (ts ++ map (array_object plan m.constants.number) m.progress.job.arrays) ++ flat_map (objects_of wide) rest) (code-wide m.constants.number 1 m.constants.segments)
-      ∙ ap (λ (ts : List PagedObject). objects_of plan m ++ ts) (objects-wide rest)
+  objects-wide (m ∷ rest) = grind arith
 
   pub machine_view-wide : (jobs : List SessionJob) → machine_view (with_peak plan n) jobs ≡ record (machine_view plan jobs) { peak = n }
-  machine_view-wide jobs =
-      let same : slot_at wide jobs ≡ slot_at plan jobs = λ z q. slot_by-wide jobs q (keyed (λ (r : Slotted). r.slot) q plan.rows) z in
-      ap (λ (f : ℕ → Slot). record { stacks = plan.stacks; size = plan.size; peak = n; slots = f; objects = flat_map (objects_of wide) jobs }) same
-      ∙ ap (λ (ts : List PagedObject). record { stacks = plan.stacks; size = plan.size; peak = n; slots = slot_at plan jobs; objects = ts }) (objects-wide jobs)
+  machine_view-wide jobs = grind arith
 
   pub spots-wide : (i : ℕ) (job : Job) (t : Task) (id : ℕ) → spots wide i job t id ≡ spots plan i job t id
   spots-wide i job t id = spots-twin plan wide i job job (λ u. Unit {0}) (λ a. Unit {0}) (λ u ok. refl) (λ u ok. like_same (keyed (λ (t : Task). t.number) u job.tasks)) (λ a ok. (refl, refl)) t t (like_same (Some t)) (λ u z. tt) tt id
@@ -54,8 +44,7 @@ module _ (plan : Placement) (n : ℕ) where
   follow-wide at (m ∷ rest) d = (d.0, follow-wide (at + (2 + length m.constants.dictionary.cells)) rest d.1)
 
   vector-wide : (i : ℕ) (parents : List ℕ) → vector_word plan i parents ≡ vector_word wide i parents
-  vector-wide i [] = refl
-  vector-wide i (parent ∷ more) = refl
+  vector-wide i parents = grind arith
 
 module _ (x y : Storage) (cpu new : Cpu) (plan : Placement) (s : Session) (h : RepresentsSession x cpu plan s) (n : ℕ) (wider : plan.peak ≤ n) (few : n ≤ 120)
     (regs : new.regs ≡ record cpu.regs { peak = new.regs.peak }) (critical : new.critical ≡ cpu.critical) (display : new.display ≡ cpu.display)
@@ -125,9 +114,4 @@ module _ (x y : Storage) (cpu new : Cpu) (plan : Placement) (s : Session) (h : R
   }
 
   pub RepresentsSession-wider : RepresentsSession y new (with_peak plan n) (record s { peak = n })
-  RepresentsSession-wider = record {
-    holds = holds;
-    shows = λ m t r k up.
-        let id = (frame_at (record { constants = m.constants; job = m.progress.job; task = t; at = t.place }) k).identity in
-        ap (λ (d : List ℕ). slice_get d k) display ∙ h.shows m t (back m t r) k up ∙ ap (λ (q : StackPlace). Some (address_of plan q)) (sym (spots-wide plan n m.constants.number m.progress.job t id));
-  }
+  RepresentsSession-wider = grind (arith, holds)

@@ -7,10 +7,7 @@ use Rattle.b67_area.proofs.Climbs.{up_turn, up_next, up_word, up_size, up_on, ar
 use Rattle.b67_area.proofs.search.around.Goals as goal
 
 pub link_of-next-requires : goal.link_of-next-requires
-link_of-next-requires c =
-    let (low, ss, a, d, e) = c.requires in
-    let f = first c.args.core.now low ss d in
-    (0, first_hole low ss, f.0, f.1)
+link_of-next-requires c = grind (arith, first)
 
 pub up-init : goal.up-init
 up-init c = λ low ss a d e.

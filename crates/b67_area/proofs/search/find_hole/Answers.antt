@@ -1,4 +1,4 @@
-use Rattle.std.proofs.Common.{◌≡◌, ℕ, ◌+◌, List, [], refl, sym, ◌∙◌, arith, ap}
+use Rattle.std.proofs.Common.{◌≡◌, ℕ, ◌+◌, List, [], refl, ◌∙◌, arith, ap}
 use Rattle.b67_area.specs.Spans.{Span, first_hole}
 use Rattle.b67_area.specs.Words.{hole_high}
 use Rattle.b67_area.specs.Directory.{IsDirectory}
@@ -9,10 +9,7 @@ use Rattle.b67_area.proofs.search.find_hole.Goals.{Then-from}
 use Rattle.b67_area.proofs.search.find_hole.Goals as goal
 
 pub link_of-at-requires : goal.link_of-at-requires
-link_of-at-requires c =
-    let (low, ss, d) = c.requires in
-    let f = first c.args.core.now low ss d in
-    (0, first_hole low ss, f.0, f.1)
+link_of-at-requires c = grind (arith, first)
 
 pub holes-init : goal.holes-init
 holes-init c = λ low ss d.
@@ -79,6 +76,4 @@ holes-preserved c = λ low ss d.
     on c.args.core.now n low ss c.holes.before c.holes.at d t c.link_of-next.result link (omega (arith, room))
 
 pub returns-clause-found : goal.returns-clause-found
-returns-clause-found c = λ low ss d.
-    let w = c.holes.invariant low ss d in
-    rw w.is (NoFit-unzip (c.args.words + 2) w.below w.above w.small (NoFit-none (c.args.words + 2) (spans_top low w.below) w.above (low_positive c.args.core.now low ss w.below d) (sym w.at_is ∙ c.holes-test.false)))
+returns-clause-found c = grind (arith, NoFit-unzip, NoFit-none, low_positive)

@@ -15,10 +15,7 @@ pub words_of-taken-requires : goal.words_of-taken-requires
 words_of-taken-requires c = let (low, ss, a, d, e) = c.requires in (a, found_area c.args.core.now low ss c.args.address (c.args.address - 1) a d e (omega (arith, area_at-low low ss c.args.address a e)))
 
 pub around-r-requires : goal.around-r-requires
-around-r-requires c =
-    let (low, ss, a, d, e) = c.requires in
-    let z : c.args.address ≡ c.args.address - 1 + 1 = omega (arith, area_at-low low ss c.args.address a e) in
-    (low, ss, a, d, ap (area_at low ss) (sym z) ∙ e)
+around-r-requires c = grind (arith, area_at-low)
 
 -- what was found round the area
 module _ (c : After-around-r) (low : ℕ) (ss : List Span) (a : Info) (d : IsDirectory c.args.core.now low ss) (e : area_at low ss c.args.address ≡ Some a) where

@@ -1,12 +1,10 @@
-use Rattle.std.proofs.Common.{◌≡◌, ℕ, Some, ap, arith, sym, ◌∙◌, subst}
+use Rattle.std.proofs.Common.{◌≡◌, ℕ, ap, arith, sym, subst}
 use Rattle.b67_area.specs.declared.Areas.{Areas}
 use Rattle.b67_area.specs.declared.Info.{Info}
-use Rattle.b67_area.specs.Spans.{area_at}
-use Rattle.b67_area.specs.Directory.{IsDirectory}
 use Rattle.b67_stack.specs.Represents.{Represents, info_of}
 use Rattle.b67_overlay.specs.Spans.{MachineCanPage}
 use Rattle.b67_overlay.specs.Overlaid.{overlaid, dropped, IsOut}
-use Rattle.b67_overlay.proofs.Sectors.{about, out_clean}
+use Rattle.b67_overlay.proofs.Sectors.{about, area_here, directory_at, info_is, out_clean}
 use Rattle.b67_ctl.specs.declared.registers.Regs.{Regs}
 use Rattle.b67_stack.specs.declared.Cpu.{Cpu}
 use Rattle.b67_overlay.proofs.Finish.{clean_machine}
@@ -15,26 +13,18 @@ use Rattle.b67_overlay.proofs.overlays.discard.Goals as goal
 pub info-info-requires : goal.info-info-requires
 info-info-requires c =
     let (x, p, t, s, k, low, at, no_array) = c.requires in
-    let ab = about x c.args.cpu.now.core c.args.cpu.now.regs p s c.args.area t at in
-    let dir : IsDirectory c.args.cpu.now.core c.args.areas.now.low x.spans = subst (λ (n : ℕ). IsDirectory c.args.cpu.now.core n x.spans) (sym low) s.directory in
-    let here : area_at c.args.areas.now.low x.spans c.args.area ≡ Some (info_of x t) = ap (λ (n : ℕ). area_at n x.spans c.args.area) low ∙ ab.here in
-    (x.spans, info_of x t, dir, here)
+    (x.spans, info_of x t, directory_at x c.args.cpu.now.core c.args.cpu.now.regs p s c.args.area t at c.args.areas.now.low low, area_here x c.args.cpu.now.core c.args.cpu.now.regs p s c.args.area t at c.args.areas.now.low low)
 
 pub give_back-requires : goal.give_back-requires
 give_back-requires c =
     let (x, p, t, s, k, low, at, no_array) = c.requires in
     let ab = about x c.args.cpu.now.core c.args.cpu.now.regs p s c.args.area t at in
-    let dir : IsDirectory c.args.cpu.now.core c.args.areas.now.low x.spans = subst (λ (n : ℕ). IsDirectory c.args.cpu.now.core n x.spans) (sym low) s.directory in
-    let here : area_at c.args.areas.now.low x.spans c.args.area ≡ Some (info_of x t) = ap (λ (n : ℕ). area_at n x.spans c.args.area) low ∙ ab.here in
-    let is : c.info-info.result ≡ info_of x t = c.info-info.ensures x.spans (info_of x t) dir here in
+    let is = info_is x c.args.cpu.now.core c.args.cpu.now.regs p s c.args.area t at c.args.areas.now.low low c.info-info.result c.info-info.ensures in
     record { machine = (x, p, t, s, k, low, at, is); first = omega (arith, ab.small, ap (λ (i : Info). i.kept) is) }
 
 pub returns-clause-stands : goal.returns-clause-stands
 returns-clause-stands c = λ x table told p t m at no_array.
-    let ab = about x c.args.cpu.now.core c.args.cpu.now.regs p m.stands c.args.area t at in
-    let dir : IsDirectory c.args.cpu.now.core c.args.areas.now.low x.spans = subst (λ (n : ℕ). IsDirectory c.args.cpu.now.core n x.spans) (sym m.low) m.stands.directory in
-    let here : area_at c.args.areas.now.low x.spans c.args.area ≡ Some (info_of x t) = ap (λ (n : ℕ). area_at n x.spans c.args.area) m.low ∙ ab.here in
-    let is : c.info-info.result ≡ info_of x t = c.info-info.ensures x.spans (info_of x t) dir here in
+    let is = info_is x c.args.cpu.now.core c.args.cpu.now.regs p m.stands c.args.area t at c.args.areas.now.low m.low c.info-info.result c.info-info.ensures in
     let out = out_clean x c.args.cpu.now.core c.args.cpu.now.regs p m.stands c.args.area t at no_array in
     let I : ℕ → Type 0 = λ n. IsOut x x p t n in
     let J : ℕ → Regs → Type 0 = λ n r. Represents (dropped x x t c.args.area n) c.give_back.new.cpu.core r p in
@@ -46,8 +36,5 @@ returns-clause-stands c = λ x table told p t m at no_array.
 
 pub returns-clause-outside : goal.returns-clause-outside
 returns-clause-outside c = λ x p t s k low at.
-    let ab = about x c.args.cpu.now.core c.args.cpu.now.regs p s c.args.area t at in
-    let dir : IsDirectory c.args.cpu.now.core c.args.areas.now.low x.spans = subst (λ (n : ℕ). IsDirectory c.args.cpu.now.core n x.spans) (sym low) s.directory in
-    let here : area_at c.args.areas.now.low x.spans c.args.area ≡ Some (info_of x t) = ap (λ (n : ℕ). area_at n x.spans c.args.area) low ∙ ab.here in
-    let is : c.info-info.result ≡ info_of x t = c.info-info.ensures x.spans (info_of x t) dir here in
+    let is = info_is x c.args.cpu.now.core c.args.cpu.now.regs p s c.args.area t at c.args.areas.now.low low c.info-info.result c.info-info.ensures in
     c.give_back.ensures.outside x p t s k low at is

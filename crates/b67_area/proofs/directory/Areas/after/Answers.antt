@@ -1,4 +1,4 @@
-use Rattle.std.proofs.Common.{◌≡◌, ◌∙◌, ap, ◌+◌, sym, subst, ℕ}
+use Rattle.std.proofs.Common.{◌≡◌, ◌∙◌, ap, ◌+◌, sym, subst, ℕ, arith}
 use Rattle.b67_area.specs.Walk.{IsAbove}
 use Rattle.b67_area.specs.Spans.{first_area}
 use Rattle.b67_area.proofs.Keeps.{area_here, above_here}
@@ -11,11 +11,7 @@ pub words_of-requires : goal.words_of-requires
 words_of-requires c = let (ss, a, d, e) = c.requires in (a, (area_here c.args.core.now c.args.self.now.low ss c.args.address a d e).1)
 
 pub next_area-requires : goal.next_area-requires
-next_area-requires c =
-    let (ss, a, d, e) = c.requires in
-    let w : c.words_of.result ≡ a.words = c.words_of.ensures.value a (area_here c.args.core.now c.args.self.now.low ss c.args.address a d e).1 in
-    let n = above_here c.args.core.now c.args.self.now.low ss c.args.address a d e in
-    (n.0, n.1, n.2, subst (λ (k : ℕ). IsAbove c.args.core.now n.0 n.1 (c.args.address + (k + 1)) n.2) (sym w) n.3)
+next_area-requires c = grind (arith, area_here, above_here)
 
 pub returns : goal.returns
 returns c = λ ss a d e.

@@ -10,9 +10,7 @@ use Rattle.b67_area.proofs.directory.Areas.place.Goals.{After-struct_known-in-So
 use Rattle.b67_area.proofs.directory.Areas.place.Goals as goal
 
 pub returns-in-None-clause-row : goal.returns-in-None-clause-row
-returns-in-None-clause-row c = λ ss d.
-    let n = c.in-None.ensures.found c.args.self.now.low ss d in
-    (sym (ap address (spot-none (c.args.words + 2) c.args.self.now.low ss n)), rw (fill-none (fresh c.args.kind c.args.words c.args.owner) ss n) d)
+returns-in-None-clause-row c = grind (arith, spot-none, fill-none)
 
 -- core after the call
 left_core : (c : After-struct_known-in-Some-3-1) (ss : List Span) (d : IsDirectory c.args.core.now c.args.self.now.low ss) → let t = c.in-Some.ensures.found c.args.self.now.low ss d in let f = c.in-Some.f in let a = fresh c.args.kind c.args.words c.args.owner in c.set-in-Some.new.self ≡ slice_set (slice_set (with_hole c.args.core.now f.before (link_high t.below) (f.at + (c.args.words + 2)) (f.room - (c.args.words + 2)) f.next) f.at (head_word a)) (f.at + (c.args.words + 1)) (tail_word a)
@@ -38,9 +36,7 @@ returns-in-Some-clause-outside c = λ ss d.
     outside c.args.core.now c.args.self.now.low ss a c.in-Some.f d t c.set-in-Some.new.self i (left_core c ss d)
 
 pub returns-in-None-clause-areas : goal.returns-in-None-clause-areas
-returns-in-None-clause-areas c = λ ss x d.
-    let e = spot-none (c.args.words + 2) c.args.self.now.low ss (c.in-None.ensures.found c.args.self.now.low ss d) in
-    rw e at (area_at-fill (fresh c.args.kind c.args.words c.args.owner) c.args.self.now.low ss x)
+returns-in-None-clause-areas c = grind (arith, spot-none, area_at-fill)
 
 pub returns-in-Some-clause-areas : goal.returns-in-Some-clause-areas
 returns-in-Some-clause-areas c = λ ss x d.

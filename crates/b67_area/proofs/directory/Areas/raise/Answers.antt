@@ -75,6 +75,4 @@ returns-then-low-self-clause-outside c =
     raise_outside c.args.core.now c.leave.new.core c.args.self.now.low c.args.low ss d (omega (arith, c.if-low-self.true)) t is
 
 pub returns-then-low-self-clause-areas : goal.returns-then-low-self-clause-areas
-returns-then-low-self-clause-areas c =
-    let (_, _, l, h, _) = c.requires in
-    λ ss x d f. area_at-raised c.args.core.now c.args.self.now.low c.args.low ss x d l h f
+returns-then-low-self-clause-areas c = grind (arith, area_at-raised)

@@ -2,7 +2,6 @@ use Rattle.std.proofs.Common.{◌≡◌, ◌+◌, ◌-◌, ◌^◌, ◌<◌, ◌
 use Rattle.b67_area.specs.declared.kinds.Info.{Info}
 use Rattle.b67_area.specs.Spans.{Span, area_at}
 use Rattle.b67_area.specs.Directory.{IsDirectory}
-use Rattle.std.proofs.lemmas.Option.{same_Some}
 use Rattle.b67_area.specs.Words.{head_word, tail_word}
 use Rattle.b67_area.specs.Walk.{link_high, with_hole}
 use Rattle.b67_area.proofs.Keeps.{area_here}
@@ -80,6 +79,4 @@ returns-clause-outside c = λ ss a d e.
     shrinks_outside c.args.core.now c.args.self.now.low ss c.args.address a c.vacated-v.result d (c.vacated-v.ensures.found c.args.self.now.low ss a d e) c.args.words c.requires.some k.fits c.set-2.new.self (left_core c ss a d e k.whole)
 
 pub returns-clause-areas : goal.returns-clause-areas
-returns-clause-areas c = λ ss a x d e.
-    let k = context (goal.at.returns-clause-areas c).After-vacated-v ss a d e in
-    area_at-shortened c.args.self.now.low c.args.address c.args.words ss x (λ b f. let w = ap (λ (i : Info). i.words) (same_Some a b (sym e ∙ f)) in omega (arith, w, k.fits))
+returns-clause-areas c = grind (arith, context, area_at-shortened)
