@@ -8,8 +8,7 @@ use Rattle.b67_mcp_calls.specs.Declaring.{job_declared, with_home}
 use Rattle.b67_mcp_calls.proofs.Tables.{tables-there}
 use Rattle.b67_task_tables.specs.declared.tables.Tasks.{Tasks}
 use Rattle.b67_task_tables.specs.Tables.{task_row, job_row, counts_of, TasksShow}
-use Rattle.b67_mcp.proofs.Tables.{jobs_kept, tables_after}
-use Rattle.b67_mcp.proofs.Frames.{replaces_answered, waits_answered}
+use Rattle.b67_mcp_calls.proofs.Passed.{jobs_kept, tables_after, replaces_answered, waits_answered}
 
 module _ (plan : Placement) (s : Session) (m : SessionJob) (t : Task) (o : IsInOrderButCounts s) (runs : IsRunning plan s.jobs m t) (may : MayCut m t) (q : Place) (length at : ℕ) where
   there : Placement

@@ -9,8 +9,7 @@ use Rattle.b67_mcp_calls.specs.Calls.{MayCut, job_cut}
 use Rattle.b67_task_tables.specs.declared.tables.Machine.{Machine}
 use Rattle.b67_task_tables.specs.declared.tables.Tasks.{Tasks}
 use Rattle.b67_task_tables.specs.Tables.{task_row, job_row, counts_of, TasksShow}
-use Rattle.b67_mcp.proofs.Tables.{jobs_kept, tables_after}
-use Rattle.b67_mcp.proofs.Frames.{replaces_cut, waits_cut}
+use Rattle.b67_mcp_calls.proofs.Passed.{jobs_kept, tables_after, replaces_cut, waits_cut}
 
 module _ (plan : Placement) (s : Session) (m : SessionJob) (t : Task) (o : IsInOrderButCounts s) (runs : IsRunning plan s.jobs m t) (may : MayCut m t) (q : Place) where
   pub tables_cut : (tasks : Tasks) → TasksShow plan s tasks → TasksShow plan (with_job s m (job_cut m t q)) tasks

@@ -5,7 +5,6 @@ pub mod Areas
 pub mod Callings
 pub mod Cut
 pub mod Cutting
-pub mod Frames
 pub mod Lengthened
 pub mod Low
 pub mod Numbers
@@ -14,13 +13,11 @@ pub mod Present
 pub mod Quiet
 pub mod Renumbered
 pub mod Resizes
-pub mod Rows
 pub mod SectorSums
 pub mod Sizes
 pub mod Space
 pub mod Starting
 pub mod Still
-pub mod Tables
 pub mod Texts
 pub mod Told
 pub mod Touched

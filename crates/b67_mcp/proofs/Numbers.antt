@@ -14,8 +14,7 @@ use Rattle.b67_task_tables.specs.declared.tables.JobRow.{JobRow}
 use Rattle.b67_task_tables.specs.declared.tables.Tasks.{Tasks}
 use Rattle.b67_task_tables.specs.Tables.{task_row, job_row, counts_of, TasksShow, job_given}
 use Rattle.b67_layout.proofs.LiveTasks.{job_at}
-use Rattle.b67_mcp.proofs.Tables.{jobs_put, tables_after}
-use Rattle.b67_mcp.proofs.Frames.{replaces_answered, waits_answered}
+use Rattle.b67_mcp_calls.proofs.Passed.{jobs_put, tables_after, replaces_answered, waits_answered}
 use Rattle.b67_law_order.proofs.Numbered.{numbered_low}
 
 -- the row of a job

@@ -7,7 +7,7 @@ use Rattle.b67_model.specs.Common.{Task, SessionJob, reading_of, Session}
 use Rattle.b67_stack.specs.Represents.{Storage}
 use Rattle.b67_layout.specs.Placement.{Placement}
 use Rattle.b67_exec_cells.specs.Running.{code_area}
-use Rattle.b67_mcp_call.specs.Calls.{MayCut}
+use Rattle.b67_mcp_calls.specs.Calls.{MayCut}
 pub use Rattle.b67_mcp_process.specs.Process.{CanNumber}
 use Rattle.b67_task_tables.specs.declared.tables.JobRow.{JobRow}
 use Rattle.b67_task_tables.specs.declared.tables.Machine.{Machine}

@@ -17,3 +17,4 @@ pub mod Arguments
 pub mod Words
 pub mod Founds
 pub mod Writables
+pub mod Passed

@@ -4,7 +4,7 @@ use Rattle.b67_word.specs.declared.couples.Place.{Place}
 use Rattle.b67_word.specs.declared.faults.Fault.{Fault}
 use Rattle.b67_model.specs.Common.{Word, Task, SessionJob, Value, Goes, print}
 use Rattle.b67_layout.specs.Meets.{here}
-pub use Rattle.b67_mcp_call.specs.Calls.{IsCall, MayCut, job_cut, CutSome, CallSome, OnlyCell, operand_number}
+pub use Rattle.b67_mcp_call.specs.Calls.{IsCall, StandsAtCall, MayCut, job_cut, CutSome, CallSome, OnlyCell, operand_number}
 
 -- what PRINT is to print is the value of its row's line, or the row's fault
 abbrev pub PrintMeets : SessionJob → Task → List Word → Result ℤ Fault → Type 0

@@ -7,3 +7,4 @@ pub mod Moved
 pub mod Counts
 pub mod Begins
 pub mod Starts
+pub mod Passed
