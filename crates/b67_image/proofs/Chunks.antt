@@ -1,4 +1,4 @@
--- Cards of 32 bytes, as bytes come one after the other.
+-- Cards of 32 bytes, 64 at once, as bytes come one after the other.
 use Rattle.std.proofs.Common.{◌≡◌, ℕ, zero, suc, ◌+◌, ◌*◌, ◌-◌, ◌/◌, ◌<◌, ◌≤◌, List, [], ◌∷◌, ◌++◌, length, map, take, drop, get_or, Ok, Err, refl, sym, ap, subst, ◌∙◌, append-nil, append_assoc, length-append, length-drop, arith}
 use Rattle.std.specs.Prelude.{Option, Result, ⊤, OnOk, OnErr}
 use Rattle.std.specs.List.{flat_map, range_with_len}
@@ -14,7 +14,7 @@ use Rattle.b67_io.specs.Told.{Took, TookPart}
 use Rattle.b67_io.proofs.Joined.{Took-none, Took-then}
 use Rattle.b67_model_text.specs.Hex.{hex_text}
 use Rattle.b67_image.specs.Text.{card_lines}
-use Rattle.b67_image.specs.Punching.{first_cards, full_cards, left_over, Punched, last_lines}
+use Rattle.b67_image.specs.Punching.{first_cards, full_cards, left_over, Punched}
 
 -- one text, and then a part of another
 pub TookPart-then : {K : Type 0} {taken : K → Option (List ℕ)} {a b c : K} {x y : List ℕ} → Took taken a b x → TookPart taken b c y → TookPart taken a c (x ++ y)
@@ -62,61 +62,65 @@ cards_part bytes m (suc n) =
     ∙ ap (λ (more : List ℕ). first_cards bytes m ++ more) (sym (card_more (drop (32 * m) bytes) n))
     ∙ ap (λ (k : ℕ). first_cards bytes m ++ first_cards (drop (32 * m) bytes) k) (sym f)
 
--- few bytes make no card, and 32 make one
-pub full_none : (xs : List ℕ) → length xs < 32 → full_cards xs ≡ []
+-- few bytes fill nothing, and 2,048 fill 64 cards
+pub full_none : (xs : List ℕ) → length xs < 2048 → full_cards xs ≡ []
 unfolding full_cards
-full_none xs lt = let z : length xs / 32 ≡ 0 = omega arith in rw z refl
+full_none xs lt = let z : length xs / 2048 ≡ 0 = omega arith in rw z refl
 
-pub left_none : (xs : List ℕ) → length xs < 32 → left_over xs ≡ xs
+pub left_none : (xs : List ℕ) → length xs < 2048 → left_over xs ≡ xs
 unfolding left_over
-left_none xs lt = let z : length xs / 32 ≡ 0 = omega arith in rw z refl
+left_none xs lt = let z : length xs / 2048 ≡ 0 = omega arith in rw z refl
 
-pub full_one : (xs : List ℕ) → length xs ≡ 32 → full_cards xs ≡ ended (hex_text xs)
+pub full_one : (xs : List ℕ) → length xs ≡ 2048 → full_cards xs ≡ card_lines xs
 unfolding full_cards
-full_one xs len =
-    let one : length xs / 32 ≡ 0 + 1 = omega arith in
-    rw one (card_more xs 0 ∙ ap (λ (piece : List ℕ). ended (hex_text piece)) (take_all 32 xs (omega arith)))
+full_one xs len = let same : 64 * (length xs / 2048) ≡ (length xs + 31) / 32 = omega arith in ap (first_cards xs) same
 
-pub left_one : (xs : List ℕ) → length xs ≡ 32 → left_over xs ≡ []
+pub left_one : (xs : List ℕ) → length xs ≡ 2048 → left_over xs ≡ []
 unfolding left_over
-left_one xs len = let one : length xs / 32 ≡ 1 = omega arith in rw one (drop_all 32 xs (omega arith))
+left_one xs len = let one : length xs / 2048 ≡ 1 = omega arith in rw one (drop_all 2048 xs (omega arith))
+
+-- the bytes behind the first 64 cards, so many times
+behind_cards : (xs : List ℕ) (m : ℕ) → drop (32 * (64 * m)) xs ≡ drop (2048 * m) xs
+behind_cards xs m = let at : 32 * (64 * m) ≡ 2048 * m = omega arith in ap (λ (n : ℕ). drop n xs) at
 
 -- more bytes
 pub full_then : (xs ys : List ℕ) → full_cards (xs ++ ys) ≡ full_cards xs ++ full_cards (left_over xs ++ ys)
 unfolding full_cards left_over
 full_then xs ys =
-    let m : ℕ = length xs / 32 in
-    let behind : drop (32 * m) (xs ++ ys) ≡ drop (32 * m) xs ++ ys = drop-append-le (32 * m) xs ys (omega arith) in
-    let count : length (xs ++ ys) / 32 ≡ m + length (drop (32 * m) xs ++ ys) / 32 = omega (arith, length-append xs ys, length-append (drop (32 * m) xs) ys, length-drop (32 * m) xs) in
+    let m : ℕ = length xs / 2048 in
+    let rest : List ℕ = drop (2048 * m) xs ++ ys in
+    let count : 64 * (length (xs ++ ys) / 2048) ≡ 64 * m + 64 * (length rest / 2048) = omega (arith, length-append xs ys, length-append (drop (2048 * m) xs) ys, length-drop (2048 * m) xs) in
     ap (first_cards (xs ++ ys)) count
-    ∙ cards_part (xs ++ ys) m (length (drop (32 * m) xs ++ ys) / 32)
-    ∙ ap (λ (front : List ℕ). front ++ first_cards (drop (32 * m) (xs ++ ys)) (length (drop (32 * m) xs ++ ys) / 32)) (cards_front xs ys m (omega arith))
-    ∙ ap (λ (rest : List ℕ). first_cards xs m ++ first_cards rest (length (drop (32 * m) xs ++ ys) / 32)) behind
+    ∙ cards_part (xs ++ ys) (64 * m) (64 * (length rest / 2048))
+    ∙ ap (λ (front : List ℕ). front ++ first_cards (drop (32 * (64 * m)) (xs ++ ys)) (64 * (length rest / 2048))) (cards_front xs ys (64 * m) (omega arith))
+    ∙ ap (λ (bytes : List ℕ). first_cards xs (64 * m) ++ first_cards bytes (64 * (length rest / 2048))) (behind_cards (xs ++ ys) m ∙ drop-append-le (2048 * m) xs ys (omega arith))
 
 pub left_then : (xs ys : List ℕ) → left_over (xs ++ ys) ≡ left_over (left_over xs ++ ys)
 unfolding left_over
 left_then xs ys =
-    let m : ℕ = length xs / 32 in
-    let behind : drop (32 * m) (xs ++ ys) ≡ drop (32 * m) xs ++ ys = drop-append-le (32 * m) xs ys (omega arith) in
-    let k : ℕ = length (drop (32 * m) xs ++ ys) / 32 in
-    let at : 32 * (length (xs ++ ys) / 32) ≡ 32 * m + 32 * k = omega (arith, length-append xs ys, length-append (drop (32 * m) xs) ys, length-drop (32 * m) xs) in
-    ap (λ (n : ℕ). drop n (xs ++ ys)) at ∙ sym (drop-drop (32 * k) (32 * m) (xs ++ ys)) ∙ ap (drop (32 * k)) behind
+    let m : ℕ = length xs / 2048 in
+    let behind : drop (2048 * m) (xs ++ ys) ≡ drop (2048 * m) xs ++ ys = drop-append-le (2048 * m) xs ys (omega arith) in
+    let k : ℕ = length (drop (2048 * m) xs ++ ys) / 2048 in
+    let at : 2048 * (length (xs ++ ys) / 2048) ≡ 2048 * m + 2048 * k = omega (arith, length-append xs ys, length-append (drop (2048 * m) xs) ys, length-drop (2048 * m) xs) in
+    ap (λ (n : ℕ). drop n (xs ++ ys)) at ∙ sym (drop-drop (2048 * k) (2048 * m) (xs ++ ys)) ∙ ap (drop (2048 * k)) behind
 
 -- all cards
-pub cards_are : (bytes : List ℕ) → card_lines bytes ≡ full_cards bytes ++ last_lines (left_over bytes)
+pub cards_are : (bytes : List ℕ) → card_lines bytes ≡ full_cards bytes ++ card_lines (left_over bytes)
 unfolding full_cards left_over
-cards_are bytes = by_rest (drop (32 * (length bytes / 32)) bytes) refl
-  where
-    by_rest : (rest : List ℕ) → rest ≡ drop (32 * (length bytes / 32)) bytes → first_cards bytes ((length bytes + 31) / 32) ≡ first_cards bytes (length bytes / 32) ++ last_lines rest
-    by_rest [] e =
-        let none : length bytes - 32 * (length bytes / 32) ≡ 0 = sym (length-drop (32 * (length bytes / 32)) bytes) ∙ ap length (sym e) in
-        let same : (length bytes + 31) / 32 ≡ length bytes / 32 = omega arith in
-        rw same (sym (append-nil (first_cards bytes (length bytes / 32))))
-    by_rest (b ∷ more) e =
-        let some : length bytes - 32 * (length bytes / 32) ≡ suc (length more) = sym (length-drop (32 * (length bytes / 32)) bytes) ∙ ap length (sym e) in
-        let one : (length bytes + 31) / 32 ≡ length bytes / 32 + 1 = omega arith in
-        let whole : take 32 (drop (32 * (length bytes / 32)) bytes) ≡ b ∷ more = ap (take 32) (sym e) ∙ take_all 32 (b ∷ more) (omega arith) in
-        rw one (card_more bytes (length bytes / 32) ∙ ap (λ (piece : List ℕ). first_cards bytes (length bytes / 32) ++ ended (hex_text piece)) whole)
+cards_are bytes =
+    let m : ℕ = length bytes / 2048 in
+    let rest : List ℕ = drop (2048 * m) bytes in
+    let count : (length bytes + 31) / 32 ≡ 64 * m + (length rest + 31) / 32 = omega (arith, length-drop (2048 * m) bytes) in
+    ap (first_cards bytes) count
+    ∙ cards_part bytes (64 * m) ((length rest + 31) / 32)
+    ∙ ap (λ (left : List ℕ). first_cards bytes (64 * m) ++ first_cards left ((length rest + 31) / 32)) (behind_cards bytes m)
+
+-- the first card of some bytes, and those of the others
+pub card_then : (bytes : List ℕ) → 0 < length bytes → card_lines bytes ≡ ended (hex_text (take 32 bytes)) ++ card_lines (drop 32 bytes)
+card_then bytes some =
+    let n : ℕ = (length (drop 32 bytes) + 31) / 32 in
+    let count : (length bytes + 31) / 32 ≡ 1 + n = omega (arith, length-drop 32 bytes) in
+    ap (first_cards bytes) count ∙ cards_part bytes 1 n ∙ ap (λ (front : List ℕ). front ++ first_cards (drop 32 bytes) n) (card_more bytes 0)
 
 -- ---- what is printed
 
@@ -128,7 +132,7 @@ TookPart-longer {taken = taken} {a = a} {b = b} x y p = record {
   first = subst (Took taken a b) (sym (take-append-le p.count x y (let lt = p.proper in omega arith))) p.first;
 }
 
-pub punched_none : {K : Type 0} (taken : K → Option (List ℕ)) (now : K) (hand : List ℕ) → length hand < 32 → Punched taken now now hand hand (Ok tt) []
+pub punched_none : {K : Type 0} (taken : K → Option (List ℕ)) (now : K) (hand : List ℕ) → length hand < 2048 → Punched taken now now hand hand (Ok tt) []
 punched_none taken now hand lt =
     let e : hand ++ [] ≡ hand = append-nil hand in
     (sym (ap left_over e ∙ left_none hand lt), subst (Took taken now now) (sym (ap full_cards e ∙ full_none hand lt)) (Took-none taken now))
@@ -174,18 +178,18 @@ items_are f xs i = sym (flat_map-append f (take i xs) (drop i xs)) ∙ ap (flat_
 
 -- ---- what a hand does
 
-pub punched_byte : {K : Type 0} (taken : K → Option (List ℕ)) (now : K) (hand : List ℕ) (b : ℕ) → length hand < 31 → Punched taken now now hand (hand ++ b ∷ []) (Ok tt) (b ∷ [])
+pub punched_byte : {K : Type 0} (taken : K → Option (List ℕ)) (now : K) (hand : List ℕ) (b : ℕ) → length hand < 2047 → Punched taken now now hand (hand ++ b ∷ []) (Ok tt) (b ∷ [])
 punched_byte taken now hand b lt =
-    let short : length (hand ++ b ∷ []) < 32 = omega (arith, length-append hand (b ∷ [])) in
+    let short : length (hand ++ b ∷ []) < 2048 = omega (arith, length-append hand (b ∷ [])) in
     (sym (left_none (hand ++ b ∷ []) short), subst (Took taken now now) (sym (full_none (hand ++ b ∷ []) short)) (Took-none taken now))
 
-pub punched_full : {K : Type 0} (taken : K → Option (List ℕ)) (old new : K) (hand : List ℕ) (b : ℕ) (text : List ℕ) (r : Result ⊤ Failed) → length hand ≡ 31 → text ≡ ended (hex_text (hand ++ b ∷ []))
+pub punched_full : {K : Type 0} (taken : K → Option (List ℕ)) (old new : K) (hand : List ℕ) (b : ℕ) (text : List ℕ) (r : Result ⊤ Failed) → length hand ≡ 2047 → text ≡ card_lines (hand ++ b ∷ [])
     → OnOk r (Took taken old new text) → OnErr r (TookPart taken old new text) → Punched taken old new hand [] r (b ∷ [])
 punched_full taken old new hand b text (Ok done) len is whole part =
-    let full : length (hand ++ b ∷ []) ≡ 32 = omega (arith, length-append hand (b ∷ [])) in
+    let full : length (hand ++ b ∷ []) ≡ 2048 = omega (arith, length-append hand (b ∷ [])) in
     (sym (left_one (hand ++ b ∷ []) full), subst (Took taken old new) (is ∙ sym (full_one (hand ++ b ∷ []) full)) whole)
 punched_full taken old new hand b text (Err failed) len is whole part =
-    let full : length (hand ++ b ∷ []) ≡ 32 = omega (arith, length-append hand (b ∷ [])) in
+    let full : length (hand ++ b ∷ []) ≡ 2048 = omega (arith, length-append hand (b ∷ [])) in
     subst (TookPart taken old new) (is ∙ sym (full_one (hand ++ b ∷ []) full)) part
 
 -- one byte after the other

@@ -5,7 +5,7 @@ use Rattle.b67_word.specs.declared.faults.Failed.{Failed}
 use Rattle.b67_io.specs.Told.{Took, TookPart}
 use Rattle.b67_io.proofs.Joined.{Took-then}
 use Rattle.b67_image.specs.Text.{card_lines}
-use Rattle.b67_image.specs.Punching.{Punched, full_cards, left_over, last_lines}
+use Rattle.b67_image.specs.Punching.{Punched, full_cards, left_over}
 use Rattle.b67_image.proofs.Chunks.{TookPart-then, TookPart-longer, cards_are}
 
 pub whole_then : {K : Type 0} (taken : K → Option (List ℕ)) (a b c : K) (x y : List ℕ) (r : Result ⊤ Failed) → Took taken a b x → OnOk r (Took taken b c y) → OnOk r (Took taken a c (x ++ y))
@@ -21,20 +21,20 @@ printed : {K : Type 0} (taken : K → Option (List ℕ)) (a b : K) (hand now byt
 printed taken a b hand now bytes e p = subst (λ (h : List ℕ). Punched taken a b h now (Ok tt) bytes) e p
 
 pub cards_whole : {K : Type 0} (taken : K → Option (List ℕ)) (a b c : K) (hand now bytes : List ℕ) (r : Result ⊤ Failed) → hand ≡ [] → Punched taken a b hand now (Ok tt) bytes
-    → OnOk r (Took taken b c (last_lines now)) → OnOk r (Took taken a c (card_lines bytes))
+    → OnOk r (Took taken b c (card_lines now)) → OnOk r (Took taken a c (card_lines bytes))
 cards_whole taken a b c hand now bytes r e p q =
     let first = printed taken a b hand now bytes e p in
-    let last = subst (λ (h : List ℕ). OnOk r (Took taken b c (last_lines h))) first.0 q in
-    subst (λ (text : List ℕ). OnOk r (Took taken a c text)) (sym (cards_are bytes)) (whole_then taken a b c (full_cards bytes) (last_lines (left_over bytes)) r first.1 last)
+    let last = subst (λ (h : List ℕ). OnOk r (Took taken b c (card_lines h))) first.0 q in
+    subst (λ (text : List ℕ). OnOk r (Took taken a c text)) (sym (cards_are bytes)) (whole_then taken a b c (full_cards bytes) (card_lines (left_over bytes)) r first.1 last)
 
 pub cards_part : {K : Type 0} (taken : K → Option (List ℕ)) (a b c : K) (hand now bytes : List ℕ) (r : Result ⊤ Failed) → hand ≡ [] → Punched taken a b hand now (Ok tt) bytes
-    → OnErr r (TookPart taken b c (last_lines now)) → OnErr r (TookPart taken a c (card_lines bytes))
+    → OnErr r (TookPart taken b c (card_lines now)) → OnErr r (TookPart taken a c (card_lines bytes))
 cards_part taken a b c hand now bytes r e p q =
     let first = printed taken a b hand now bytes e p in
-    let last = subst (λ (h : List ℕ). OnErr r (TookPart taken b c (last_lines h))) first.0 q in
-    subst (λ (text : List ℕ). OnErr r (TookPart taken a c text)) (sym (cards_are bytes)) (part_then taken a b c (full_cards bytes) (last_lines (left_over bytes)) r first.1 last)
+    let last = subst (λ (h : List ℕ). OnErr r (TookPart taken b c (card_lines h))) first.0 q in
+    subst (λ (text : List ℕ). OnErr r (TookPart taken a c text)) (sym (cards_are bytes)) (part_then taken a b c (full_cards bytes) (card_lines (left_over bytes)) r first.1 last)
 
 pub cards_stop : {K : Type 0} (taken : K → Option (List ℕ)) (a b : K) (hand now bytes : List ℕ) (failed : Failed) → hand ≡ [] → Punched taken a b hand now (Err failed) bytes → TookPart taken a b (card_lines bytes)
 cards_stop taken a b hand now bytes failed e p =
     let first : TookPart taken a b (full_cards bytes) = subst (λ (h : List ℕ). Punched taken a b h now (Err failed) bytes) e p in
-    subst (TookPart taken a b) (sym (cards_are bytes)) (TookPart-longer (full_cards bytes) (last_lines (left_over bytes)) first)
+    subst (TookPart taken a b) (sym (cards_are bytes)) (TookPart-longer (full_cards bytes) (card_lines (left_over bytes)) first)

@@ -25,7 +25,7 @@ take_most zero xs = omega arith
 take_most (suc n) [] = omega arith
 take_most (suc n) (x ∷ xs) = let h = take_most n xs in omega (arith, h)
 
-card_most : (bytes : List ℕ) (i : ℕ) → length (hex_text (take 32 (drop (32 * i) bytes))) ≤ 64
+pub card_most : (bytes : List ℕ) (i : ℕ) → length (hex_text (take 32 (drop (32 * i) bytes))) ≤ 64
 card_most bytes i =
     let few = take_most 32 (drop (32 * i) bytes) in
     let long : length (hex_text (take 32 (drop (32 * i) bytes))) ≡ length (take 32 (drop (32 * i) bytes)) * 2 = flat_many (λ (b : ℕ). hex_char (b / 16) ∷ hex_char (b % 16) ∷ []) 2 (λ b. refl) (take 32 (drop (32 * i) bytes)) in
