@@ -7,9 +7,9 @@ toolchain's checker accept it all. So nothing that the statement needs is left o
 definition is held against the crate's file: it is a line of that file, byte for byte, in its order. The lines that it adds are
 those that bring names in, copied from the same file as far as they are used, and the names of modules.
 
-FUNCTION is CRATE::NAME, and without CLAUSE all its clauses are meant. Without arguments the statements of docs/TRUST.md and of
-docs/statement.html are compiled. With --keep the crates are written into FOLDER, which must not be there yet. Needs rt; some
-minutes of a processor.
+FUNCTION is CRATE::NAME, and without CLAUSE all its clauses are meant. Without arguments the two main clauses of
+docs/statement.html are compiled. With --keep the crates are written into FOLDER, which must not be there yet, and stay there. Needs
+rt; two minutes of a processor for run_twice, more for statements that come down to the model.
 """
 import os
 import re
@@ -22,9 +22,7 @@ sys.dont_write_bytecode = True
 import trust
 
 STATEMENTS = [
-    ("b67_promises::run_in_memory_twice", ["decks"]),
     ("b67_promises::run_twice", ["decks"]),
-    ("b67_promises::run_described", ["ends"]),
     ("b67_promises::serve_described", ["ends"]),
 ]
 IMPORT = re.compile(r"^[ \t]*(?P<prefix>(?:unfoldable )?(?:pub )?(?:ghost )?use )(?P<module>[^;{\n]+?)(?:(?P<open>\.\{|::\{)(?P<names>[^}]*)\})?(?P<end>;?)$", re.M)
@@ -223,6 +221,8 @@ def put(path, lines):
 def compiled(function, clauses, keep):
     """Whether the checker accepts a statement; prints what it says."""
     statement = Statement(function, clauses)
+    if shutil.which("rt") is None:
+        raise Wrong("rt isn't on the path")
     title = function + "".join(" " + clause for clause in clauses)
     folder = keep or tempfile.mkdtemp()
     try:

@@ -8,8 +8,9 @@ the usual way in way.txt, a sentence for each clause in clauses.txt, the words o
 words.txt. The same sources give the same bytes.
 
 A page isn't made if a name of it leads nowhere: each must be a definition that is shown, a word that is built in, or bound where it
-stands. With --check nothing is written: the status is 1 if docs/statement.html isn't what the sources give, or if a count in it is
-another than that of scripts/trust.py. With --figures the lines and names are printed.
+stands. With --check nothing is written: the status is 1 if docs/statement.html isn't what the sources give; or, by that file alone, if a
+link of it leads nowhere, a line isn't as it stands in its source, or a count isn't that of the lines to which its links lead. With
+--figures the lines and names are printed.
 """
 import collections
 import html
@@ -354,6 +355,53 @@ def squeezed(line):
     return parts[0] if len(parts) == 1 and isinstance(parts[0], str) else parts
 
 
+def plain_of(line):
+    """The text of a line of the page."""
+    return line if isinstance(line, str) else "".join(part if isinstance(part, str) else part[0] for part in line)
+
+
+def flaws_of(text):
+    """What isn't so of a page that was made, by the page and the sources alone."""
+    found = json.loads(re.search(r'<script type="application/json" id="data">\n(.*?)\n</script>', text, re.S).group(1).replace("<\\/", "</"))
+    definitions, links, counts = found["definitions"], [], []
+    for name, file, first, count, _, lines, _ in definitions:
+        with open(os.path.join(trust.TOP, "..", file), encoding="utf-8") as source:
+            there = [line for line in source.read().split("\n")[first - 1:] if line.strip()]
+        shown = [plain_of(line) for line in lines]
+        if shown != there[:len(shown)]:
+            yield f"{name}: other lines than those of {file}"
+        counted = sum(1 for line in shown if not line.strip().startswith(("--", "//", "ghost use", "use ")))
+        if counted != count:
+            yield f"{name}: {count} lines are said, and {counted} stand there"
+        targets = [part[1] for line in lines if not isinstance(line, str) for part in line if not isinstance(part, str)]
+        if any(not -len(found["words"]) <= target < len(definitions) for target in targets):
+            yield f"{name}: a link that leads nowhere"
+        links.append([target for target in targets if target >= 0])
+        counts.append(count)
+    views = {(file, name.replace("Model for ", "")): number for number, (name, file, *_) in enumerate(definitions) if name.startswith("Model for ")}
+    for number, (name, file, *_) in enumerate(definitions):
+        links[number] += [views[file, name.split("@")[0]]] if (file, name.split("@")[0]) in views else []
+    for number, clauses in found["contracts"]:
+        lines = definitions[number][5]
+        heads = [at for at, line in enumerate(lines) if plain_of(line).startswith("    ensures ")]
+        body = next(at for at, line in enumerate(lines) if plain_of(line) == "{")
+        for (clause, _, most, _), head, end in zip(clauses, heads, heads[1:] + [body]):
+            own = [line for line in lines[:heads[0]] + lines[head:end] + lines[body:] if not plain_of(line).strip().startswith("//")]
+            waiting = [part[1] for line in own if not isinstance(line, str) for part in line if not isinstance(part, str) and part[1] >= 0]
+            reached = set()
+            while waiting:
+                one = waiting.pop()
+                if one not in reached:
+                    reached.add(one)
+                    waiting += links[one]
+            reads = len(own) + sum(counts[one] for one in reached)
+            if reads != most:
+                yield f"{definitions[number][0]} {clause}: {most} lines are said, and its links lead to {reads}"
+    on_way = found["contractLines"] + sum(counts[stop[1]] for stop in found["way"])
+    if on_way != found["wayLines"]:
+        yield f"the usual way: {found['wayLines']} lines are said, and it has {on_way}"
+
+
 def main(arguments):
     if len(arguments) > 1 or arguments and (arguments[0].startswith("-") and arguments[0] not in ("--check", "--figures")):
         return None
@@ -369,9 +417,12 @@ def main(arguments):
             return 0
         if arguments == ["--check"]:
             with open(PAGE, encoding="utf-8") as made:
-                same = made.read() == text
-            print(f"docs/statement.html: {'as the sources give it' if same else 'old: python3 scripts/statement.py makes it again'}")
-            return 0 if same else 1
+                old = made.read()
+            flaws = list(flaws_of(old))
+            for flaw in flaws:
+                print(flaw)
+            print(f"docs/statement.html: {'as the sources give it' if old == text else 'old: python3 scripts/statement.py makes it again'}, {len(flaws)} wrong")
+            return 0 if old == text and not flaws else 1
         with open(path, "w", encoding="utf-8") as made:
             made.write(text)
         print(f"{os.path.basename(path)}: {len(text.encode()):,} bytes, {len(page.blocks):,} definitions")
