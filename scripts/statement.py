@@ -333,6 +333,9 @@ class Page:
         }
         for name, value in places.items():
             template = template.replace("{{" + name + "}}", html.escape(value))
+        lost = [name for name in re.findall(r'href="#([^"]+)"', template) if name not in self.by_name]
+        if lost:
+            raise Wrong("page.html: no definition " + ", ".join(lost))
         if re.search(r"\{\{[A-Z_]+\}\}", template.replace("{{DATA}}", "")):
             raise Wrong("page.html asks for what isn't known")
         return template.replace("{{DATA}}", shown)
