@@ -75,7 +75,7 @@ class Copy:
                 line = trust.code_in(block, line)
                 used.update(["[]"] if "[]" in line else [])
                 for token in (trust.RUST if is_rust(self.path) else trust.WORD).findall(line):
-                    used.update((token, token.partition(".")[0]))
+                    used.update((token, token.partition(".")[0], trust.STANDS_FOR.get(token, token)))
         return used
 
     def uses(self, name, used):
