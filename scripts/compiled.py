@@ -9,7 +9,7 @@ those that bring names in, copied from the same file as far as they are used, an
 
 FUNCTION is CRATE::NAME, and without CLAUSE all its clauses are meant. Without arguments the two main clauses of
 docs/statement.html are compiled. With --keep the crates are written into FOLDER, which must not be there yet, and stay there. Needs
-rt; two minutes of a processor for run_twice, more for statements that come down to the model.
+rt; some two minutes of a processor for each statement.
 """
 import os
 import re
