@@ -10,7 +10,7 @@
 # changed. Of a part that failed the last thirty lines are shown.
 [ -n "${BASH_VERSION:-}" ] || { echo "usage: bash scripts/before-landing.sh --list, or PROGRAM" >&2; exit 2; }
 set -u
-parts='gate rows decks tracer house signatures premises links names scripts documents release edits'
+parts='gate rows decks tracer house signatures premises links names statement scripts documents release edits'
 usage() {
     printf '%s\nusage: bash scripts/before-landing.sh [--skip PART].. [--only PART].. [--since COMMIT] PROGRAM\nparts: %s\n' "$1" "$parts" >&2
     exit 2
@@ -26,6 +26,7 @@ means() {
     premises) echo 'what meets the premises of each theorem' ;;
     links) echo 'each link and path of the documents' ;;
     names) echo 'what pages say of functions, calls and crates is in the code' ;;
+    statement) echo 'docs/statement.html made again: the same bytes, and no name that leads nowhere' ;;
     scripts) echo 'scripts/check-scripts.sh: each script, called carelessly' ;;
     documents) echo 'the commands of the documents' ;;
     release) echo 'scripts/release.sh twice: the same bytes' ;;
@@ -85,6 +86,7 @@ signatures() { python3 scripts/signatures.py; }
 premises() { python3 scripts/premises.py; }
 links() { python3 scripts/links.py; }
 names() { python3 scripts/names.py && python3 scripts/heads.py --check; }
+statement() { python3 scripts/statement.py --check; }
 scripts() { bash scripts/check-scripts.sh "$program"; }
 documents() { bash scripts/check-docs.sh "$program"; }
 release() {

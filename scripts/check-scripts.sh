@@ -321,7 +321,7 @@ for name in check-docs check-scripts before-landing release; do
     [ $name = before-landing ] || signals bash $here/$name.sh ../bin/b67 $words
     done_with $name.sh
 done
-for name in refill house links sizes trust names heads premises signatures; do
+for name in refill house links sizes trust names heads premises signatures statement compiled; do
     for words in --nonsense -h nothere folder -x --text '--own nothing' 'nothing more' '--nonsense run_twice'; do refused python3 $here/$name.py $words; done
     done_with $name.py
 done

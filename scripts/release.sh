@@ -56,7 +56,7 @@ sed -i 's:`web/b67\.html`:`b67.html`:' "$out/README.md"
 # of the scripts those that need only the program, sh, awk and Python; the others work on the repository
 for file in $(git ls-files scripts); do
     case $file in
-    */check-*.sh | */web.sh | */before-landing.sh | */release.sh | *.py) ;;
+    */check-*.sh | */web.sh | */before-landing.sh | */release.sh | *.py | scripts/statement/*) ;;
     *) put "$file" ;;
     esac
 done
@@ -84,7 +84,7 @@ prints 1.1 5 and 1.1 ENDED. The program needs Linux on x86-64 with the GNU C lib
 RHEL 9); it is built, so skip what the documents say of rt. From here: docs/TOUR.md, three lessons with commands;
 docs/TEACHING.md, six lessons for whoever gives a course; docs/ASSEMBLER.md, how to write decks, and decks/exercises/README.md,
 tasks for it. man -l man/man1/b67.1 has the commands, man -l man/man5/b67-deck.5 the cards, man -l man/man5/b67-image.5 the
-image of a halted machine. The scripts need sh and an awk as POSIX has it, the tracer (reference/trace.py) Python 3.11.
+image of a halted machine; docs/statement.html, in a browser, what is proved. The scripts need sh and an awk as POSIX has it, the tracer (reference/trace.py) Python 3.11.
 TEXT
     [ ! -f "$out/b67.html" ] || cat <<'TEXT'
 

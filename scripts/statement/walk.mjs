@@ -1,0 +1,95 @@
+// Walks through docs/statement.html in a browser: node walk.mjs BROWSER PAGE [FOLDER]. Each stop of the usual way by the key n; each name
+// that the page shows by its link; the counts; the way back; names that are found; deep links. Prints what differs, and ends with status 1
+// if anything does. With FOLDER pictures are written there.
+import fs from 'node:fs';
+import path from 'node:path';
+import {pathToFileURL} from 'node:url';
+import {Browser} from '../../web/check/browser.mjs';
+
+const [program, page, folder] = process.argv.slice(2);
+if (!program || !page || !fs.existsSync(page)) {
+  console.error('usage: node walk.mjs BROWSER PAGE [FOLDER]');
+  process.exit(2);
+}
+let same = 0, different = 0;
+function expect(what, is, wanted) {
+  if (JSON.stringify(is) === JSON.stringify(wanted)) same++;
+  else {
+    different++;
+    console.log(`${what}: ${JSON.stringify(is)}, not ${JSON.stringify(wanted)}`);
+  }
+}
+const browser = await Browser.started(program, 1366, 768);
+const url = pathToFileURL(path.resolve(page)).href;
+const settled = () => browser.value('new Promise(done => setTimeout(done, 30))');
+try {
+  await browser.opens(url);
+  const data = JSON.parse(await browser.value("document.getElementById('data').textContent"));
+  const shown = () => browser.value("shown === null ? null : definitions[shown][0]");
+  const counted = () => browser.value("document.getElementById('count').innerText");
+  // the usual way, by one key
+  let lines = data.contractLines;
+  for (const [number, stop] of data.way.entries()) {
+    await browser.press('n');
+    await settled();
+    lines += data.definitions[stop[1]][3];
+    expect(`stop ${number + 1}`, await shown(), data.definitions[stop[1]][0]);
+    const said = await counted();
+    expect(`lines at stop ${number + 1}`, said.includes(`${number + 1} of ${data.way.length} names, ${lines} of ${data.wayLines} lines`), true);
+  }
+  expect('lines on the usual way', lines, data.wayLines);
+  // back to the contract
+  for (let times = 0; times < 20 && await shown() !== null; times++) {
+    await browser.press('b');
+    await settled();
+  }
+  expect('the way back ends at the contract', await shown(), null);
+  // each definition by its link: it stands open, with its file and its lines, and each link of it has a place
+  const wrong = await browser.value(`(async () => {
+    const wrong = [];
+    for (const [number, one] of definitions.entries()) {
+      if (roots.includes(number)) continue;
+      open(number);
+      const side = document.getElementById('side');
+      const text = [...document.querySelectorAll('#open ~ .code')][0];
+      const lines = [...text.children].map(line => line.textContent.replace(/\\s+/g, ' ').trim()).join('\\n');
+      const wanted = one[TEXT].map(line => textOf(line).replace(/\\s+/g, ' ').trim()).join('\\n');
+      if (shown !== number || lines !== wanted || !side.innerText.includes(one[FILE] + ', line ' + one[LINE])) wrong.push(one[NAME]);
+      for (const link of text.querySelectorAll('a')) if (!place.has(decodeURIComponent(link.hash.slice(1)))) wrong.push(one[NAME] + ': ' + link.textContent);
+      for (const word of text.querySelectorAll('[data-word]')) if (!data.words[word.dataset.word][1]) wrong.push(one[NAME] + ': ' + word.textContent);
+      if (!roots.includes(pathTo(number)[0])) wrong.push(one[NAME] + ': no way back to a contract');
+    }
+    return wrong;
+  })()`);
+  expect('definitions by their links', wrong, []);
+  expect('all lines', (await counted()).includes(`${data.mainLines.toLocaleString('en-US')} lines opened`), true);
+  // a name that is found
+  await browser.press('/');
+  for (const letter of 'samel') await browser.press(letter);
+  await browser.press('Enter');
+  await settled();
+  expect('the name that was found', await shown(), 'SameLines');
+  await browser.opens(url + '#Took');
+  await settled();
+  expect('a deep link', await shown(), 'Took');
+  // nothing is wider than the window, wide or narrow
+  for (const [width, height] of [[1366, 768], [1024, 768], [390, 844]]) {
+    await browser.size(width, height);
+    for (const name of ['StopsAfter', 'Backing', 'SameLines']) {
+      await browser.opens(`${url}#${name}`);
+      await settled();
+      expect(`${name} at ${width}: what is wider than the window`, await browser.value('Math.max(0, document.documentElement.scrollWidth - innerWidth)'), 0);
+      if (folder) for (const dark of [false, true]) {
+        await browser.dark(dark);
+        await settled();
+        await browser.picture(path.join(folder, `${name}-${width}${dark ? '-dark' : ''}.png`));
+      }
+    }
+  }
+  await browser.hears();
+  expect('complaints of the console', browser.errors, []);
+} finally {
+  await browser.ends();
+}
+console.log(`${same} the same, ${different} different`);
+process.exit(different ? 1 : 0);
