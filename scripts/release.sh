@@ -58,7 +58,7 @@ sed -i 's:`web/b67\.html`:`b67.html`:' "$out/README.md"
 # of the scripts those that need only the program, sh, awk and Python; the others work on the repository
 for file in $(git ls-files scripts); do
     case $file in
-    */check-*.sh | */web.sh | */before-landing.sh | */release.sh | *.py) ;;
+    */check-*.sh | */web.sh | */before-landing.sh | */release.sh | */paper.sh | *.py) ;;
     *) put "$file" ;;
     esac
 done
