@@ -15,8 +15,9 @@
 # are left out of the comparison. Beside that
 # - each link must lead to a file and a heading, and each name of a file or a crate to one (scripts/links.py);
 # - the table of decks must name each folder of decks/, that of crates be what scripts/heads.py makes, some page name each script;
-# - the manual pages must be of the version and date that CITATION.cff has; b67.1 must name each status's line, and its examples
-#   must end with status 0 and print something;
+# - the manual pages, README.md and CHANGES.md must be of the version and date that CITATION.cff has; b67.1 must name each status's line,
+#   and its examples must end with status 0 and print something;
+# - the minutes of the gate in README.md and docs/PAPER.md must be those of the table in docs/CHANGING.md, to a tenth;
 # - each number of lines in README.md and docs/PAPER.md must be one that scripts/trust.py or scripts/sizes.py prints;
 # - docs/TRUST.md must name each public function of b67_promises, docs/TESTED.md the number of rows, README.md that of decks,
 #   docs/ARCHITECTURE.md that of crates.
@@ -145,6 +146,17 @@ version=$(sed -n 's/^version: //p' CITATION.cff)
 date=$(sed -n 's/^date-released: //p' CITATION.cff)
 for page in docs/b67.1 docs/*.5; do
     head -1 "$page" | grep -qF "\"$date\" \"b67 $version\"" || wrong "$page: its head isn't of b67 $version, $date"
+done
+if grep -qF "This is version $version " README.md && grep -q "^## $version, $date" CHANGES.md; then passed=$((passed + 1)); else wrong "README.md or CHANGES.md isn't of $version, $date"; fi
+minutes=$(awk -F'|' '/^\| \*\*all\*\*/ { print $3 + $4 + $5 }' docs/CHANGING.md)
+for page in README.md docs/PAPER.md; do
+    said=$(grep -oE 'some [0-9]+ minutes of a processor' $page | head -1 | cut -d' ' -f2)
+    if [ $((${said:-0} * 10)) -ge $((minutes * 9)) ] && [ $((${said:-0} * 10)) -le $((minutes * 11)) ]; then passed=$((passed + 1)); else
+        wrong "$page: the gate takes ${said:-no} minutes, and $minutes by docs/CHANGING.md"
+    fi
+done
+for page in README.md CONTRIBUTING.md docs/CHANGING.md docs/PAPER.md scripts/before-landing.sh; do
+    if grep -qE 'one (to|or) two hours' $page; then passed=$((passed + 1)); else wrong "$page: the gate takes one to two hours"; fi
 done
 if grep -qF "This page describes b67 $version, of $date." docs/b67.1; then passed=$((passed + 1)); else wrong "docs/b67.1: VERSION isn't of b67 $version, $date"; fi
 page=$(MANWIDTH=1000 man -l docs/b67.1 2>/dev/null | col -b)

@@ -321,6 +321,11 @@ for name in check-docs check-scripts before-landing release; do
     [ $name = before-landing ] || signals bash $here/$name.sh ../bin/b67 $words
     done_with $name.sh
 done
+for words in '' nothere/out.pdf folder folder/ out.zip -out.pdf 'out.pdf more' --nonsense; do refused bash $here/paper.sh $words; done
+refused sh $here/paper.sh out.pdf
+tmp=$room/none/such refused bash $here/paper.sh out.pdf
+if [ -n "${mounted:-}" ]; then tmp=$room/full refused bash $here/paper.sh out.pdf; else skipped=$((skipped + 1)); fi
+done_with paper.sh
 for name in refill house links sizes trust names heads premises signatures statement compiled; do
     for words in --nonsense -h nothere folder -x --text '--own nothing' 'nothing more' '--nonsense run_twice'; do refused python3 $here/$name.py $words; done
     done_with $name.py

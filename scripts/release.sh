@@ -2,6 +2,8 @@
 # Makes one archive of what a class needs: the built program, the page b67.html if there is one, the manual pages, decks with
 # the exercises but not their answers, documents, scripts, the tracer, and a sum of each file. Nothing in it needs the toolchain. The same tree and program give
 # the same bytes: files are in the order of their names, and their time is the version's date. Needs git and GNU tar.
+# The paper is printed too (docs/PAPER.pdf), if pandoc and weasyprint are there; the same versions of both give the same bytes. A link
+# of a document that leads to no file of the archive is an error.
 #
 #     bash scripts/release.sh PROGRAM FILE.tar.gz [PAGE]
 #
@@ -56,18 +58,20 @@ sed -i 's:`web/b67\.html`:`b67.html`:' "$out/README.md"
 # of the scripts those that need only the program, sh, awk and Python; the others work on the repository
 for file in $(git ls-files scripts); do
     case $file in
-    */check-*.sh | */web.sh | */before-landing.sh | */release.sh | *.py | scripts/statement/*) ;;
+    */check-*.sh | */web.sh | */before-landing.sh | */release.sh | */paper.sh | *.py | scripts/statement/*) ;;
     *) put "$file" ;;
     esac
 done
+# the paper in print, if there is what prints it
+bash scripts/paper.sh "$out/docs/PAPER.pdf" || [ $? = 3 ] || usage 'the paper was not printed'
 mkdir -p "$out/decks"
 for file in $(git ls-files crates/b67_rows/data/decks); do
     under=${file#crates/b67_rows/data/decks/}
     case $under in answers/*) continue ;; esac
     mkdir -p "$out/decks/$(dirname "$under")"
-    # links lead three folders less far up from here
+    # links lead three folders less far up from here, and none to the answers
     case $under in
-    *.md) sed 's:(\.\./\.\./\.\./\(\.\./\):(\1:g' "$file" >"$out/decks/$under" ;;
+    *.md) sed 's:(\.\./\.\./\.\./\(\.\./\):(\1:g; s:, \[answers\](answers/README\.md) the answers::' "$file" >"$out/decks/$under" ;;
     *) cp "$file" "$out/decks/$under" ;;
     esac
 done
@@ -94,6 +98,16 @@ TEXT
     printf '\nEach file has its sum in SHA256SUMS: sha256sum -c SHA256SUMS\n'
 } >"$out/START.txt"
 (cd "$out" && find . -type f ! -name SHA256SUMS | LC_ALL=C sort | sed 's:^\./::' | xargs -d '\n' sha256sum >SHA256SUMS)
+# each link of a document leads to a file of the archive
+broken=$(cd "$out" && find . -name '*.md' | while read -r document; do
+    grep -oE '\]\([^)#: ]+' "$document" | sed 's/^](//' | while read -r link; do
+        [ -e "$(dirname "$document")/$link" ] || printf '%s: %s\n' "$document" "$link"
+    done
+done)
+if [ -n "$broken" ]; then
+    printf 'links that lead to no file of the archive:\n%s\n' "$broken" >&2
+    exit 1
+fi
 find "$out" -type d -exec chmod 755 {} +
 find "$out" -type f -exec chmod 644 {} +
 chmod 755 "$out/bin/b67"
