@@ -27,7 +27,7 @@ function nameOfTask({kind, id, sheet, number}) {
 export class Course {
   constructor(page) {
     Object.assign(this, {page, progress: new Progress(page.storage), quiz: new Quiz(), current: null, sheets: []});
-    for (const text of keptValue(page.storage, SHEETS) ?? []) this.takeSheet(text);
+    for (const text of (keptValue(page.storage, SHEETS) ?? []).reverse()) this.takesKept(text);
   }
 
   // Whether nothing was done in this browser yet.
@@ -35,15 +35,17 @@ export class Course {
     return !this.progress.work.size && !this.page.editor.own.list().length;
   }
 
-  // Takes in a sheet, the newest first; the same one stands once. One that can't be read any more is left out.
+  // Takes in a sheet, the newest first; the same one stands once.
   takeSheet(text) {
+    const sheet = sheetOf(text, this.page.decks);
+    this.sheets = [sheet, ...this.sheets.filter(it => it.key !== sheet.key)].slice(0, MOST_SHEETS);
+    return sheet;
+  }
+  // Takes in one that was kept; one that can't be read any more is left out.
+  takesKept(text) {
     try {
-      const sheet = sheetOf(text, this.page.decks);
-      this.sheets = [sheet, ...this.sheets.filter(it => it.key !== sheet.key)].slice(0, MOST_SHEETS);
-      return sheet;
-    } catch {
-      return null;
-    }
+      this.takeSheet(text);
+    } catch {}
   }
   get tasks() {
     return [...this.sheets.flatMap(sheet => sheet.tasks), ...TASKS];
@@ -128,8 +130,7 @@ export class Course {
   }
   // Opens a sheet: the task of that number, or its first one that isn't done.
   async opensSheet(text, number) {
-    const sheet = sheetOf(text, this.page.decks);
-    this.takeSheet(text);
+    const sheet = this.takeSheet(text);
     keepValue(this.page.storage, SHEETS, this.sheets.map(it => it.text));
     const task = sheet.tasks[number - 1] ?? sheet.tasks.find(it => !this.progress.isDone(it)) ?? sheet.tasks[0];
     await this.begin(task);

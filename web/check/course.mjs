@@ -134,6 +134,7 @@ export async function sheets(it) {
   await it.types(WRITTEN['1.5'][0].replace('42', '30'));
   await it.click('#run');
   it.wants(await isDone(it, 30), `a sheet’s task isn’t done: ${await it.shown('#task')}`);
+  it.wants(await it.shown('#task a') === 'next: find 2', `after the first task of a sheet comes ${await it.shown('#task a')}`);
   await begins(it, `sheet:${packed},2`);
   await it.goes(17);
   it.wants(!await isDone(it), 'a later moment is taken for the first one');
