@@ -25,7 +25,7 @@ export class Commands {
     const {page} = this, result = await page.client.ask('call', {words, text, sectors, resumes}), core = page.core(), [name] = words;
     this.ran = {status: result.status, text: result.text};
     if (result.status === 2 && !refusedOf) result.place = await this.placeOf(text, result.text);
-    const refused = showResult(page.rows, {words, ...result, text: name === 'image' ? withoutImage(result.text) : result.text}, refusedOf);
+    const refused = showResult(page.rows, {words, ...result, byHand: /^\?HEX/m.test(text), text: name === 'image' ? withoutImage(result.text) : result.text}, refusedOf);
     page.editor.area.marks(refused, true);
     if (result.status === 0 && /run|check/.test(name) && !hasJob(text)) page.say(NO_JOB);
     if (result.status === 8) page.say('More is printed than the page takes, which is 16 MB: give the job a lower ?LIMIT, or let it print less.');

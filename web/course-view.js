@@ -10,13 +10,14 @@ import {operatorParts} from './reading.js';
 import {packedText} from './share.js';
 import {sheetOf} from './sheet.js';
 
+const ANY_WAY = 'Step with →, or click a card, which sets a breakpoint, and press Enter to go there.';
 const [SHEETS, NAME, MOST_SHEETS, FORGET] = ['b67-sheets', 'b67-name', 20, 'Forget my marks'];
 
-// What must hold for a task of writing, in words.
-export function wantedText({lines, refused, refusal, leastCore, resumed, halts, has, lacks}) {
-  const parts = [...(lines ? [`It is to print: ${lines.join(', ')}${halts ? ', and then HALTED' : ''}. It is run in two cores.`] : []),
-    ...(refused ? [`Check is to refuse it${refusal ? `: ${refusal}` : ''}.`] : []), ...(leastCore ? ['Run is to succeed in that core.'] : []), ...(resumed ? [`Resume is to print: ${resumed.join(', ')}.`] : [])];
-  for (const [texts, verb] of [[has, 'must hold'], [lacks, 'may not hold']]) if (Array.isArray(texts) && texts.length) parts.push(`The deck ${verb}: ${texts.join(', ')}.`);
+// What must hold for a task of writing, in words; of one of finding, the ways to go there.
+export function wantedText({kind, how = ANY_WAY, lines, refused, refusal, leastCore, resumed, halts, has, lacks}) {
+  const parts = [...(kind === 'find' ? [how] : []), ...(lines ? [`Run must print ${lines.join(', ')}${halts ? ', and then HALTED' : ''}, and the same in a core of another size.`] : []),
+    ...(refused ? [`Check must refuse it${refusal ? `: ${refusal}` : ''}.`] : []), ...(leastCore ? ['Run must succeed in that core.'] : []), ...(resumed ? [`Resume must print ${resumed.join(', ')}.`] : [])];
+  for (const [texts, verb] of [[has, 'must have'], [lacks, 'may not have']]) if (Array.isArray(texts) && texts.length) parts.push(`The deck ${verb}: ${texts.join(', ')}.`);
   return parts.join(' ');
 }
 

@@ -64,8 +64,8 @@ export function offer(text, act) {
 }
 
 // What a command has given: its status with its meaning, the lines, and what a refusal or a fault means. Gives the card that is refused, or 0.
-export function showResult(rows, {words, status, text, milliseconds, place}, refusedOf = 'deck') {
-  const lines = text.split('\n').slice(0, -1), last = lines.at(-1) ?? '', said = status === 2 ? explained(rows, last) : null;
+export function showResult(rows, {words, status, text, milliseconds, place, byHand}, refusedOf = 'deck') {
+  const lines = text.split('\n').slice(0, -1), last = lines.at(-1) ?? '', said = status === 2 ? explained(rows, last, byHand) : null;
   const faulty = lines.some(line => endingOf(line)?.bad);
   const {means, advice} = said ?? (status ? statusText(rows, status, last) : {means: DONE[words[0]], advice: faulty ? 'A task ended by a fault.' : ''});
   put(byId('outcome'), element('p', {class: `status ${outcomeOf(status, lines)}`},

@@ -69,7 +69,7 @@ export class Editor {
     this.area.put(text);
     this.list();
     this.tell();
-    for (const id of ['outcome', 'ran']) put(byId(id));
+    for (const id of ['outcome', 'ran', 'card-help']) put(byId(id));
     byId('take').disabled = byId('resume').disabled = true;
     showJobs(text);
     byId('welcome').hidden = true;

@@ -151,5 +151,5 @@ export function causeOf(wrongs) {
 export function fittingCauses(text, fits) {
   if (!fits) return text;
   const clauses = text.split(/(?<=[.;]) +/).filter(clause => fits.some(it => it.test(clause)));
-  return clauses.map(clause => clause.replace(/;$/, '.')).map(clause => clause[0].toUpperCase() + clause.slice(1)).join(' ');
+  return clauses.map(clause => clause.replace(/;$/, '.').replace(/^or /i, '')).map(clause => clause[0].toUpperCase() + clause.slice(1)).join(' ');
 }

@@ -168,8 +168,9 @@ test('the operators of the page are those of MACHINE: names, codes, and how many
 
 test('what a card’s operator does', () => {
   const lexicon = new Lexicon(joined('operators'), joined('glossary'));
-  assert.match(lexicon.ofCard('TOP: ADD  ; the sum'), /^ADD, syllable 80: adds the two numbers on top\. a b -> a \+ b$/);
-  assert.match(lexicon.ofCard('NAMC 0,9'), /the intrinsic PRINT, which prints the value/);
+  assert.match(lexicon.ofCard('TOP: ADD  ; the sum'), /^ADD: adds the two numbers on top\.$/);
+  assert.match(lexicon.ofCard('NAMC 0,9'), /the MCP’s procedure PRINT, which prints the value/);
+  assert.match(lexicon.ofCard('VALC 2,3'), /the value of the cell\. 2,3 is cell 3 of the record of level 2\.$/);
   for (const card of ['SEGMENT MAIN 2', '; ADD', '', 'ROW R', '?END']) assert.equal(lexicon.ofCard(card), '');
   const terms = new Map(lexicon.terms.map(cells => [cells[0], cells.at(-1)]));
   for (const term of ['couple', 'accidental entry', 'thunk', 'dictionary', 'hole', 'sector, chain', 'theorem']) assert.ok(terms.get(term), term);
