@@ -90,7 +90,7 @@ export function showLine(session, width = byId('line').clientWidth || 1000) {
 
 // How deep the stack of the running task is, and how deep one gets on the line of time.
 function depthText({tasks, last}, deepest) {
-  const records = tasks.find(task => task.name === last)?.records.filter(it => it.level >= 0).length;
+  const records = tasks.find(task => task.name === last)?.records.length;
   return records ? `${countOf(records, 'record')} deep${deepest > 1 ? `, ${deepest} at most` : ''}` : '';
 }
 
@@ -110,6 +110,7 @@ export function showMoment(session, view, rows, act) {
   document.body.classList.toggle('two', Boolean(session.otherState));
   byId('pair').hidden = !session.otherState;
   byId('right').hidden = Boolean(session.otherState);
+  byId('to-stop').hidden = !stops.size;
   showFaultNote(fault, rows, act);
   const {stacks, line} = measured();
   markCards(byId('cards'), state, stops, fault?.operator);
