@@ -21,8 +21,14 @@ export function wantedText({kind, how = ANY_WAY, lines, refused, refusal, leastC
   return parts.join(' ');
 }
 
-function nameOfTask({kind, id, sheet, number}) {
-  return `${kind} ${sheet ? number : id}`;
+function numberOf({id, sheet, number}) {
+  return sheet ? number : id;
+}
+function nameOfTask(task) {
+  return `${task.kind} ${numberOf(task)}`;
+}
+function lessonOf({id}) {
+  return id.split('.')[0];
 }
 
 export class Course {
@@ -61,8 +67,8 @@ export class Course {
       element('p', {class: 'group'}, name, button('Hand in', () => this.page.guard(() => this.handsIn(name.value.trim())), 'one link that shows your teacher what you have done')),
       element('div', {id: 'sheets'}), COURSE.map(lesson => this.lessonPart(lesson)),
       element('p', {}, 'Key q asks a question before each step, in any deck. ', button(FORGET, event => this.forget(event.target))),
-      element('p', {class: 'dim'}, 'For a teacher: the address of a lesson or a task can be handed on, copy it from its link. ',
-        button('Write tasks of your own', () => this.page.sheets.shows(), 'a text that becomes a link for the class'), ' ',
+      element('p', {class: 'dim'}, 'For a teacher: the address of a lesson or an exercise can be handed on, copy it from its link.'),
+      element('p', {class: 'group'}, button('Write exercises of your own', () => this.page.sheets.shows(), 'a text that becomes a link for the class'),
         button('Look at work handed in', () => this.page.hand.open(), 'links that pupils have sent you')));
     this.showMarks();
     this.listSheets();
@@ -90,7 +96,7 @@ export class Course {
 
   showMarks() {
     const done = TASKS.filter(task => this.progress.isDone(task)).length, kept = this.page.storage ? '' : ' This browser keeps no marks for this page.';
-    put(byId('progress-said'), `${done} of ${TASKS.length} tasks are done.${kept} `, element('progress', {value: done, max: TASKS.length, 'aria-label': 'tasks done'}));
+    put(byId('progress-said'), `${done} of ${TASKS.length} exercises are done.${kept} `, element('progress', {value: done, max: TASKS.length, 'aria-label': 'exercises done'}));
     byId('lessons-button').textContent = done ? `Lessons ${done}/${TASKS.length}` : 'Lessons';
     for (const row of document.querySelectorAll('#lessons [data-task]')) {
       row.classList.toggle('done', this.progress.isDone({id: row.dataset.task}));
@@ -112,18 +118,19 @@ export class Course {
 
   // ------------------------------------------------------------ what is opened
 
-  // Opens a lesson, beside the first moment that it shows, unless a deck of one's own is open. False if there is none of that name.
+  // Opens a lesson, beside the first moment that it shows. False if there is none of that name.
   async opensLesson(id) {
     const lesson = COURSE.find(it => it.id === id);
     if (!lesson) return false;
     const {page} = this, [, moment] = lesson.shows.flat().find(Array.isArray);
-    if (page.editor.name && page.editor.isOwn()) page.show('deck');
-    else await page.places.openAddress(moment.slice(1));
+    this.leaves();
+    await page.places.openAddress(moment.slice(1));
     this.unfolds(`lesson-${id}`);
+    if (lesson === COURSE[0]) byId('lessons').scrollTop = 0; // the head of the list is the head of the course
     return true;
   }
   async opensTask(id) {
-    const lesson = COURSE.find(it => it.id === id.split('.')[0]), task = lesson?.tasks.find(it => it.id === id);
+    const lesson = COURSE.find(it => it.id === lessonOf({id})), task = lesson?.tasks.find(it => it.id === id);
     if (!task) return false;
     await this.begin(task);
     this.unfolds(`lesson-${lesson.id}`, task);
@@ -146,38 +153,59 @@ export class Course {
     (task ? document.querySelector(`[data-task="${task.id}"]`) : byId(id)).scrollIntoView({block: task ? 'nearest' : 'start'});
   }
 
-  // Begins a task: with its deck at its moment, or with the deck alone, or with a new one.
-  async begin(task) {
-    const {page} = this;
+  // Begins a task: with the deck that was written for it before, unless it is to begin anew; else with its deck at its moment, or with the
+  // deck alone, or with a new one.
+  async begin(task, anew = false) {
+    const {page} = this, {editor} = page, kept = task.kind === 'write' && !anew && editor.own.list().find(it => it.task === task.id);
     this.current = task;
+    editor.task = ''; // what was open is no work of this task
     this.tell(task.text, wantedText(task));
     this.showMarks();
+    if (kept) this.goesOn(kept);
+    else await this.opens(task);
+    editor.task = task.kind === 'write' ? task.id : '';
+    this.quiz.turn(task.kind === 'predict');
+    if (task.kind === 'predict') setTimeout(() => page.steps.goBy(1)); // the question waits for its answer, the page doesn't
+  }
+  goesOn({name}) {
+    this.page.show('deck');
+    this.page.editor.choose(name);
+  }
+  async opens(task) {
+    const {page} = this;
     if (task.at) await page.places.openAddress(task.at);
     else if (task.deck || task.on) await this.beginOn(task);
     else page.places.newDeck();
-    this.quiz.turn(task.kind === 'predict');
-    if (task.kind === 'predict') setTimeout(() => page.steps.goBy(1)); // the question waits for its answer, the page doesn't
   }
   async beginOn({deck, on, core, count}) {
     const {page} = this;
     if (on) page.editor.choose(on);
-    else page.editor.take(deck, 'The deck of a task.');
+    else page.editor.take(deck, 'The deck of an exercise.');
     byId('core').value = core;
     if (count === null) page.show('deck');
     else await page.steps.step(count, null);
   }
 
   tell(text, wanted = '', done = false) {
-    const {current, tasks} = this, next = current && tasks[tasks.indexOf(current) + 1], box = byId('task');
+    const {current, page} = this, box = byId('task'), writes = current?.kind === 'write' && !done;
+    const button = (name, title, act) => element('button', {type: 'button', title, onclick: act}, name);
     box.hidden = !text;
     box.className = done ? 'done' : '';
-    put(box, element('strong', {}, current ? `${done ? '✓ ' : ''}Task ${current.sheet ? current.number : current.id} ` : ''), element('span', {}, `${text} ${wanted}`), ' ',
-      done && next && next.sheet === current.sheet ? element('a', {href: document.querySelector(`#lessons [data-task="${next.id}"] a`)?.hash}, `next: ${nameOfTask(next)}`) : null, ' ',
-      element('button', {type: 'button', 'aria-label': 'close the task', onclick: () => this.leaves()}, '×'),
-      current?.kind === 'write' && !done ? element('button', {type: 'button', onclick: () => showHelp('Decks and cards', 'Operators')}, 'Cards and operators') : null);
+    put(box, element('p', {}, element('strong', {}, current ? `${done ? '✓ ' : ''}Exercise ${numberOf(current)} ` : ''), element('span', {}, `${text} `), element('span', {class: 'wanted'}, wanted), ' ', done ? this.nextLink() : null),
+      writes ? button('Cards and operators', 'how cards are written, and what each operator does', () => showHelp('Decks and cards', 'Operators')) : null,
+      writes ? button('Begin anew', 'with the deck as it was at first; yours stays in the list of decks', () => page.guard(() => this.begin(current, true))) : null,
+      button('×', 'close the exercise', () => this.leaves()));
+  }
+  // What comes after a task: the next one of its sheet or its lesson, or the next lesson.
+  nextLink() {
+    const {current, tasks} = this, next = current && tasks[tasks.indexOf(current) + 1];
+    if (!next || next.sheet !== current.sheet) return null;
+    if (!next.sheet && lessonOf(next) !== lessonOf(current)) return element('a', {href: `#lesson:${lessonOf(next)}`}, `next: lesson ${lessonOf(next)}`);
+    return element('a', {href: document.querySelector(`#lessons [data-task="${next.id}"] a`)?.hash}, `next: ${nameOfTask(next)}`);
   }
   leaves() {
     this.current = null;
+    this.page.editor.task = '';
     this.tell('');
     this.quiz.turn(false);
     this.showMarks();
@@ -230,11 +258,11 @@ export class Course {
   // Shows the one link that a pupil hands in, with their name in it.
   async handsIn(name) {
     const {page} = this, {work} = this.progress;
-    if (!work.size) throw new Error('Nothing is done yet, so there is nothing to hand in: do a task first.');
+    if (!work.size) throw new Error('Nothing is done yet, so there is nothing to hand in: do an exercise first.');
     if (!name) throw new Error('Type your name beside Hand in first, so that your teacher knows whose work it is.');
     keepValue(page.storage, NAME, name);
     const sheet = this.sheets.find(it => it.tasks.some(task => work.has(task.id))), mine = [...work].filter(([id]) => !id.startsWith('s') || sheet && id.startsWith(`${sheet.key}/`));
     const packed = await packedHand({name, version: page.version, sheet: sheet?.text, work: mine});
-    page.places.shows(`What ${name} hands in: ${mine.length} ${mine.length === 1 ? 'task' : 'tasks'}. Send this link to your teacher.`, page.places.withHash(`#hand:${packed}`));
+    page.places.shows(`What ${name} hands in: ${mine.length} ${mine.length === 1 ? 'exercise' : 'exercises'}. Send this link to your teacher.`, page.places.withHash(`#hand:${packed}`));
   }
 }

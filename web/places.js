@@ -49,9 +49,9 @@ export class Places {
   }
   async task({id}) {
     if (!this.page.editor.name) this.page.editor.choose(START.name);
-    if (!await this.page.course.opensTask(id)) throw new Error(`There is no task ${id} in this page: see the list of lessons.`);
+    if (!await this.page.course.opensTask(id)) throw new Error(`There is no exercise ${id} in this page: see the list of lessons.`);
   }
-  // A sheet of a teacher's own tasks, and one of them.
+  // A sheet of a teacher's own exercises, and one of them.
   async sheet({packed, number}) {
     if (!this.page.editor.name) this.page.editor.choose(START.name);
     await this.page.course.opensSheet(await unpacked(packed), number);

@@ -1,5 +1,6 @@
 // The course in a browser: each task of each lesson is done wrongly and then rightly; a teacher's sheet; and what is handed in.
 import {TASKS} from '../course.js';
+import {START} from '../decks.js';
 import {packedText, unpacked} from '../share.js';
 import {FOUND, LEAST_OF_TEN, PREDICTED, SEARCHED, WRITTEN} from '../tests/answers.js';
 
@@ -73,11 +74,24 @@ export async function course(it) {
   for (const task of TASKS) await {predict: predicts, find: finds, write: writes}[task.kind](it, task, `task:${task.id}`);
   await it.reloads();
   it.wants(await it.shown('#lessons-button') === `Lessons ${TASKS.length}/${TASKS.length}`, `marks after a reload: ${await it.shown('#lessons-button')}`);
-  it.wants(/no task 9\.9/.test((await it.opens('task:9.9')).message), 'a task that isn’t there: no sentence');
+  it.wants(/no exercise 9\.9/.test((await it.opens('task:9.9')).message), 'a task that isn’t there: no sentence');
   await it.opens('jensen,4096,30');
   const lines = await it.browser.value("['now', 'next'].map(kind => document.querySelector(`#algol .${kind}`)?.textContent.trim() ?? '').join('|')");
   it.wants(lines === 'do total := total + term;|i × i))', `beside card 30 stand ${lines}`);
+  await comesBack(it);
   await handsIn(it);
+}
+
+// Whoever comes back to a task finds the deck that they wrote for it, until they begin anew; after the last task of a lesson comes the next lesson.
+async function comesBack(it) {
+  let {text} = await it.opens('task:1.5');
+  it.wants(text === WRITTEN['1.5'][0], `back at a task stands ${text}`);
+  await it.click('#run');
+  it.wants(await it.shown('#task a') === 'next: lesson 2', `after the last task of a lesson comes ${await it.shown('#task a')}`);
+  await it.opens('task:1.2');
+  await it.browser.value("[...document.querySelectorAll('#task button')].find(it => it.textContent === 'Begin anew').click(); 0");
+  ({text} = await it.state());
+  it.wants(text === START.text, `a task that is begun anew has ${text}`);
 }
 
 // The one link of all that was done, as a teacher sees it.
@@ -151,9 +165,9 @@ export async function sheets(it) {
 // The editor of sheets: what is wrong is said with its line, and the link leads to the tasks.
 async function writesSheet(it) {
   const {browser} = it, types = text => browser.value(`{ const it = document.getElementById('sheet-text'); it.value = ${JSON.stringify(text)}; it.dispatchEvent(new Event('input')); } document.getElementById('sheet-said').textContent`);
-  await browser.value("[...document.querySelectorAll('#lessons button')].find(it => /Write tasks/.test(it.textContent)).click(); 0");
+  await browser.value("[...document.querySelectorAll('#lessons button')].find(it => /Write exercises/.test(it.textContent)).click(); 0");
   it.wants(/^Line 2 of the sheet: print: is no word/.test(await types('task: A\nprint: 5\n')), 'a wrong line of a sheet');
-  it.wants(/^3 tasks: write 1, find 2, predict 3/.test(await types(SHEET)), 'a right sheet');
+  it.wants(/^3 exercises: write 1, find 2, predict 3/.test(await types(SHEET)), 'a right sheet');
   await browser.click('#sheet-link');
   await it.until("document.getElementById('link-dialog').open");
   const address = await browser.value("document.getElementById('link-text').value");

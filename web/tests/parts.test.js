@@ -58,11 +58,11 @@ function storageFor(most) {
 
 test('decks of one’s own are kept, by two tabs too', () => {
   const storage = storageFor(100), one = new OwnDecks(storage), other = new OwnDecks(storage);
-  assert.equal(one.begin('a\n', 4096, 'two', 1), 'mine-1');
-  assert.equal(other.begin('b\n', 630, '', 2), 'mine-2');
+  assert.equal(one.begin('a\n', 4096, 'two', '1.2', 1), 'mine-1');
+  assert.equal(other.begin('b\n', 630, '', '', 2), 'mine-2');
   one.put('mine-1', {text: 'aa\n', core: '700'}, 3);
   const later = new OwnDecks(storage);
-  assert.deepEqual(later.list().map(({name, text, core, from}) => [name, text, core, from]), [['mine-1', 'aa\n', 700, 'two'], ['mine-2', 'b\n', 630, '']]);
+  assert.deepEqual(later.list().map(({name, text, core, from, task}) => [name, text, core, from, task]), [['mine-1', 'aa\n', 700, 'two', '1.2'], ['mine-2', 'b\n', 630, '', '']]);
   later.remove('mine-1');
   assert.deepEqual(new OwnDecks(storage).list().map(it => it.name), ['mine-2']);
 });
@@ -70,12 +70,12 @@ test('decks of one’s own are kept, by two tabs too', () => {
 test('decks of one’s own without storage, or in a full one', () => {
   const none = new OwnDecks(null), full = new OwnDecks(storageFor(0));
   for (const own of [none, full]) {
-    assert.equal(own.begin('a\n', 4096, '', 1), 'mine-1');
+    assert.equal(own.begin('a\n', 4096, '', '', 1), 'mine-1');
     assert.equal(own.put('mine-1', {text: 'b\n', core: 4096}, 2), false);
     assert.equal(own.get('mine-1').text, 'b\n');
   }
   const many = new OwnDecks(null);
-  for (let k = 0; k < 70; k++) many.begin(`${k}\n`, 4096, '', k);
+  for (let k = 0; k < 70; k++) many.begin(`${k}\n`, 4096, '', '', k);
   assert.equal(many.list().length, 60);
   assert.equal(many.list()[0].text, '69\n');
 });
