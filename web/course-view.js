@@ -31,6 +31,12 @@ function lessonOf({id}) {
   return id.split('.')[0];
 }
 
+// Unfolds core and backing for a lesson that is about them; the others need the stacks alone.
+function showMemoryOf({core}) {
+  byId('memory-part').open = Boolean(core);
+  byId('dump-part').open = Boolean(core);
+}
+
 export class Course {
   constructor(page) {
     Object.assign(this, {page, progress: new Progress(page.storage), quiz: new Quiz(), current: null, sheets: []});
@@ -80,7 +86,7 @@ export class Course {
       element('ul', {class: 'tasks'}, tasks.map(task => this.taskRow(task, `#task:${task.id}`))));
   }
   taskRow(task, href) {
-    return element('li', {'data-task': task.id}, element('a', {href}, nameOfTask(task)), ` ${task.name ? `${task.name}. ` : ''}${task.text} `, element('span', {class: 'dim'}, wantedText(task)));
+    return element('li', {'data-task': task.id}, element('a', {href}, nameOfTask(task)), ` ${task.name ? `${task.name}. ` : ''}${task.text} `, element('span', {class: 'dim'}, task.kind === 'write' ? wantedText(task) : ''));
   }
 
   // The sheets that this browser has got, each with a link that leads to it.
@@ -124,6 +130,7 @@ export class Course {
     if (!lesson) return false;
     const {page} = this, [, moment] = lesson.shows.flat().find(Array.isArray);
     this.leaves();
+    showMemoryOf(lesson);
     await page.places.openAddress(moment.slice(1));
     this.unfolds(`lesson-${id}`);
     if (lesson === COURSE[0]) byId('lessons').scrollTop = 0; // the head of the list is the head of the course
@@ -132,6 +139,7 @@ export class Course {
   async opensTask(id) {
     const lesson = COURSE.find(it => it.id === lessonOf({id})), task = lesson?.tasks.find(it => it.id === id);
     if (!task) return false;
+    showMemoryOf(lesson);
     await this.begin(task);
     this.unfolds(`lesson-${lesson.id}`, task);
     return true;

@@ -1,6 +1,7 @@
 // The course: docs/TEACHING.md's six lessons, each with an idea, what to look at, and tasks. A task has one of three kinds, and no key of
 // answers: `predict` is a question that the machine's next state marks; `find` holds of a state that the page shows, and `how` says the ways
-// to it; `write` is a deck that prints these lines, in two cores. A part of a text that is a pair is a link: [text, address].
+// to it; `write` is a deck that prints these lines, in two cores. A part of a text that is a pair is a link: [text, address]. With `core` a
+// lesson is about core and backing.
 import {operatorParts, recordsOf} from './reading.js';
 
 const into = cell => state => state.changes.some(it => it.into === cell);
@@ -54,7 +55,7 @@ export const COURSE = [
       {id: '4.3', kind: 'write', at: 'shared,685', text: 'What if the parent doesn’t await its child? Take the cards of AWAIT out (card 18 to 21), and the MKST of card 22 stays.', lines: ['1.1 1', '1.2 PARENT', '1.1 CRITICAL BLOCK']},
       {id: '4.4', kind: 'find', at: 'dining,3258,0', text: 'The philosophers: go to a moment at which four tasks or more wait.', how: 'Key t goes to the next change of task, e to the operator before the first fault. Below each stack stands whether its task waits.', holds: state => state.tasks.filter(task => task.condition !== 'ready').length >= 4},
       {id: '4.5', kind: 'write', text: 'Write a deck of one task that waits for an event which nobody causes.', lines: ['1.1 DEADLOCK']}]},
-  {id: '5', title: 'Paging and the theorem', idea: 'What doesn’t fit core goes to the backing. Which array is where depends on core’s size; what is printed doesn’t, and that is proved.',
+  {id: '5', title: 'Paging and the theorem', core: true, idea: 'What doesn’t fit core goes to the backing. Which array is where depends on core’s size; what is printed doesn’t, and that is proved.',
     shows: [
       ['Core has 630 words, so two arrays of 200 words can’t be in it together, and ', ['when both are made', '#two,630,8'], ' neither is, since words come into core when they are first touched.'],
       [['The STOD of card 22', '#two,630,17'], ' touches the first array, which comes into core as zeros, and its element 5 becomes 11.'],
@@ -67,7 +68,7 @@ export const COURSE = [
       {id: '5.3', kind: 'find', at: 'two,630,0', text: 'Give the deck two a core in which both arrays stay, and go to its end.', how: 'Type the words of core above, beside the deck’s name. The key End goes to the end of the run.', holds: state => state.status === 0 && state.coreWords > 630 && (state.remains?.things ?? []).filter(it => it.kind === 'array').every(it => it.at)},
       {id: '5.4', kind: 'write', at: 'ten,4096', text: 'How few words of core does the deck ten need? Run it in exactly that core.', leastCore: true, has: /^\?JOB TEN$/m},
       {id: '5.5', kind: 'find', at: 'two,630,24,4096', text: 'Two cores side by side: go to the moment at which both have printed 23.', how: 'Key o goes to the next line that is printed.', holds: state => state.count === 26 && state.lines.total > 0}]},
-  {id: '6', title: 'An image, kept and resumed', idea: 'A halted machine is a text, the image, and its backing. From both the run goes on, and prints what it had still to print, which is proved.',
+  {id: '6', title: 'An image, kept and resumed', core: true, idea: 'A halted machine is a text, the image, and its backing. From both the run goes on, and prints what it had still to print, which is proved.',
     shows: [['Below the deck, under More, the button Image halts a run after some operators, and Resume goes on from there. At ', ['operator 20 of two', '#two,630,20'], ' the 11 of the first array is in its sectors alone; in ', ['a core of 4,096', '#two,4096,20'], ' it is in the image.'],
       ['Stacks in words, at the right, is what dump prints: ', ['the same in both cores', '#two,630,20,4096'], '.']],
     tasks: [
