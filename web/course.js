@@ -70,7 +70,7 @@ export const COURSE = [
       {id: '5.5', kind: 'find', at: 'two,630,24,4096', text: 'Two cores side by side: go to the moment at which both have printed 23.', how: 'Key o goes to the next line that is printed.', holds: state => state.count === 26 && state.lines.total > 0}]},
   {id: '6', title: 'An image, kept and resumed', core: true, idea: 'A halted machine is a text, the image, and its backing. From both the run goes on, and prints what it had still to print, which is proved.',
     shows: [['Below the deck, under More, the button Image halts a run after some operators, and Resume goes on from there. At ', ['operator 20 of two', '#two,630,20'], ' the 11 of the first array is in its sectors alone; in ', ['a core of 4,096', '#two,4096,20'], ' it is in the image.'],
-      ['Stacks in words, at the right, is what dump prints: ', ['the same in both cores', '#two,630,20,4096'], '.']],
+      [['Stacks in words', '#two,630,20'], ', at the right, is what dump prints. ', ['In both cores', '#two,630,20,4096'], ' it is the same.']],
     tasks: [
       {id: '6.1', kind: 'write', at: 'two,630', text: 'Halt two after 20 operators (More, Image), then let it go on (Resume): 23 is printed.', resumed: ['1.1 23', '1.1 ENDED']},
       {id: '6.2', kind: 'write', text: 'Write a deck with a ?HALT card that prints 7 and then halts, with a task alive.', lines: ['1.1 7'], halts: true},

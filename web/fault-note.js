@@ -24,5 +24,11 @@ export function showFaultNote(fault, rows, act) {
   const button = past ? element('button', {type: 'button', onclick: () => act('back')}, 'One step back: the machine before it')
     : element('button', {type: 'button', onclick: () => act('forth')}, 'Make it');
   put(box, element('span', {class: 'sign'}, '✕'), element('p', {}, past ? '' : `The next operator, ${name}, will fault. `, faultText(rows, first),
-    others.length ? ` ${others.map(it => `${it.task} ${it.name}`).join(', ')} ${others.length > 1 ? 'end' : 'ends'} with it.` : ''), button);
+    others.length ? element('span', {class: 'others'}, ` ${othersText(first, others)} with it.`) : null), button);
+}
+
+// The tasks that end with another one, each with its fault if that is another.
+function othersText({name}, others) {
+  const same = others.every(it => it.name === name), tasks = others.map(it => (same ? it.task : `${it.task} ${it.name}`)).join(', ');
+  return `${others.length > 1 ? 'Tasks' : 'Task'} ${tasks} ${others.length > 1 ? 'end' : 'ends'}`;
 }

@@ -11,6 +11,7 @@ import {followedText, nextChoice} from '../follow.js';
 import {partOf, startOf} from '../cards-area.js';
 import {numbersForRead, withNumbers} from '../deck-view.js';
 import {decksOf, GROUPS, START} from '../decks.js';
+import {lanesBeside} from '../draw-arrows.js';
 import {intrinsicsIn, Lexicon, operatorsIn} from '../lexicon.js';
 import {INTRINSICS, MEANINGS, OPERATORS, TAKES} from '../operators.js';
 import {OwnDecks} from '../keep.js';
@@ -83,6 +84,12 @@ test('decks of one’s own without storage, or in a full one', () => {
 test('couples by the running level, and numbers', () => {
   for (const [number, level, text] of [[0x1005, 2, '2,5'], [0x0009, 2, '0,9'], [0x2002, 2, '1,2'], [0x3002, 3, '3,2'], [0x0402, 8, '8,2']]) assert.equal(coupleText(number, level), text);
   for (const [word, text] of [[5, '5'], [2 ** 46 + 5, '-5'], [2 ** 47, '#800000000000']]) assert.equal(numberText(word), text);
+});
+
+test('lanes beside a column: of arrows that pass a stack, one for each cell', () => {
+  const arrow = (kind, from, to) => ({kind, task: {name: from}, to}), columns = ['1.1', '1.2', '1.3', '1.4'];
+  const lanes = lanesBeside([arrow('ref', '1.3', '1.1 1 2'), arrow('ref', '1.4', '1.1 1 2'), arrow('wait', '1.3', '1.1 1 2'), arrow('link', '1.2', '1.1 1'), arrow('ref', '1.4', '1.2 1 3')], name => columns.indexOf(name));
+  assert.deepEqual(columns.map((_, k) => lanes(k)), [2, 1, 0, 0]);
 });
 
 test('spans of sectors', () => {
