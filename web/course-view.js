@@ -211,9 +211,19 @@ export class Course {
     if (!next.sheet && lessonOf(next) !== lessonOf(current)) return element('a', {href: `#lesson:${lessonOf(next)}`}, `next: lesson ${lessonOf(next)}`);
     return element('a', {href: document.querySelector(`#lessons [data-task="${next.id}"] a`)?.hash}, `next: ${nameOfTask(next)}`);
   }
+  // Takes up the task that was being done before the page was loaded again.
+  takesUp(id) {
+    const task = id && this.current?.id !== id && this.tasks.find(it => it.id === id);
+    if (!task) return;
+    this.current = task;
+    this.page.editor.task = task.kind === 'write' ? id : '';
+    this.tell(task.text, wantedText(task));
+    this.showMarks();
+  }
   leaves() {
     this.current = null;
     this.page.editor.task = '';
+    this.page.places.soon();
     this.tell('');
     this.quiz.turn(false);
     this.showMarks();

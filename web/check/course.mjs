@@ -88,6 +88,10 @@ async function comesBack(it) {
   it.wants(text === WRITTEN['1.5'][0], `back at a task stands ${text}`);
   await it.click('#run');
   it.wants(await it.shown('#task a') === 'next: lesson 2', `after the last task of a lesson comes ${await it.shown('#task a')}`);
+  await it.until("history.state?.task === '1.5'", 10);
+  await it.reloads();
+  ({text} = await it.state());
+  it.wants(text === WRITTEN['1.5'][0] && /^Exercise 1\.5/.test(await it.shown('#task')), `a task after a reload: ${await it.shown('#task')}`);
   await it.opens('task:1.2');
   await it.browser.value("[...document.querySelectorAll('#task button')].find(it => it.textContent === 'Begin anew').click(); 0");
   ({text} = await it.state());
