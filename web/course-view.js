@@ -79,8 +79,8 @@ export class Course {
     this.showMarks();
     this.listSheets();
   }
-  lessonPart({id, title, idea, shows, tasks}) {
-    const sentence = parts => element('li', {}, parts.map(part => (Array.isArray(part) ? element('a', {href: part[1]}, part[0]) : part)));
+  lessonPart({id, title, idea, shows, tells = {}, tasks}) {
+    const sentence = (parts, k) => element('li', {'data-tells': tells[k]}, parts.map(part => (Array.isArray(part) ? element('a', {href: part[1]}, part[0]) : part)));
     return element('details', {id: `lesson-${id}`}, element('summary', {}, `${id} ${title} `, element('span', {class: 'dim', 'data-lesson': id})),
       element('p', {}, idea, ' ', element('a', {href: `#lesson:${id}`, class: 'small'}, 'address')), element('ol', {}, shows.map(sentence)),
       element('ul', {class: 'tasks'}, tasks.map(task => this.taskRow(task, `#task:${task.id}`))));
@@ -108,6 +108,7 @@ export class Course {
       row.classList.toggle('done', this.progress.isDone({id: row.dataset.task}));
       row.classList.toggle('current', this.current?.id === row.dataset.task);
     }
+    for (const step of document.querySelectorAll('#lessons [data-tells]')) step.classList.toggle('untold', step.dataset.tells.split(' ').includes(this.current?.id) && !this.progress.isDone(this.current));
     for (const {id, key, tasks} of [...COURSE, ...this.sheets]) {
       const box = document.querySelector(`[data-lesson="${id ?? key}"]`);
       if (box) box.textContent = `${tasks.filter(task => this.progress.isDone(task)).length} of ${tasks.length}`;
@@ -199,8 +200,8 @@ export class Course {
     const button = (name, title, act) => element('button', {type: 'button', title, onclick: act}, name);
     box.hidden = !text;
     box.className = done ? 'done' : '';
-    put(box, element('p', {}, element('strong', {}, current ? `${done ? '✓ ' : ''}Exercise ${numberOf(current)} ` : ''), element('span', {}, `${text} `), element('span', {class: 'wanted'}, wanted), ' ', done ? this.nextLink() : null),
-      writes ? button('Cards and operators', 'how cards are written, and what each operator does', () => showHelp('Decks and cards', 'Operators')) : null,
+    put(box, element('p', {}, element('strong', {}, current ? `${done ? '✓ ' : ''}Exercise ${numberOf(current)} ` : ''), element('span', {}, `${text} `), element('span', {class: 'wanted'}, wanted)),
+      done ? this.nextLink() : null, writes ? button('Cards and operators', 'how cards are written, and what each operator does', () => showHelp('Decks and cards', 'Procedures of the MCP', 'Operators')) : null,
       writes ? button('Begin anew', 'with the deck as it was at first; yours stays in the list of decks', () => page.guard(() => this.begin(current, true))) : null,
       button('×', 'close the exercise', () => this.leaves()));
   }

@@ -1,7 +1,7 @@
 // The course: docs/TEACHING.md's six lessons, each with an idea, what to look at, and tasks. A task has one of three kinds, and no key of
 // answers: `predict` is a question that the machine's next state marks; `find` holds of a state that the page shows, and `how` says the ways
 // to it; `write` is a deck that prints these lines, in two cores. A part of a text that is a pair is a link: [text, address]. With `core` a
-// lesson is about core and backing.
+// lesson is about core and backing. `tells` names the tasks whose answer a sentence tells, by the sentence's place: it isn't seen then.
 import {operatorParts, recordsOf} from './reading.js';
 
 const into = cell => state => state.changes.some(it => it.into === cell);
@@ -28,7 +28,7 @@ export const COURSE = [
       {id: '2.3', kind: 'find', at: 'factorial,4096,0', text: 'Go to a moment at which task 1.1 has six records or more.', how: 'Step with →, or go to the deepest moment of all (key r), which takes a while.', holds: state => deepest(state) >= 6},
       {id: '2.4', kind: 'write', at: 'factorial,4096', text: 'Why can’t FACT have level 4? Give it that level, and press Check: the loader refuses it by its rule 8.', refused: /^LOAD \d+ REASON 8 /},
       {id: '2.5', kind: 'write', text: 'Words below an open mark can’t be taken. Write a deck that pushes a word, marks the stack with MKST, and then tries to take the word: DLET takes one.', lines: ['1.1 STACK UNDERFLOW']}]},
-  {id: '3', title: 'Call by name', idea: 'ALGOL 60 passes an expression, which is evaluated at each use. Here a thunk is passed, a procedure without parameters; an operator that wanted a value meets it, and enters it by accident.',
+  {id: '3', title: 'Call by name', tells: {1: '3.1', 2: '3.2'}, idea: 'ALGOL 60 passes an expression, which is evaluated at each use. Here a thunk is passed, a procedure without parameters; an operator that wanted a value meets it, and enters it by accident.',
     shows: [
       ['The call ', ['SUM(i, i × i)', '#jensen,4096,13'], ' passes no values: the cells 3,2 and 3,3 of its record hold references to two procedures of record 1, IREF and SQ.'],
       [['The STOD of card 24', '#jensen,4096,17'], ' is to store into 3,2, meets IREF there, and enters it by accident: record 4, which no ENTR has called.'],
@@ -42,7 +42,7 @@ export const COURSE = [
       {id: '3.4', kind: 'write', at: 'jensen,4096', text: 'What is SUM(i, 1)? Pass ONE in the place of the thunk SQ: two cards become one.', lines: ['1.1 10', '1.1 ENDED'], has: /SEGMENT SUM/},
       {id: '3.5', kind: 'write', at: 'swap,4096', text: 'SWAP(i, A[i]) fails. Let the deck call SWAP(A[i], i), which works.', lines: ['1.1 3', '1.1 1', '1.1 0', '1.1 ENDED'], has: /SEGMENT SWAP/},
       {id: '3.6', kind: 'find', at: 'manboy,32768,0', text: 'Man or boy: go to a moment at which the stack has 257 records, more than at any other.', how: 'Key r goes to the deepest moment of a run. It takes some time here.', holds: state => deepest(state) >= 257}]},
-  {id: '4', title: 'Tasks on a cactus', idea: 'A child has a stack of its own, whose first static link leads into its parent’s stack. Both see the same cells, and one may read between the other’s reading and writing.',
+  {id: '4', title: 'Tasks on a cactus', tells: {1: '4.1', 2: '4.1', 3: '4.2'}, idea: 'A child has a stack of its own, whose first static link leads into its parent’s stack. Both see the same cells, and one may read between the other’s reading and writing.',
     shows: [
       ['Two tasks add 1 to one cell, 2,2 in record 1 of task 1.1: the child 1.2, which ', ['operator 6', '#switched,685,6'], ' starts, finds it by its static link.'],
       [['Operator 7', '#switched,685,7'], ', card 14, fetches the 0 of the cell for the parent, and then the card ?SWITCH 7 1.2 hands over to the child.'],
@@ -55,7 +55,7 @@ export const COURSE = [
       {id: '4.3', kind: 'write', at: 'shared,685', text: 'What if the parent doesn’t await its child? Take the cards of AWAIT out (card 18 to 21), and the MKST of card 22 stays.', lines: ['1.1 1', '1.2 PARENT', '1.1 CRITICAL BLOCK']},
       {id: '4.4', kind: 'find', at: 'dining,3258,0', text: 'The philosophers: go to a moment at which four tasks or more wait.', how: 'Key t goes to the next change of task, e to the operator before the first fault. Below each stack stands whether its task waits.', holds: state => state.tasks.filter(task => task.condition !== 'ready').length >= 4},
       {id: '4.5', kind: 'write', text: 'Write a deck of one task that waits for an event which nobody causes.', lines: ['1.1 DEADLOCK']}]},
-  {id: '5', title: 'Paging and the theorem', core: true, idea: 'What doesn’t fit core goes to the backing. Which array is where depends on core’s size; what is printed doesn’t, and that is proved.',
+  {id: '5', title: 'Paging and the theorem', core: true, tells: {2: '5.1', 3: '5.2'}, idea: 'What doesn’t fit core goes to the backing. Which array is where depends on core’s size; what is printed doesn’t, and that is proved.',
     shows: [
       ['Core has 630 words, so two arrays of 200 words can’t be in it together, and ', ['when both are made', '#two,630,8'], ' neither is, since words come into core when they are first touched.'],
       [['The STOD of card 22', '#two,630,17'], ' touches the first array, which comes into core as zeros, and its element 5 becomes 11.'],

@@ -44,7 +44,7 @@ class StacksDrawing {
   // A text as it is drawn: shorter if many stacks are to be in view.
   text(long) {
     if (!this.short) return long;
-    return long.replace(/^waits at cell (\d+) of record (\S+) (\d+)$/, 'waits $2 r$3 c$1').replace('awaits the end of task', 'awaits').replaceAll(' record ', ' r').replaceAll(', cell ', ' c').replace(' · not in core', ' out');
+    return long.replace(/^waits at cell (\d+) of record (\d+) of task (\S+)$/, 'waits $3 r$2 c$1').replace('awaits the end of task', 'awaits').replaceAll(' record ', ' r').replaceAll(', cell ', ' c').replace(' · not in core', ' out');
   }
 
   // Adds a part: what makes it at the origin, by a key that says all it depends on, and its place.

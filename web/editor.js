@@ -82,8 +82,10 @@ export class Editor {
     this.changed();
   }
 
-  // After a change by hand. A deck of the repository becomes one of one's own.
+  // After a change by hand. A deck of the repository becomes one of one's own; another job has nothing to do with the core of the one before.
   typed() {
+    const was = (this.decks.get(this.name) ?? this.own.get(this.name))?.text ?? '';
+    if (firstJob(this.text) && firstJob(was) && firstJob(this.text) !== firstJob(was)) byId('core').value = USUAL_CORE;
     if (!this.isOwn() && this.decks.get(this.name).text !== this.text) {
       this.name = this.own.begin(this.text, byId('core').value, this.name, this.task);
       this.about = '';

@@ -1,7 +1,7 @@
 // The note on a fault, between the controls and the pictures: at the operator that ended a task, and at the machine before it.
 import {byId, element, put, taskClass} from './elements.js';
 import {explained} from './messages.js';
-import {causeOf, fittingCauses} from './faults.js';
+import {causeOf, fittingCauses, fittingMeaning} from './faults.js';
 
 // The faults of the operator that is shown, or of the next one if the page knows them by now; null if there are none.
 export function faultShown({state, faults}) {
@@ -10,9 +10,9 @@ export function faultShown({state, faults}) {
   return next ? {...next, at: state.count + 1, past: false} : null;
 }
 
-function faultText(rows, {task, name, said, fits}) {
-  const row = explained(rows, `${task} ${name}`);
-  return [element('strong', {class: taskClass(task)}, `task ${task}: ${name}`), `. ${row?.means ?? ''} ${said} `, element('span', {class: 'dim'}, fittingCauses(row?.advice ?? '', fits))];
+function faultText(rows, fault) {
+  const {task, name, said, fits} = fault, row = explained(rows, `${task} ${name}`);
+  return [element('strong', {class: taskClass(task)}, `task ${task}: ${name}`), `. ${fittingMeaning(row?.means, fault)} ${said} `, element('span', {class: 'dim'}, fittingCauses(row?.advice ?? '', fits))];
 }
 
 // Shows the note. Of many tasks that end at once one says why.

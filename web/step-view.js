@@ -113,7 +113,7 @@ export function showMoment(session, view, rows, act) {
   byId('to-stop').hidden = !stops.size;
   showFaultNote(fault, rows, act);
   const {stacks, line} = measured();
-  markCards(byId('cards'), state, stops, fault?.operator);
+  markCards(byId('cards'), state, stops, faultyOf(fault));
   showAlgol(byId('algol'), session);
   showPrinted(byId('printed'), state.lines, state.fresh.length);
   byId('stacks').classList.toggle('past', shown !== state);
@@ -129,6 +129,12 @@ export function showMoment(session, view, rows, act) {
   showFollowed(state, view);
   showWalked(state, view);
   showLine(session, line);
+}
+
+// The operator whose card is marked as faulty: of a program that ran out of its segment the last one there.
+function faultyOf(fault) {
+  const after = fault?.wrongs.find(it => it.after)?.after;
+  return after ? {...fault.operator, card: after} : fault?.operator;
 }
 
 // The list of changes as a part, which stays if the next operator says the same.

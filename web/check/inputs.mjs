@@ -60,7 +60,7 @@ export async function faults(it) {
   const {browser} = it;
   await it.writes('?JOB T\n?ASM\nSEGMENT MAIN 2\nLT8 7\nMKST\nNAMC 0,9\nNAMC 2,2\nONE\nADD\nENTR\nEXIT\n?END\n', 630);
   await it.click('#run');
-  it.wants(/^Take \d+ words of core, and run$/.test(await it.shown('.offer')), 'no button for a core that suffices');
+  it.wants(/^Take \d+ words of core, enough/.test(await it.shown('.offer')), 'no button for a core that suffices');
   await it.click('.offer');
   if (/^Find/.test(await it.shown('.offer'))) await browser.click('.offer'); // of a run that took long, on a slow machine
   await it.until("document.querySelector('#look')", 30);
@@ -74,6 +74,19 @@ export async function faults(it) {
   await it.opens('halt,4096');
   await it.click('#run');
   it.wants(/status 3/.test(await it.shown('.status.halted')), `a wanted halt: ${await it.shown('.status')}`);
+}
+
+// Mistakes of a first deck: the card and what is wrong with it are named, and another job has nothing to do with the core of the one before.
+export async function mistakes(it) {
+  const deck = cards => `?JOB T\n?ASM\nSEGMENT MAIN 2\n${cards.join('\n')}\n?END\n`;
+  await it.opens('two,630');
+  await it.types(deck(['ONE', 'ZERO']));
+  const {core} = await it.click('#run');
+  await it.until("document.querySelector('#look')", 30);
+  it.wants(core === 4096 && await it.shown('#gutter .refused') === '5' && /after card 5\. Card 5, ZERO, is the last one/.test(await it.shown('#outcome')), `no EXIT, in ${core} words: ${await it.shown('#outcome')}`);
+  await it.types(deck(['ONE', 'ONE', 'AD', 'EXIT']));
+  await it.click('#run');
+  it.wants(await it.shown('#gutter .refused') === '6' && /^No operator is called AD\. Is it to be ADD\?/.test(await it.shown('.status.bad')), `AD for ADD: ${await it.shown('.status')}`);
 }
 
 // Names for cells: the machine gets couples, the picture has the names, and a wrong line is refused with its card.
