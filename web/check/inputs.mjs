@@ -55,6 +55,12 @@ export async function bad_input(it) {
   await stops(it);
 }
 
+// Waits until the page tells where a fault is; of a run that took long, on a slow machine, it is looked for at a press only.
+async function findsFault(it) {
+  if (/^Find/.test(await it.shown('.offer'))) await it.browser.click('.offer');
+  await it.until("document.querySelector('#look')", 120);
+}
+
 // A fault: Run says so and marks its card, a button shows the machine before it, and the last machine stays in view. A halt isn't red.
 export async function faults(it) {
   const {browser} = it;
@@ -62,8 +68,7 @@ export async function faults(it) {
   await it.click('#run');
   it.wants(/^Take \d+ words of core, enough/.test(await it.shown('.offer')), 'no button for a core that suffices');
   await it.click('.offer');
-  if (/^Find/.test(await it.shown('.offer'))) await browser.click('.offer'); // of a run that took long, on a slow machine
-  await it.until("document.querySelector('#look')", 30);
+  await findsFault(it);
   it.wants(await it.shown('#gutter .refused') === '9' && /status 0/.test(await it.shown('.status.bad')), `a fault at card 9: ${await it.shown('#gutter .refused')} ${await it.shown('.status')}`);
   let state = await it.click('#look');
   await it.until("!document.getElementById('fault').hidden", 10);
@@ -82,7 +87,7 @@ export async function mistakes(it) {
   await it.opens('two,630');
   await it.types(deck(['ONE', 'ZERO']));
   const {core} = await it.click('#run');
-  await it.until("document.querySelector('#look')", 30);
+  await findsFault(it);
   it.wants(core === 4096 && await it.shown('#gutter .refused') === '5' && /after card 5\. Card 5, ZERO, is the last one/.test(await it.shown('#outcome')), `no EXIT, in ${core} words: ${await it.shown('#outcome')}`);
   await it.types(deck(['ONE', 'ONE', 'AD', 'EXIT']));
   await it.click('#run');
