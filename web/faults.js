@@ -72,7 +72,7 @@ function address({name, operands, task, state, taken}) {
   if (!found) return {said: `The couple ${couple} names a cell of level ${level}, and no record of that level is in reach.`, fits: [/level is wrong/]};
   const cells = found.record.cells, last = cells.at(-1)?.at;
   if (cells.some(it => it.at === at)) return {said: '', fits: null};
-  return {said: `The couple ${couple} names cell ${at} of record ${found.record.number}, which has ${last ? `the cells 2 to ${last}` : 'no cell'}.`, fits: [at < 2 ? /displacement 2/ : /isn't pushed yet/]};
+  return {said: `The couple ${couple} names cell ${at} of record ${found.record.number}, and that record has ${last ? `the cells 2 to ${last}` : 'no cells'}.`, fits: [at < 2 ? /displacement 2/ : /isn't pushed yet/]};
 }
 
 function integer({name, taken}) {

@@ -6,8 +6,8 @@ import {FOUND, LEAST_OF_TEN, PREDICTED, SEARCHED, WRITTEN} from '../tests/answer
 
 const DONE = "document.getElementById('task').className === 'done'";
 
-async function isDone(it, seconds = 0) {
-  if (seconds) await it.browser.until(DONE, seconds).catch(() => {});
+async function isDone(it, waits = false) {
+  if (waits) await it.browser.until(DONE).catch(() => {});
   return it.browser.value(DONE);
 }
 // Opens a task, and leaves the keyboard to the page.
@@ -17,17 +17,17 @@ async function begins(it, hash) {
 }
 
 async function answers(it, answer) {
-  await it.until("document.querySelector('#quiz form')", 20);
+  await it.until("document.querySelector('#quiz form')");
   await it.browser.value(`{ const quiz = document.getElementById('quiz'), field = quiz.querySelector('input'), answer = ${JSON.stringify(answer)};
     if (field) { field.value = answer; quiz.querySelector('form').requestSubmit(); }
     else [...quiz.querySelectorAll('button')].find(it => it.textContent === answer).click(); } 0`);
-  await it.until("/Right:|No:/.test(document.getElementById('quiz').textContent)", 20);
+  await it.until("/Right:|No:/.test(document.getElementById('quiz').textContent)");
 }
 async function predicts(it, {id}, hash) {
   for (const [answer, right] of [[PREDICTED[id][1], false], [PREDICTED[id][0], true]]) {
     await begins(it, hash);
     await answers(it, answer);
-    it.wants(await isDone(it, right ? 20 : 0) === right, `task ${id}: ${answer} is marked ${right ? 'wrong' : 'right'}`);
+    it.wants(await isDone(it, right) === right, `task ${id}: ${answer} is marked ${right ? 'wrong' : 'right'}`);
   }
 }
 
@@ -45,7 +45,7 @@ async function finds(it, {id}, hash) {
     it.wants(!await isDone(it), `task ${id} is done at operator ${FOUND[id][1]}`);
     await it.goes(FOUND[id][0]);
   }
-  it.wants(await isDone(it, 30), `task ${id} isn't done: ${await it.shown('#task')}`);
+  it.wants(await isDone(it, true), `task ${id} isn't done: ${await it.shown('#task')}`);
 }
 
 async function runsOrChecks(it, task) {
@@ -64,7 +64,7 @@ async function writes(it, task, hash) {
     await runsOrChecks(it, task);
     if (!right) it.wants(!await isDone(it), `task ${id} is done by a deck that doesn't: ${await it.shown('#task')}`);
   }
-  it.wants(await isDone(it, 30), `task ${id} isn't done: ${await it.shown('#task')} ${await it.shown('#outcome')}`);
+  it.wants(await isDone(it, true), `task ${id} isn't done: ${await it.shown('#task')} ${await it.shown('#outcome')}`);
 }
 
 // Each task of each lesson, wrongly and then rightly; marks are there after a reload.
@@ -88,7 +88,7 @@ async function comesBack(it) {
   it.wants(text === WRITTEN['1.5'][0], `back at a task stands ${text}`);
   await it.click('#run');
   it.wants(await it.shown('#task a') === 'next: lesson 2', `after the last task of a lesson comes ${await it.shown('#task a')}`);
-  await it.until("history.state?.task === '1.5'", 10);
+  await it.until("history.state?.task === '1.5'");
   await it.reloads();
   ({text} = await it.state());
   it.wants(text === WRITTEN['1.5'][0] && /^Exercise 1\.5/.test(await it.shown('#task')), `a task after a reload: ${await it.shown('#task')}`);
@@ -151,17 +151,17 @@ export async function sheets(it) {
   it.wants(!await isDone(it), 'a sheet’s task is done by the deck with which it opens');
   await it.types(WRITTEN['1.5'][0].replace('42', '30'));
   await it.click('#run');
-  it.wants(await isDone(it, 30), `a sheet’s task isn’t done: ${await it.shown('#task')}`);
+  it.wants(await isDone(it, true), `a sheet’s task isn’t done: ${await it.shown('#task')}`);
   it.wants(await it.shown('#task a') === 'next: find 2', `after the first task of a sheet comes ${await it.shown('#task a')}`);
   await begins(it, `sheet:${packed},2`);
   await it.goes(17);
   it.wants(!await isDone(it), 'a later moment is taken for the first one');
   await it.goes(12);
-  it.wants(await isDone(it, 30), `a sheet’s moment isn’t found: ${await it.shown('#task')}`);
+  it.wants(await isDone(it, true), `a sheet’s moment isn’t found: ${await it.shown('#task')}`);
   for (const [answer, right] of [['6', false], ['5', true]]) {
     await begins(it, `sheet:${packed},3`);
     await answers(it, answer);
-    it.wants(await isDone(it, right ? 20 : 0) === right, `a sheet’s question: ${answer}`);
+    it.wants(await isDone(it, right) === right, `a sheet’s question: ${answer}`);
   }
   await writesSheet(it);
 }

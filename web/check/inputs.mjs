@@ -58,7 +58,7 @@ export async function bad_input(it) {
 // Waits until the page tells where a fault is; of a run that took long, on a slow machine, it is looked for at a press only.
 async function findsFault(it) {
   if (/^Find/.test(await it.shown('.offer'))) await it.browser.click('.offer');
-  await it.until("document.querySelector('#look')", 120);
+  await it.until("document.querySelector('#look')");
 }
 
 // A fault: Run says so and marks its card, a button shows the machine before it, and the last machine stays in view. A halt isn't red.
@@ -71,7 +71,7 @@ export async function faults(it) {
   await findsFault(it);
   it.wants(await it.shown('#gutter .refused') === '9' && /status 0/.test(await it.shown('.status.bad')), `a fault at card 9: ${await it.shown('#gutter .refused')} ${await it.shown('.status')}`);
   let state = await it.click('#look');
-  await it.until("!document.getElementById('fault').hidden", 10);
+  await it.until("!document.getElementById('fault').hidden");
   it.wants(state.count === 5 && await it.shown('#cards .faulty .stop') === '9' && await it.shown('#stacks .wrong-sign') === '✕', `before a fault: ${state.count}`);
   state = await it.click('#fault button');
   it.wants(state.count === 6 && /couple 2,2/.test(await it.shown('#fault')) && await it.shown('#stacks.past .wrong-sign') === '✕', `at a fault: ${state.count} ${await it.shown('#fault')}`);
@@ -120,14 +120,14 @@ export async function keeps(it) {
   await it.writes(text, 4096);
   await it.click('#step');
   for (let k = 0; k < 3; k++) await it.pressed('own', text, 'ArrowRight');
-  await it.until("location.hash.startsWith('#deck:') && location.hash.endsWith(',4096,3')", 10);
+  await it.until("location.hash.startsWith('#deck:') && location.hash.endsWith(',4096,3')");
   const address = await browser.value('location.href');
   await it.reloads();
   await is('own deck after a reload', 3);
-  await it.until("location.hash.endsWith(',4096,3')", 10);
+  await it.until("location.hash.endsWith(',4096,3')");
   await it.opens('jensen,4096,13');
   await browser.value('history.back()');
-  await it.until(holds, 10);
+  await it.until(holds);
   await is('own deck after Back', 3);
   await browser.opens('about:blank');
   await browser.opens(address);
@@ -135,7 +135,7 @@ export async function keeps(it) {
   await is('own deck by its address', 3);
   await it.opens('two,630');
   await browser.value("{ const it = document.getElementById('pick'); it.value = [...it.options].find(option => option.text.includes('OWN')).value; it.dispatchEvent(new Event('change')); } 0");
-  await it.until(holds, 10);
+  await it.until(holds);
   it.wants(/isn’t whole/.test((await it.opens('deck:AAAA,4096,3')).message), 'half an address: no sentence');
   it.wants(/can’t read/.test((await it.opens('two;630')).message), 'an address that is none: no sentence');
 }

@@ -33,7 +33,7 @@ const FAULTS = [
   ['INVALID INDEX', 'MKST / NAMC 0,8 / LT8 9 / ENTR / NAMC 2,2 / LT8 9 / NXLV / EXIT', 10, /^The index is 9, and the array has 9 words: the elements 0 to 8\.$/, /^An index that starts at 1/],
   ['INVALID INDEX', 'MKST / NAMC 0,8 / LT8 9 / ENTR / NAMC 2,2 / ONE / CHSN / NXLV / EXIT', 11, /^The index is -1, and/, ''],
   ['INVALID INDEX', 'MKST / NAMC 0,8 / ZERO / ENTR / EXIT', 7, /^ARRAYDEC gets 0; a length/, ''],
-  ['INVALID ADDRESS', 'ONE / VALC 2,9 / EXIT', 5, /^The couple 2,9 names cell 9 of record 1, which has the cells 2 to 2\.$/, /^The cell isn't pushed yet/],
+  ['INVALID ADDRESS', 'ONE / VALC 2,9 / EXIT', 5, /^The couple 2,9 names cell 9 of record 1, and that record has the cells 2 to 2\.$/, /^The cell isn't pushed yet/],
   ['INVALID ADDRESS', 'ONE / VALC 2,0 / EXIT', 5, /cell 0 of record 1/, /^The first cell has displacement 2, not 0\.$/],
   ['INTEGER OVERFLOW', 'LT48 549755813887 / ONE / ADD / EXIT', 6, /the result would be 549,755,813,888\./, /numbers are too large/],
   ['DIVIDE BY ZERO', 'LT8 7 / ZERO / IDIV / EXIT', 6, /^IDIV takes 7 and 0\.$/, /^Test the divisor first\.$/],
