@@ -17,12 +17,12 @@ function resizeTo({steps, editor}, size) {
   steps.redraw();
 }
 
-// The view for a class has no bars, and large letters; the size that was there before comes back after it.
+// The view for a class has no bars, no list of lessons, and large letters; the list and the size that were there before come back after it.
 function togglePresent(page) {
-  const on = document.body.classList.toggle('present');
-  const {view} = page.steps;
-  if (on) view.sizeBefore = view.size;
+  const on = document.body.classList.toggle('present'), {view} = page.steps;
+  if (on) Object.assign(view, {sizeBefore: view.size, lessonsBefore: !byId('lessons').hidden});
   byId('leave-class').hidden = !on;
+  if (view.lessonsBefore) page.showLessons(!on);
   resizeTo(page, on ? Math.max(OF_CLASS, view.size) : view.sizeBefore ?? view.size);
 }
 
