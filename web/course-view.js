@@ -80,7 +80,7 @@ export class Course {
     this.listSheets();
   }
   lessonPart({id, title, idea, shows, tells = {}, tasks}) {
-    const sentence = (parts, k) => element('li', {'data-tells': tells[k]}, parts.map(part => (Array.isArray(part) ? element('a', {href: part[1]}, part[0]) : part)));
+    const sentence = (parts, k) => element('li', {'data-tells': tells[k]}, element('span', {}, parts.map(part => (Array.isArray(part) ? element('a', {href: part[1]}, part[0]) : part))));
     return element('details', {id: `lesson-${id}`}, element('summary', {}, `${id} ${title} `, element('span', {class: 'dim', 'data-lesson': id})),
       element('p', {}, idea, ' ', element('a', {href: `#lesson:${id}`, class: 'small'}, 'address')), element('ol', {}, shows.map(sentence)),
       element('ul', {class: 'tasks'}, tasks.map(task => this.taskRow(task, `#task:${task.id}`))));

@@ -42,7 +42,7 @@ export const COURSE = [
       {id: '3.4', kind: 'write', at: 'jensen,4096', text: 'What is SUM(i, 1)? Pass ONE in the place of the thunk SQ: two cards become one.', lines: ['1.1 10', '1.1 ENDED'], has: /SEGMENT SUM/},
       {id: '3.5', kind: 'write', at: 'swap,4096', text: 'SWAP(i, A[i]) fails. Let the deck call SWAP(A[i], i), which works.', lines: ['1.1 3', '1.1 1', '1.1 0', '1.1 ENDED'], has: /SEGMENT SWAP/},
       {id: '3.6', kind: 'find', at: 'manboy,32768,0', text: 'Man or boy: go to a moment at which the stack has 257 records, more than at any other.', how: 'Key r goes to the deepest moment of a run. It takes some time here.', holds: state => deepest(state) >= 257}]},
-  {id: '4', title: 'Tasks on a cactus', tells: {1: '4.1', 2: '4.1', 3: '4.2'}, idea: 'A child has a stack of its own, whose first static link leads into its parent’s stack. Both see the same cells, and one may read between the other’s reading and writing.',
+  {id: '4', title: 'Tasks on a cactus', tells: {1: '4.1', 2: '4.1', 3: '4.1 4.2'}, idea: 'A child has a stack of its own, whose first static link leads into its parent’s stack. Both see the same cells, and one may read between the other’s reading and writing.',
     shows: [
       ['Two tasks add 1 to one cell, 2,2 in record 1 of task 1.1: the child 1.2, which ', ['operator 6', '#switched,685,6'], ' starts, finds it by its static link.'],
       [['Operator 7', '#switched,685,7'], ', card 14, fetches the 0 of the cell for the parent, and then the card ?SWITCH 7 1.2 hands over to the child.'],
@@ -55,7 +55,7 @@ export const COURSE = [
       {id: '4.3', kind: 'write', at: 'shared,685', text: 'What if the parent doesn’t await its child? In the deck shared take the cards of AWAIT out (card 18 to 21), and the MKST of card 22 stays.', lines: ['1.1 1', '1.2 PARENT', '1.1 CRITICAL BLOCK']},
       {id: '4.4', kind: 'find', at: 'dining,3258,0', text: 'The philosophers: go to a moment at which four tasks or more wait.', how: 'Key t goes to the next change of task, e to the operator before the first fault. Below each stack stands whether its task waits.', holds: state => state.tasks.filter(task => task.condition !== 'ready').length >= 4},
       {id: '4.5', kind: 'write', text: 'Write a deck of one task that waits for an event which nobody causes. WAIT is a procedure of the MCP, and takes the couple of a cell with 0.', lines: ['1.1 DEADLOCK']}]},
-  {id: '5', title: 'Paging and the theorem', core: true, tells: {2: '5.1', 3: '5.2'}, idea: 'What doesn’t fit core goes to the backing. Which array is where depends on core’s size; what is printed doesn’t, and that is proved.',
+  {id: '5', title: 'Paging and the theorem', core: true, tells: {2: '5.1 5.2', 3: '5.2'}, idea: 'What doesn’t fit core goes to the backing. Which array is where depends on core’s size; what is printed doesn’t, and that is proved.',
     shows: [
       ['Core has 630 words, so two arrays of 200 words can’t be in it together, and ', ['when both are made', '#two,630,8'], ' neither is, since words come into core when they are first touched.'],
       [['The STOD of card 22', '#two,630,17'], ' touches the first array, which comes into core as zeros, and its element 5 becomes 11.'],

@@ -10,7 +10,7 @@ import {showTimeline, windowOf} from './timeline.js';
 import {followedText} from './follow.js';
 import {statusText} from './messages.js';
 import {cardsOf} from './cards.js';
-import {cellWords} from './walk.js';
+import {cellWords, GONE} from './walk.js';
 import {faultShown, showFaultNote} from './fault-note.js';
 
 // The operator's name and operands, without a label.
@@ -52,7 +52,7 @@ function endsText(endings) {
 function endText(state, rows, ends) {
   if (state.status === 0) return `${ends}. No task lives any more; what you see is the machine before this operator`;
   const {means, advice} = statusText(rows, state.status, state.lines.shown.at(-1));
-  return `the run stops here. ${means} ${advice}`;
+  return `the run stops here. ${means} ${advice.replace(', or press the button', '')}`;
 }
 
 // The name that a card has in the place of a couple; empty if it has none.
@@ -150,8 +150,9 @@ function showFollowed(state, {followed}) {
 
 // The words of the cell that the keys have come to.
 function showWalked(state, {walked}) {
-  byId('walked').hidden = !walked;
-  put(byId('walked'), cellWords(state, walked));
+  const words = walked ? cellWords(state, walked) : '';
+  byId('walked').hidden = !words || words === GONE;
+  put(byId('walked'), words);
 }
 
 // One of two cores: what changed, core, and the lines.
@@ -180,6 +181,7 @@ function outText(state) {
 
 function showPair({state, otherState}, view) {
   byId('theorem').textContent = theoremText(state, otherState);
+  byId('theorem').className = state.count === otherState.count && state.status === otherState.status ? '' : 'apart';
   showOne(byId('first'), state, view);
   showOne(byId('second'), otherState, view);
 }

@@ -239,6 +239,11 @@ export class Steps {
     speak(cellWords(this.session.state, this.view.walked));
   }
 
+  walksOff() {
+    this.view.walked = '';
+    this.redraw();
+  }
+
   // What is shown, for tests.
   told() {
     const {state, otherState, other} = this.shown ?? {}, {page} = this;
