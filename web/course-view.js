@@ -4,7 +4,7 @@ import {COURSE, TASKS} from './course.js';
 import {packedHand, sameElsewhere} from './handin.js';
 import {showHelp} from './help.js';
 import {keepValue, keptValue} from './keep.js';
-import {deckOfTask, isFound, isWritten, Progress} from './progress.js';
+import {deckOfTask, isFound, isWritten, Progress, whyNot} from './progress.js';
 import {Quiz} from './quiz.js';
 import {operatorParts} from './reading.js';
 import {packedText} from './share.js';
@@ -255,13 +255,13 @@ export class Course {
     const {current: task, page} = this, ask = (name, data) => page.client.ask(name, data), {text: deck} = page.editor;
     if (task?.kind !== 'write') return;
     const least = task.leastCore && words[0] === 'run' && status === 0 ? await ask('coreFor', {deck: text, core: 256}) : null;
-    if (!isWritten(task, {words, text, status, printed, core, least})) return this.notYet(task, words, status);
+    if (!isWritten(task, {words, text, status, printed, core, least})) return this.notYet(task, words, status, whyNot(task, deck, printed));
     if (task.lines && !await sameElsewhere(ask, {text, core}, printed)) return;
     this.done(task, {deck, core, halt}, task.lines ? 'Done: these are the lines, and in another core too.' : `Done${task.leastCore ? `: ${core} words are the fewest` : ''}.`);
   }
-  // Says that a run hasn't done the task, once it was one that could have.
-  notYet(task, words, status) {
-    if (words[0] === 'run' && status < 4 && !task.resumed) this.tell(task.text, `${wantedText(task)} Not yet.`);
+  // Says that a run hasn't done the task, and why, once it was one that could have.
+  notYet(task, words, status, why) {
+    if (words[0] === 'run' && status < 4 && !task.resumed) this.tell(task.text, `${wantedText(task)} Not yet. ${why}`);
   }
 
   // Asks before a step; a right answer at the moment of a task to predict does it.
