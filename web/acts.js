@@ -17,12 +17,13 @@ function resizeTo({steps, editor}, size) {
   steps.redraw();
 }
 
-// The view for a class has no bars, and large letters; the size that was there before comes back after it.
+// The view for a class has no bars, no list of lessons, and large letters; the list and the size that were there before come back after it.
 function togglePresent(page) {
-  const on = document.body.classList.toggle('present');
-  const {view} = page.steps;
-  if (on) view.sizeBefore = view.size;
+  const on = document.body.classList.toggle('present'), {view} = page.steps;
+  if (on) Object.assign(view, {sizeBefore: view.size, lessonsBefore: !byId('lessons').hidden});
   byId('leave-class').hidden = !on;
+  if (!on) view.fit = document.body.classList.toggle('wide', false); // so that it always begins alike
+  if (view.lessonsBefore) page.showLessons(!on);
   resizeTo(page, on ? Math.max(OF_CLASS, view.size) : view.sizeBefore ?? view.size);
 }
 
@@ -43,8 +44,9 @@ function toggleTwo(page) {
   });
 }
 
-// Stops what is computed; where nothing is, leaves the view for a class, or closes the lessons.
+// Stops what is computed; where nothing is, leaves the cell that the keys have come to, or the view for a class, or closes the lessons.
 function escape(page) {
+  if (byId('busy').hidden && page.steps.shown && page.steps.view.walked) return page.steps.walksOff();
   if (document.body.classList.contains('present') && byId('busy').hidden) return togglePresent(page);
   if (!byId('busy').hidden) return page.guard(() => page.steps.stopped());
   if (!byId('lessons').hidden) toggleLessons(page);

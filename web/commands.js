@@ -5,6 +5,7 @@ import {hasJob} from './cards.js';
 import {offer, showFault, showResult} from './deck-view.js';
 import {USUAL_CORE} from './editor.js';
 import {runWords} from './program.js';
+import {refusedWord} from './refusals.js';
 
 const MOST_CORE = 1048575;
 const SOON_FOUND = 1000; // milliseconds of a run whose fault is looked for unasked
@@ -25,7 +26,7 @@ export class Commands {
     const {page} = this, result = await page.client.ask('call', {words, text, sectors, resumes}), core = page.core(), [name] = words;
     this.ran = {status: result.status, text: result.text};
     if (result.status === 2 && !refusedOf) result.place = await this.placeOf(text, result.text);
-    const refused = showResult(page.rows, {words, ...result, text: name === 'image' ? withoutImage(result.text) : result.text}, refusedOf);
+    const refused = showResult(page.rows, {words, ...result, byHand: /^\?HEX/m.test(text), word: refusedWord(result.text, text), text: name === 'image' ? withoutImage(result.text) : result.text}, refusedOf);
     page.editor.area.marks(refused, true);
     if (result.status === 0 && /run|check/.test(name) && !hasJob(text)) page.say(NO_JOB);
     if (result.status === 8) page.say('More is printed than the page takes, which is 16 MB: give the job a lower ?LIMIT, or let it print less.');
@@ -64,7 +65,7 @@ export class Commands {
       const found = await page.client.ask('fault', {deck: text, core});
       if (!found || text !== page.given()) return;
       showFault(page.rows, found, () => page.steps.step(found.count - 1));
-      page.editor.area.marks(found.operator.card);
+      page.editor.area.marks(found.operator.card || found.after);
     };
     if (milliseconds < SOON_FOUND) await find();
     else offer('Find the operator of the first fault', () => page.guard(find));
@@ -75,7 +76,7 @@ export class Commands {
       await page.coreIs(words);
       return this.run();
     };
-    if (words && words <= MOST_CORE && text === page.given()) offer(`Take ${words.toLocaleString('en')} words of core, and run`, take);
+    if (words && words <= MOST_CORE && text === page.given()) offer(`Take ${words.toLocaleString('en')} words of core, enough for the whole run, and run`, take);
   }
 
   image() {

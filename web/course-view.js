@@ -4,30 +4,43 @@ import {COURSE, TASKS} from './course.js';
 import {packedHand, sameElsewhere} from './handin.js';
 import {showHelp} from './help.js';
 import {keepValue, keptValue} from './keep.js';
-import {deckOfTask, isFound, isWritten, Progress} from './progress.js';
+import {deckOfTask, isFound, isWritten, Progress, whyNot} from './progress.js';
 import {Quiz} from './quiz.js';
 import {operatorParts} from './reading.js';
 import {packedText} from './share.js';
 import {sheetOf} from './sheet.js';
 
+const ANY_WAY = 'Step with →, or click a card, which sets a breakpoint, and press Enter to go there.';
 const [SHEETS, NAME, MOST_SHEETS, FORGET] = ['b67-sheets', 'b67-name', 20, 'Forget my marks'];
 
-// What must hold for a task of writing, in words.
-export function wantedText({lines, refused, refusal, leastCore, resumed, halts, has, lacks}) {
-  const parts = [...(lines ? [`It is to print: ${lines.join(', ')}${halts ? ', and then HALTED' : ''}. It is run in two cores.`] : []),
-    ...(refused ? [`Check is to refuse it${refusal ? `: ${refusal}` : ''}.`] : []), ...(leastCore ? ['Run is to succeed in that core.'] : []), ...(resumed ? [`Resume is to print: ${resumed.join(', ')}.`] : [])];
-  for (const [texts, verb] of [[has, 'must hold'], [lacks, 'may not hold']]) if (Array.isArray(texts) && texts.length) parts.push(`The deck ${verb}: ${texts.join(', ')}.`);
+// What must hold for a task of writing, in words; of one of finding, the ways to go there.
+export function wantedText({kind, how = ANY_WAY, lines, refused, refusal, leastCore, resumed, halts, has, lacks}) {
+  const parts = [...(kind === 'find' ? [how] : []), ...(lines ? [`Run must print ${lines.join(', ')}${halts ? ', and then HALTED' : ''}, and the same in a core of another size.`] : []),
+    ...(refused ? [`Check must refuse it${refusal ? `: ${refusal}` : ''}.`] : []), ...(leastCore ? ['Run must succeed in that core.'] : []), ...(resumed ? [`Resume must print ${resumed.join(', ')}.`] : [])];
+  for (const [texts, verb] of [[has, 'must have'], [lacks, 'may not have']]) if (Array.isArray(texts) && texts.length) parts.push(`The deck ${verb}: ${texts.join(', ')}.`);
   return parts.join(' ');
 }
 
-function nameOfTask({kind, id, sheet, number}) {
-  return `${kind} ${sheet ? number : id}`;
+function numberOf({id, sheet, number}) {
+  return sheet ? number : id;
+}
+function nameOfTask(task) {
+  return `${task.kind} ${numberOf(task)}`;
+}
+function lessonOf({id}) {
+  return id.split('.')[0];
+}
+
+// Unfolds core and backing for a lesson that is about them; the others need the stacks alone.
+function showMemoryOf({core}) {
+  byId('memory-part').open = Boolean(core);
+  byId('dump-part').open = Boolean(core);
 }
 
 export class Course {
   constructor(page) {
     Object.assign(this, {page, progress: new Progress(page.storage), quiz: new Quiz(), current: null, sheets: []});
-    for (const text of keptValue(page.storage, SHEETS) ?? []) this.takeSheet(text);
+    for (const text of (keptValue(page.storage, SHEETS) ?? []).reverse()) this.takesKept(text);
   }
 
   // Whether nothing was done in this browser yet.
@@ -35,15 +48,17 @@ export class Course {
     return !this.progress.work.size && !this.page.editor.own.list().length;
   }
 
-  // Takes in a sheet, the newest first; the same one stands once. One that can't be read any more is left out.
+  // Takes in a sheet, the newest first; the same one stands once.
   takeSheet(text) {
+    const sheet = sheetOf(text, this.page.decks);
+    this.sheets = [sheet, ...this.sheets.filter(it => it.key !== sheet.key)].slice(0, MOST_SHEETS);
+    return sheet;
+  }
+  // Takes in one that was kept; one that can't be read any more is left out.
+  takesKept(text) {
     try {
-      const sheet = sheetOf(text, this.page.decks);
-      this.sheets = [sheet, ...this.sheets.filter(it => it.key !== sheet.key)].slice(0, MOST_SHEETS);
-      return sheet;
-    } catch {
-      return null;
-    }
+      this.takeSheet(text);
+    } catch {}
   }
   get tasks() {
     return [...this.sheets.flatMap(sheet => sheet.tasks), ...TASKS];
@@ -58,20 +73,20 @@ export class Course {
       element('p', {class: 'group'}, name, button('Hand in', () => this.page.guard(() => this.handsIn(name.value.trim())), 'one link that shows your teacher what you have done')),
       element('div', {id: 'sheets'}), COURSE.map(lesson => this.lessonPart(lesson)),
       element('p', {}, 'Key q asks a question before each step, in any deck. ', button(FORGET, event => this.forget(event.target))),
-      element('p', {class: 'dim'}, 'For a teacher: the address of a lesson or a task can be handed on, copy it from its link. ',
-        button('Write tasks of your own', () => this.page.sheets.shows(), 'a text that becomes a link for the class'), ' ',
+      element('p', {class: 'dim'}, 'For a teacher: the address of a lesson or an exercise can be handed on, copy it from its link.'),
+      element('p', {class: 'group'}, button('Write exercises of your own', () => this.page.sheets.shows(), 'a text that becomes a link for the class'),
         button('Look at work handed in', () => this.page.hand.open(), 'links that pupils have sent you')));
     this.showMarks();
     this.listSheets();
   }
-  lessonPart({id, title, idea, shows, tasks}) {
-    const sentence = parts => element('li', {}, parts.map(part => (Array.isArray(part) ? element('a', {href: part[1]}, part[0]) : part)));
+  lessonPart({id, title, idea, shows, tells = {}, tasks}) {
+    const sentence = (parts, k) => element('li', {'data-tells': tells[k]}, element('span', {}, parts.map(part => (Array.isArray(part) ? element('a', {href: part[1]}, part[0]) : part))));
     return element('details', {id: `lesson-${id}`}, element('summary', {}, `${id} ${title} `, element('span', {class: 'dim', 'data-lesson': id})),
       element('p', {}, idea, ' ', element('a', {href: `#lesson:${id}`, class: 'small'}, 'address')), element('ol', {}, shows.map(sentence)),
       element('ul', {class: 'tasks'}, tasks.map(task => this.taskRow(task, `#task:${task.id}`))));
   }
   taskRow(task, href) {
-    return element('li', {'data-task': task.id}, element('a', {href}, nameOfTask(task)), ` ${task.name ? `${task.name}. ` : ''}${task.text} `, element('span', {class: 'dim'}, wantedText(task)));
+    return element('li', {'data-task': task.id}, element('a', {href}, nameOfTask(task)), ` ${task.name ? `${task.name}. ` : ''}${task.text} `, element('span', {class: 'dim'}, task.kind === 'write' ? wantedText(task) : ''));
   }
 
   // The sheets that this browser has got, each with a link that leads to it.
@@ -87,12 +102,13 @@ export class Course {
 
   showMarks() {
     const done = TASKS.filter(task => this.progress.isDone(task)).length, kept = this.page.storage ? '' : ' This browser keeps no marks for this page.';
-    put(byId('progress-said'), `${done} of ${TASKS.length} tasks are done.${kept} `, element('progress', {value: done, max: TASKS.length, 'aria-label': 'tasks done'}));
+    put(byId('progress-said'), `${done} of ${TASKS.length} exercises are done.${kept} `, element('progress', {value: done, max: TASKS.length, 'aria-label': 'exercises done'}));
     byId('lessons-button').textContent = done ? `Lessons ${done}/${TASKS.length}` : 'Lessons';
     for (const row of document.querySelectorAll('#lessons [data-task]')) {
       row.classList.toggle('done', this.progress.isDone({id: row.dataset.task}));
       row.classList.toggle('current', this.current?.id === row.dataset.task);
     }
+    for (const step of document.querySelectorAll('#lessons [data-tells]')) step.classList.toggle('untold', step.dataset.tells.split(' ').includes(this.current?.id) && !this.progress.isDone(this.current));
     for (const {id, key, tasks} of [...COURSE, ...this.sheets]) {
       const box = document.querySelector(`[data-lesson="${id ?? key}"]`);
       if (box) box.textContent = `${tasks.filter(task => this.progress.isDone(task)).length} of ${tasks.length}`;
@@ -109,27 +125,29 @@ export class Course {
 
   // ------------------------------------------------------------ what is opened
 
-  // Opens a lesson, beside the first moment that it shows, unless a deck of one's own is open. False if there is none of that name.
+  // Opens a lesson, beside the first moment that it shows. False if there is none of that name.
   async opensLesson(id) {
     const lesson = COURSE.find(it => it.id === id);
     if (!lesson) return false;
     const {page} = this, [, moment] = lesson.shows.flat().find(Array.isArray);
-    if (page.editor.name && page.editor.isOwn()) page.show('deck');
-    else await page.places.openAddress(moment.slice(1));
+    this.leaves();
+    showMemoryOf(lesson);
+    await page.places.openAddress(moment.slice(1));
     this.unfolds(`lesson-${id}`);
+    if (lesson === COURSE[0]) byId('lessons').scrollTop = 0; // the head of the list is the head of the course
     return true;
   }
   async opensTask(id) {
-    const lesson = COURSE.find(it => it.id === id.split('.')[0]), task = lesson?.tasks.find(it => it.id === id);
+    const lesson = COURSE.find(it => it.id === lessonOf({id})), task = lesson?.tasks.find(it => it.id === id);
     if (!task) return false;
+    showMemoryOf(lesson);
     await this.begin(task);
     this.unfolds(`lesson-${lesson.id}`, task);
     return true;
   }
   // Opens a sheet: the task of that number, or its first one that isn't done.
   async opensSheet(text, number) {
-    const sheet = sheetOf(text, this.page.decks);
-    this.takeSheet(text);
+    const sheet = this.takeSheet(text);
     keepValue(this.page.storage, SHEETS, this.sheets.map(it => it.text));
     const task = sheet.tasks[number - 1] ?? sheet.tasks.find(it => !this.progress.isDone(it)) ?? sheet.tasks[0];
     await this.begin(task);
@@ -144,38 +162,69 @@ export class Course {
     (task ? document.querySelector(`[data-task="${task.id}"]`) : byId(id)).scrollIntoView({block: task ? 'nearest' : 'start'});
   }
 
-  // Begins a task: with its deck at its moment, or with the deck alone, or with a new one.
-  async begin(task) {
-    const {page} = this;
+  // Begins a task: with the deck that was written for it before, unless it is to begin anew; else with its deck at its moment, or with the
+  // deck alone, or with a new one.
+  async begin(task, anew = false) {
+    const {page} = this, {editor} = page, kept = task.kind === 'write' && !anew && editor.own.list().find(it => it.task === task.id);
     this.current = task;
+    editor.task = ''; // what was open is no work of this task
     this.tell(task.text, wantedText(task));
     this.showMarks();
+    if (kept) this.goesOn(kept);
+    else await this.opens(task);
+    editor.task = task.kind === 'write' ? task.id : '';
+    this.quiz.turn(task.kind === 'predict');
+    if (task.kind === 'predict') setTimeout(() => page.steps.goBy(1)); // the question waits for its answer, the page doesn't
+  }
+  goesOn({name}) {
+    this.page.show('deck');
+    this.page.editor.choose(name);
+  }
+  async opens(task) {
+    const {page} = this;
     if (task.at) await page.places.openAddress(task.at);
     else if (task.deck || task.on) await this.beginOn(task);
     else page.places.newDeck();
-    this.quiz.turn(task.kind === 'predict');
-    if (task.kind === 'predict') setTimeout(() => page.steps.goBy(1)); // the question waits for its answer, the page doesn't
   }
   async beginOn({deck, on, core, count}) {
     const {page} = this;
     if (on) page.editor.choose(on);
-    else page.editor.take(deck, 'The deck of a task.');
+    else page.editor.take(deck, 'The deck of an exercise.');
     byId('core').value = core;
     if (count === null) page.show('deck');
     else await page.steps.step(count, null);
   }
 
   tell(text, wanted = '', done = false) {
-    const {current, tasks} = this, next = current && tasks[tasks.indexOf(current) + 1], box = byId('task');
+    const {current, page} = this, box = byId('task'), writes = current?.kind === 'write' && !done;
+    const button = (name, title, act) => element('button', {type: 'button', title, onclick: act}, name);
     box.hidden = !text;
     box.className = done ? 'done' : '';
-    put(box, element('strong', {}, current ? `${done ? '✓ ' : ''}Task ${current.sheet ? current.number : current.id} ` : ''), element('span', {}, `${text} ${wanted}`), ' ',
-      done && next && next.sheet === current.sheet ? element('a', {href: document.querySelector(`#lessons [data-task="${next.id}"] a`)?.hash}, `next: ${nameOfTask(next)}`) : null, ' ',
-      element('button', {type: 'button', 'aria-label': 'close the task', onclick: () => this.leaves()}, '×'),
-      current?.kind === 'write' && !done ? element('button', {type: 'button', onclick: () => showHelp('Decks and cards', 'Operators')}, 'Cards and operators') : null);
+    put(box, element('p', {}, element('strong', {}, current ? `${done ? '✓ ' : ''}Exercise ${numberOf(current)} ` : ''), element('span', {}, `${text} `), element('span', {class: 'wanted'}, wanted)),
+      done ? this.nextLink() : null, writes ? button('Cards and operators', 'how cards are written, and what each operator does', () => showHelp('Decks and cards', 'Procedures of the MCP', 'Operators')) : null,
+      writes ? button('Begin anew', 'with the deck as it was at first; yours stays in the list of decks', () => page.guard(() => this.begin(current, true))) : null,
+      button('×', 'close the exercise', () => this.leaves()));
+  }
+  // What comes after a task: the next one of its sheet or its lesson, or the next lesson.
+  nextLink() {
+    const {current, tasks} = this, next = current && tasks[tasks.indexOf(current) + 1];
+    if (!next || next.sheet !== current.sheet) return null;
+    if (!next.sheet && lessonOf(next) !== lessonOf(current)) return element('a', {href: `#lesson:${lessonOf(next)}`}, `next: lesson ${lessonOf(next)}`);
+    return element('a', {href: document.querySelector(`#lessons [data-task="${next.id}"] a`)?.hash}, `next: ${nameOfTask(next)}`);
+  }
+  // Takes up the task that was being done before the page was loaded again.
+  takesUp(id) {
+    const task = id && this.current?.id !== id && this.tasks.find(it => it.id === id);
+    if (!task) return;
+    this.current = task;
+    this.page.editor.task = task.kind === 'write' ? id : '';
+    this.tell(task.text, wantedText(task));
+    this.showMarks();
   }
   leaves() {
     this.current = null;
+    this.page.editor.task = '';
+    this.page.places.soon();
     this.tell('');
     this.quiz.turn(false);
     this.showMarks();
@@ -206,13 +255,13 @@ export class Course {
     const {current: task, page} = this, ask = (name, data) => page.client.ask(name, data), {text: deck} = page.editor;
     if (task?.kind !== 'write') return;
     const least = task.leastCore && words[0] === 'run' && status === 0 ? await ask('coreFor', {deck: text, core: 256}) : null;
-    if (!isWritten(task, {words, text, status, printed, core, least})) return this.notYet(task, words, status);
+    if (!isWritten(task, {words, text, status, printed, core, least})) return this.notYet(task, words, status, whyNot(task, deck, printed));
     if (task.lines && !await sameElsewhere(ask, {text, core}, printed)) return;
     this.done(task, {deck, core, halt}, task.lines ? 'Done: these are the lines, and in another core too.' : `Done${task.leastCore ? `: ${core} words are the fewest` : ''}.`);
   }
-  // Says that a run hasn't done the task, once it was one that could have.
-  notYet(task, words, status) {
-    if (words[0] === 'run' && status < 4 && !task.resumed) this.tell(task.text, `${wantedText(task)} Not yet.`);
+  // Says that a run hasn't done the task, and why, once it was one that could have.
+  notYet(task, words, status, why) {
+    if (words[0] === 'run' && status < 4 && !task.resumed) this.tell(task.text, `${wantedText(task)} Not yet. ${why}`);
   }
 
   // Asks before a step; a right answer at the moment of a task to predict does it.
@@ -228,11 +277,11 @@ export class Course {
   // Shows the one link that a pupil hands in, with their name in it.
   async handsIn(name) {
     const {page} = this, {work} = this.progress;
-    if (!work.size) throw new Error('Nothing is done yet, so there is nothing to hand in: do a task first.');
+    if (!work.size) throw new Error('Nothing is done yet, so there is nothing to hand in: do an exercise first.');
     if (!name) throw new Error('Type your name beside Hand in first, so that your teacher knows whose work it is.');
     keepValue(page.storage, NAME, name);
     const sheet = this.sheets.find(it => it.tasks.some(task => work.has(task.id))), mine = [...work].filter(([id]) => !id.startsWith('s') || sheet && id.startsWith(`${sheet.key}/`));
     const packed = await packedHand({name, version: page.version, sheet: sheet?.text, work: mine});
-    page.places.shows(`What ${name} hands in: ${mine.length} ${mine.length === 1 ? 'task' : 'tasks'}. Send this link to your teacher.`, page.places.withHash(`#hand:${packed}`));
+    page.places.shows(`What ${name} hands in: ${mine.length} ${mine.length === 1 ? 'exercise' : 'exercises'}. Send this link to your teacher.`, page.places.withHash(`#hand:${packed}`));
   }
 }

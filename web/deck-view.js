@@ -4,7 +4,7 @@ import {cardsOf, jobsOf} from './cards.js';
 import {lineRow} from './draw-cards.js';
 import {endingOf} from './changes.js';
 import {explained, statusText} from './messages.js';
-import {fittingCauses} from './faults.js';
+import {fittingCauses, fittingMeaning} from './faults.js';
 
 const [MOST_LINES, LAST_LINES] = [2000, 200];
 
@@ -49,11 +49,11 @@ function outcomeOf(status, lines) {
 }
 
 // Says where a run met its first fault, and what was wrong there; `look` shows the machine before it, `card` is marked.
-export function showFault(rows, {task, name, count, operator, said, fits}, look) {
-  const means = explained(rows, `${task} ${name}`), place = operator.card ? `card ${operator.card}` : `the place ${operator.place}`;
-  const causes = fittingCauses(means?.advice ?? '', fits);
+export function showFault(rows, fault, look) {
+  const {task, name, count, operator, said, fits, after} = fault, row = explained(rows, `${task} ${name}`), place = operator.card ? `card ${operator.card}` : after ? `after card ${after}` : `the place ${operator.place}`;
+  const causes = fittingCauses(row?.advice ?? '', fits);
   put(byId('outcome').querySelector('.fault-told') ?? byId('outcome').appendChild(element('div', {class: 'fault-told'})),
-    element('p', {}, `Task ${task} ended by ${name} at operator ${count.toLocaleString('en')}, ${place}: `, element('strong', {}, operator.text), `. ${means?.means ?? ''} ${said}`),
+    element('p', {}, `Task ${task} ended by ${name} at operator ${count.toLocaleString('en')}, ${place}`, after ? `. ${said}` : [': ', element('strong', {}, operator.text), `. ${fittingMeaning(row?.means, fault)} ${said}`]),
     causes ? element('p', {class: 'dim'}, causes) : null,
     element('p', {}, element('button', {type: 'button', id: 'look', onclick: look}, 'Look at the machine before it')));
 }
@@ -64,12 +64,12 @@ export function offer(text, act) {
 }
 
 // What a command has given: its status with its meaning, the lines, and what a refusal or a fault means. Gives the card that is refused, or 0.
-export function showResult(rows, {words, status, text, milliseconds, place}, refusedOf = 'deck') {
-  const lines = text.split('\n').slice(0, -1), last = lines.at(-1) ?? '', said = status === 2 ? explained(rows, last) : null;
+export function showResult(rows, {words, status, text, milliseconds, place, byHand, word}, refusedOf = 'deck') {
+  const lines = text.split('\n').slice(0, -1), last = lines.at(-1) ?? '', said = status === 2 ? explained(rows, last, byHand) : null;
   const faulty = lines.some(line => endingOf(line)?.bad);
-  const {means, advice} = said ?? (status ? statusText(rows, status, last) : {means: DONE[words[0]], advice: faulty ? 'A task ended by a fault.' : ''});
+  const {means, advice} = said ?? (status ? statusText(rows, status, last) : {means: DONE[words[0]], advice: ''}), head = said ? last : `${words[0]}: status ${status}`;
   put(byId('outcome'), element('p', {class: `status ${outcomeOf(status, lines)}`},
-    element('strong', {}, said ? `${last}. ` : `${words[0]}: status ${status}. `), means, ' ', advice,
+    element('strong', {}, word || (!said && faulty ? 'A task ended by a fault.' : `${head}.`), ' '), word ? element('span', {class: 'dim'}, `${head}. ${means} ${advice}`) : `${!said && faulty ? `${head}. ` : ''}${means} ${advice}`,
     place?.[0] ? ` It is card ${place[0]}: ${place[1]}.` : '', element('span', {class: 'dim'}, ` ${Math.ceil(milliseconds)} ms`)));
   put(byId('ran'), resultRows(lines, said ? null : rows));
   return refusedOf === 'deck' ? place?.[0] || said?.card || 0 : 0;

@@ -1,6 +1,6 @@
 // The first deck of the page, and the one to begin with for a deck of one's own.
 export const START = {name: 'start', core: 4096, about: 'Two and three: a deck to begin with. Change it, and Run.',
-  text: '?JOB MINE\n?ASM\nSEGMENT MAIN 2\nMKST            ; print(2 + 3)\nNAMC 0,9\nLT8 2\nLT8 3\nADD\nENTR\nEXIT\n?END\n'};
+  text: '?JOB MINE\n?ASM\nSEGMENT MAIN 2\nMKST            ; begins a call\nNAMC 0,9        ; of PRINT\nLT8 2           ; its argument\nLT8 3\nADD\nENTR            ; calls it\nEXIT            ; the end\n?END\n'};
 
 // The decks in groups, each with what it is for.
 export const GROUPS = [

@@ -20,8 +20,19 @@ export function arrowsOf(tasks) {
   return arrows;
 }
 
+// How many lanes come up at the right of a column: of arrows that pass a stack, one for all that lead to one cell. `columnOf` gives a task's
+// column.
+export function lanesBeside(arrows, columnOf) {
+  const lanes = new Map();
+  for (const {kind, task, to} of arrows) {
+    const column = columnOf(to.split(' ')[0]);
+    if (columnOf(task.name) - column > 1) lanes.set(column, (lanes.get(column) ?? new Set()).add(kind + to));
+  }
+  return column => lanes.get(column)?.size ?? 0;
+}
+
 // Of many arrows those of the running task's topmost records, unless all are wanted.
-function chosen(arrows, all) {
+export function chosen(arrows, all) {
   if (all || arrows.length <= MOST_ARROWS) return arrows;
   return arrows.filter(({kind, task, record}) => kind === 'wait' || task.runs && record.number >= task.records.length - 1);
 }

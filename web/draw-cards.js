@@ -68,7 +68,9 @@ function markStop(row, stops) {
 
 // Marks the card just made, the next one, the one that faults, and the breakpoints, and brings the first one into view.
 export function markCards(box, state, stops, faulty) {
-  bringRow(box, state.operator ?? state.next);
+  const list = lists.get(box), isNew = list.state !== state; // where a breakpoint is set the list stays as it was scrolled
+  list.state = state;
+  if (isNew) bringRow(box, state.operator ?? state.next);
   const now = rowOf(box, cardKey(state.operator)), next = rowOf(box, cardKey(state.next)), shown = now ?? next;
   const {scrollTop, clientHeight} = box, at = shown?.offsetTop; // asked before anything changes
   for (const row of box.querySelectorAll('.now, .next, .faulty')) {
@@ -81,7 +83,7 @@ export function markCards(box, state, stops, faulty) {
   rowOf(box, faulty ? cardKey(faulty) : '')?.classList.add('faulty');
   for (const row of box.querySelectorAll('.stopped')) if (!stops.has(row.dataset.key)) markStop(row, false);
   for (const key of stops) markStop(rowOf(box, key), true);
-  if (shown && (at < scrollTop + 20 || at > scrollTop + clientHeight - 60)) box.scrollTop = at - clientHeight / 2;
+  if (isNew && shown && (at < scrollTop + 20 || at > scrollTop + clientHeight - 60)) box.scrollTop = at - clientHeight / 2;
 }
 
 // The text in ALGOL beside the cards: the line of the operator just made, and that of the next one.

@@ -2,10 +2,11 @@
 import {drawn, put, putKept, set, taskClass} from './elements.js';
 import {INTRINSICS} from './operators.js';
 import {heldBy} from './reading.js';
-import {arrowsOf, drawArrows, legend} from './draw-arrows.js';
+import {arrowsOf, chosen, drawArrows, lanesBeside, legend} from './draw-arrows.js';
 
 const [LEAST_SCALE, LEAST_FIT, MOST_FIT] = [0.8, 0.2, 2.2];
 const [ROW, CHARACTER, LEFT, GAP, MOST_ROWS] = [20, 7.9, 34, 56, 46];
+const [BESIDE, LANE] = [56, 5]; // at the right of a column: the room for S, F and arrows that turn there, and for each lane
 const COUPLE = 52; // the room of a couple before the tag
 const [MOST_CELLS, LOWEST, TOPMOST] = [40, 8, 24]; // of a record; of more the lowest and the topmost ones are drawn
 
@@ -43,7 +44,7 @@ class StacksDrawing {
   // A text as it is drawn: shorter if many stacks are to be in view.
   text(long) {
     if (!this.short) return long;
-    return long.replace(/^waits at cell (\d+) of record (\S+) (\d+)$/, 'waits $2 r$3 c$1').replace('awaits the end of task', 'awaits').replaceAll(' record ', ' r').replaceAll(', cell ', ' c').replace(' · not in core', ' out');
+    return long.replace(/^waits at cell (\d+) of record (\d+) of task (\S+)$/, 'waits $3 r$2 c$1').replace('awaits the end of task', 'awaits').replaceAll(' record ', ' r').replaceAll(', cell ', ' c').replace(' · not in core', ' out');
   }
 
   // Adds a part: what makes it at the origin, by a key that says all it depends on, and its place.
@@ -52,13 +53,13 @@ class StacksDrawing {
   }
 
   draw() {
+    const arrows = arrowsOf(this.tasks), lanes = lanesBeside(chosen(arrows, this.view.allArrows), name => this.tasks.findIndex(task => task.name === name));
     let x = LEFT;
     this.tasks.forEach((task, column) => {
-      const width = this.widthOf(task);
+      const width = this.widthOf(task), gap = this.short ? GAP - 14 : GAP;
       this.drawTask(task, column, x, width);
-      x += Math.max(width, this.text(task.condition).length * CHARACTER - 10) + (this.short ? GAP - 14 : GAP);
+      x += Math.max(width, this.text(task.condition).length * CHARACTER - 10) + (lanes(column) ? Math.max(gap, BESIDE + LANE * lanes(column)) : gap);
     });
-    const arrows = arrowsOf(this.tasks);
     const {paths, lowest, shown} = drawArrows(arrows, this);
     const width = Math.max(x, 400), top = this.highest - 14, height = lowest + 80 - top;
     this.add(`legend ${shown} ${arrows.length}`, LEFT, lowest + 20, () => legend(shown, arrows.length));

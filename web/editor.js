@@ -14,15 +14,21 @@ function firstJob(text) {
   return /^\?JOB +(\S+)/m.exec(text)?.[1] ?? '';
 }
 
+// How a task is called for which a deck was written.
+function nameFor(task) {
+  return task.startsWith('s') ? `exercise ${task.split('/')[1]} of a sheet` : `exercise ${task}`;
+}
+
 // The first words of a line about a deck.
 function shortened(about) {
   return about.length > 62 ? `${about.slice(0, 60).replace(/ \S*$/, '')} …` : about;
 }
 
 export class Editor {
-  // `decks` are those of the repository; `changed` is called when another deck is open, or the same with another text.
+  // `decks` are those of the repository; `changed` is called when another deck is open, or the same with another text. `task` is the task of
+  // the course for which a new deck is written.
   constructor(decks, storage, changed) {
-    Object.assign(this, {decks, changed, own: new OwnDecks(storage), area: new CardsArea(), name: '', about: '', kept: Boolean(storage)});
+    Object.assign(this, {decks, changed, own: new OwnDecks(storage), area: new CardsArea(), name: '', about: '', kept: Boolean(storage), task: ''});
   }
 
   get text() {
@@ -37,7 +43,7 @@ export class Editor {
 
   // The list: first the decks of one's own, the one changed last on top.
   list() {
-    const mine = this.own.list().map(({name, text}) => element('option', {value: name}, `${name} ${firstJob(text)}`));
+    const mine = this.own.list().map(({name, text, task}) => element('option', {value: name}, `${name} ${firstJob(text)}${task ? `, ${nameFor(task)}` : ''}`));
     const line = name => element('option', {value: name, title: this.decks.get(name).about}, `${name}: ${shortened(this.decks.get(name).about)}`);
     put(byId('pick'), mine.length ? element('optgroup', {label: this.kept ? 'yours, kept in this browser' : 'yours'}, mine) : null,
       GROUPS.map(([label, names]) => element('optgroup', {label}, names.filter(name => this.decks.has(name)).map(line))));
@@ -57,7 +63,7 @@ export class Editor {
   take(text, about, from = '') {
     this.keepNow();
     const found = [...this.decks.values()].find(deck => deck.text === text) ?? this.own.withText(text);
-    this.open(text, found?.name ?? this.own.begin(text, byId('core').value, from), found?.about ?? about);
+    this.open(text, found?.name ?? this.own.begin(text, byId('core').value, from, this.task), found?.about ?? about);
   }
   begin() {
     byId('core').value = USUAL_CORE;
@@ -69,17 +75,19 @@ export class Editor {
     this.area.put(text);
     this.list();
     this.tell();
-    for (const id of ['outcome', 'ran']) put(byId(id));
+    for (const id of ['outcome', 'ran', 'card-help']) put(byId(id));
     byId('take').disabled = byId('resume').disabled = true;
     showJobs(text);
     byId('welcome').hidden = true;
     this.changed();
   }
 
-  // After a change by hand. A deck of the repository becomes one of one's own.
+  // After a change by hand. A deck of the repository becomes one of one's own; another job has nothing to do with the core of the one before.
   typed() {
+    const was = (this.decks.get(this.name) ?? this.own.get(this.name))?.text ?? '';
+    if (firstJob(this.text) && firstJob(was) && firstJob(this.text) !== firstJob(was)) byId('core').value = USUAL_CORE;
     if (!this.isOwn() && this.decks.get(this.name).text !== this.text) {
-      this.name = this.own.begin(this.text, byId('core').value, this.name);
+      this.name = this.own.begin(this.text, byId('core').value, this.name, this.task);
       this.about = '';
       this.list();
       this.tell();
@@ -104,9 +112,9 @@ export class Editor {
 
   // What is said of the deck: of one's own also what keeps it.
   tell() {
-    const mine = this.isOwn(), from = this.own.get(this.name)?.from;
+    const mine = this.isOwn(), {from, task} = this.own.get(this.name) ?? {};
     byId('delete').hidden = !mine;
-    const begun = this.about || (from ? `Yours, begun from ${from}.` : 'Yours.');
+    const begun = task ? `Yours, for ${nameFor(task)}.` : this.about || (from ? `Yours, begun from ${from}.` : 'Yours.');
     put(byId('about'), mine ? `${begun} ${this.kept ? 'It is kept in this browser.' : 'This browser keeps nothing for this page: Save or Link keeps the deck.'}` : this.about);
   }
 

@@ -59,10 +59,10 @@ function lengthOf(state, task, cell) {
 }
 
 function index({name, taken, record, task, state}) {
-  if (name === 'ENTR') return {said: `${intrinsicOf(record) ?? 'It'} gets ${listed(record.cells.slice(1).map(heldBy))}; a length is 1 to 65,535.`, fits: [], cells: record.cells.slice(1)};
+  if (name === 'ENTR') return {said: `${intrinsicOf(record) ?? 'It'} gets ${listed(record.cells.slice(1).map(heldBy))}; a length is 1 to 65,535.`, fits: [], clause: 1, cells: record.cells.slice(1)};
   const number = taken.findLast(it => it.kind === 'NUM'), array = taken.find(it => it !== number), length = array && lengthOf(state, task, array);
   if (!number || length === undefined) return {said: '', fits: null};
-  return {said: `The index is ${number.text}, and the array has ${countOf(length, 'word')}: the elements 0 to ${length - 1}.`, fits: number.text === String(length) ? [/starts at 1/] : [], cells: [number]};
+  return {said: `The index is ${number.text}, and the array has ${countOf(length, 'word')}: the elements 0 to ${length - 1}.`, fits: number.text === String(length) ? [/starts at 1/] : [], clause: 0, cells: [number]};
 }
 
 function address({name, operands, task, state, taken}) {
@@ -72,7 +72,7 @@ function address({name, operands, task, state, taken}) {
   if (!found) return {said: `The couple ${couple} names a cell of level ${level}, and no record of that level is in reach.`, fits: [/level is wrong/]};
   const cells = found.record.cells, last = cells.at(-1)?.at;
   if (cells.some(it => it.at === at)) return {said: '', fits: null};
-  return {said: `The couple ${couple} names cell ${at} of record ${found.record.number}, which has ${last ? `the cells 2 to ${last}` : 'no cell'}.`, fits: [at < 2 ? /displacement 2/ : /isn't pushed yet/]};
+  return {said: `The couple ${couple} names cell ${at} of record ${found.record.number}, and that record has ${last ? `the cells 2 to ${last}` : 'no cells'}.`, fits: [at < 2 ? /displacement 2/ : /isn't pushed yet/]};
 }
 
 function integer({name, taken}) {
@@ -113,8 +113,12 @@ function critical({record, records, state, task}) {
   return {said: `Record ${left.number} would be left, and ${listed(children) || 'a task'}, started by task ${task}, ${children.length > 1 ? 'live' : 'lives'} still.`, fits: null};
 }
 // The first operator of a run may be one, and then there is no machine before it.
-function filling({operator}) {
-  return {said: operator.card ? 'The card is NVLD, which is no operator.' : 'The place is behind the last card of its segment, where filling stands.', fits: operator.card ? [] : null};
+function filling({operator, operators}) {
+  if (operator.card) return {said: 'The card is NVLD, which is no operator.', fits: []};
+  const its = `${operator.place.split('@')[0]}@`, table = operators[operator.task.split('.')[0] - 1] ?? {};
+  const [after, text] = Object.entries(table).filter(([place]) => place.startsWith(its)).map(([, card]) => card).reduce((last, card) => (card[0] > last[0] ? card : last), [0, '']);
+  if (!after) return {said: 'The place is behind the last operator of its segment, where filling stands.', fits: null};
+  return {said: `Card ${after}, ${text}, is the last one of its segment, and it isn’t EXIT, RETN or BRUN: behind it stands no operator.`, fits: [], after};
 }
 function pending({record}) {
   return {said: `Record ${record.number} is open: its MKST has had no ENTR yet.`, fits: null};
@@ -132,14 +136,15 @@ const WRONG = {'STACK UNDERFLOW': underflow, 'STACK OVERFLOW': overflow, 'INVALI
   'CRITICAL BLOCK': critical, 'INVALID OPERATOR': filling, 'MARK PENDING': pending, DEADLOCK: deadlock, LIMIT: limit};
 
 // What was wrong for an operator that ended its task by `ending`, in the machine before it: {said, fits, cells}. `fits` tells which clauses
-// of the usual causes hold, null for all; `cells` are the names of those that were wrong.
-export function wrongOf(ending, state, operator) {
+// of the usual causes hold, null for all; `cells` are the names of those that were wrong; `after` is the card behind which a program ran
+// out of its segment, and `clause` the part of the fault's meaning that holds. `operators` are those of each job, by their places.
+export function wrongOf(ending, state, operator, operators = []) {
   const {task} = operator, records = recordsOf(state, task), record = records.at(-1);
   if (!WRONG[ending] || !record && ending !== 'INVALID OPERATOR') return {said: '', fits: null, cells: []};
   const [name, ...operands] = operatorParts(operator), takes = TAKES[name] ?? 0, taken = takes && record ? record.cells.slice(-takes) : [];
   const named = name === 'VALC' && operands[0] ? cellOfCouple(state, task, operands[0])?.cell : null, found = named && endOfChain(state, task, named);
-  const {said, fits, cells = taken} = WRONG[ending]({name, operands, takes, taken, found, record, records, task, state, operator});
-  return {said, fits, cells: cells.map(cell => `${task} ${record.number} ${cell.at}`)};
+  const {said, fits, after, clause, cells = taken} = WRONG[ending]({name, operands, takes, taken, found, record, records, task, state, operator, operators});
+  return {said, fits, after, clause, cells: cells.map(cell => `${task} ${record.number} ${cell.at}`)};
 }
 
 // Of tasks that end by one operator the one that is the cause: a child that ends with its parent isn't.
@@ -147,9 +152,19 @@ export function causeOf(wrongs) {
   return wrongs.find(it => it.name !== 'PARENT') ?? wrongs[0];
 }
 
+function sentence(clause) {
+  return clause[0].toUpperCase() + clause.slice(1).replace(/[.;]?$/, '.');
+}
+
+// What a fault means, of several clauses the one that holds; nothing where the place says it all.
+export function fittingMeaning(text = '', {after, clause}) {
+  if (after) return '';
+  return clause === undefined ? text : sentence(text.split('; or ')[clause]);
+}
+
 // Of a text of causes the clauses that fit.
 export function fittingCauses(text, fits) {
   if (!fits) return text;
   const clauses = text.split(/(?<=[.;]) +/).filter(clause => fits.some(it => it.test(clause)));
-  return clauses.map(clause => clause.replace(/;$/, '.')).map(clause => clause[0].toUpperCase() + clause.slice(1)).join(' ');
+  return clauses.map(clause => sentence(clause.replace(/^or /i, ''))).join(' ');
 }

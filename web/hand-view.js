@@ -25,7 +25,7 @@ export class Hand {
     const {page} = this, parts = partsFor(hand, page.decks), tasks = parts.flatMap(part => part.tasks), many = tasks.filter(task => hand.work.has(task.id)).length;
     const other = hand.version === page.version ? '' : ` It was made by version ${hand.version} of the page; this is ${page.version}.`;
     this.hand = hand;
-    put(byId('hand-view'), element('h2', {}, `Handed in by ${hand.name}: ${many} of ${tasks.length} tasks`),
+    put(byId('hand-view'), element('h2', {}, `Handed in by ${hand.name}: ${many} of ${tasks.length} exercises`),
       element('p', {id: 'again-said', role: 'status', class: 'dim'}, `What is marked here was told by the pupil’s page.${other}`),
       element('p', {}, element('button', {type: 'button', id: 'again', onclick: () => page.guard(() => this.again(tasks))}, 'Do each of them again, with this page’s machine')),
       parts.map(part => this.partOf(part, hand)), this.classPart());

@@ -30,8 +30,8 @@ export function fillHelp(lexicon, letterKeys, version) {
   const close = element('button', {type: 'button', class: 'close', onclick: () => byId('help').close()}, 'Close');
   const lines = texts => texts.map(text => element('p', {}, text)), proved = byId('proved').textContent.trim().split(/\n\n+/);
   put(byId('help'), close, element('h2', {}, 'Help'), part('The picture', true, lines(PICTURE)), part('Keys', true, letterKeys, helpTable()),
-    part('Decks and cards', false, lines(CARDS)), part('Operators', false, element('p', {}, 'In “a b -> c” the top of the stack is at the right: b is on top of a.'), lexicon.operatorTable()),
-    part('Procedures of the MCP', false, lexicon.intrinsicTable()), part('Words', false, lexicon.glossary()),
+    part('Decks and cards', false, lines(CARDS)), part('Procedures of the MCP', false, lexicon.intrinsicTable()), part('Operators', false, element('p', {}, 'In “a b -> c” the top of the stack is at the right: b is on top of a.'), lexicon.operatorTable()),
+    part('Words', false, lexicon.glossary()),
     part('What is proved, and what is trusted', false, element('p', {}, `b67 ${version}. The machine in this page is b67_web, of which these things are proved: status and lines are those of the definitions, and paging never changes a printed line.`),
       proved.map(text => element('p', {}, text))));
 }

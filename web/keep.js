@@ -33,7 +33,8 @@ export function keepValue(storage, key, value) {
   }
 }
 
-// Decks of one's own: `mine-1`, `mine-2` and so on, each with its text, its core, the deck that it was begun from, and when it was changed.
+// Decks of one's own: `mine-1`, `mine-2` and so on, each with its text, its core, the deck that it was begun from, the task of the course
+// that it was written for, and when it was changed.
 export class OwnDecks {
   constructor(storage) {
     Object.assign(this, {storage, decks: new Map()});
@@ -60,17 +61,17 @@ export class OwnDecks {
   }
 
   // A new one; gives its name. Of very many the one that wasn't changed for longest is given up.
-  begin(text, core, from, now = Date.now()) {
+  begin(text, core, from, task = '', now = Date.now()) {
     this.look();
     const number = Math.max(0, ...[...this.decks.keys()].map(name => Number(name.slice(5)))) + 1, name = `mine-${number}`;
-    this.put(name, {text, core, from}, now);
+    this.put(name, {text, core, from, task}, now);
     if (this.decks.size > MOST_DECKS) this.remove(this.list().at(-1).name);
     return name;
   }
 
   // Keeps a deck under its name; says whether the browser keeps it.
-  put(name, {text, core, from = this.decks.get(name)?.from ?? ''}, now = Date.now()) {
-    const deck = {text, core: Number(core), from, changed: now};
+  put(name, {text, core, from = this.decks.get(name)?.from ?? '', task = this.decks.get(name)?.task ?? ''}, now = Date.now()) {
+    const deck = {text, core: Number(core), from, task, changed: now};
     this.decks.set(name, {...deck, name});
     return keepValue(this.storage, DECK + name, deck);
   }

@@ -23,13 +23,13 @@ export class Lexicon {
     Object.assign(this, {operators: operatorsIn(operators), intrinsics: intrinsicsIn(operators), terms: rowsOfTable(glossary)});
   }
 
-  // What a card's operator does, in a line; empty for a card without one.
+  // What a card's operator does, in a line; empty for a card without one. The table of operators has the rest.
   ofCard(card) {
-    const [name, operand = ''] = card.replace(/;.*/, '').trim().replace(/^[A-Z][A-Z0-9]*: */, '').split(/\s+/), row = this.operators.get(name);
-    if (!row) return '';
-    const couple = /^0,(\d+)$/.exec(operand), intrinsic = couple && this.intrinsics.get(couple[1]);
-    const said = intrinsic ? `pushes the couple of the intrinsic ${INTRINSICS[couple[1]]}, which ${intrinsic.does}` : `${MEANINGS[name]}. ${/^(nothing|$)/.test(row.does) ? '' : row.does}`;
-    return `${name}, syllable ${row.code}${row.parameters ? ` and then ${row.parameters}` : ''}: ${said}`.trim();
+    const [name, operand = ''] = card.replace(/;.*/, '').trim().replace(/^[A-Z][A-Z0-9]*: */, '').split(/\s+/);
+    if (!this.operators.has(name)) return '';
+    const couple = /^(\d+),(\d+)$/.exec(operand), intrinsic = couple?.[1] === '0' && this.intrinsics.get(couple[2]);
+    if (intrinsic) return `${name}: pushes the couple of the MCP’s procedure ${INTRINSICS[couple[2]]}, which ${intrinsic.does}.`;
+    return `${name}: ${MEANINGS[name]}.${couple ? ` ${operand} is cell ${couple[2]} of the record of level ${couple[1]}.` : ''}`;
   }
 
   operatorTable() {

@@ -14,6 +14,7 @@ const OURS = {
   'Endings and faults:STACK OVERFLOW': 'A loop that pushes in each turn: look at what a turn leaves on the stack. Or a recursion that misses its end: look at the arguments of the ENTR that recurs; only if they come nearer to the end, raise ?STACK, to 16,383 at most, and the core with it.',
   'DECK:5': '?STACK, ?QUANTUM, ?HALT and ?SWITCH go before the first ?JOB; in a job the order is ?LIMIT, ?ASM or ?HEX, ?DATA, ?END. A text that doesn’t begin with a ? card is no deck: begin with ?JOB, a name, and ?ASM on the next card. A comment outside an ?ASM body; a space before the ?.',
 };
+const BY_HAND = / \(codefiles made by hand: [^)]*\)/;
 const LACKING = /scripts\/|--core|--backing|\bPATH\b|`(?:resume|dump|asm|convert)`|tracer?\b|standard (?:in|out)put/i;
 
 // Advice in the page's words: the page's own, or that of the row without the clauses on what the page hasn't.
@@ -48,12 +49,13 @@ export function rowsOfTable(text) {
 
 const SUBJECTS = {DECK: 'Card', ASM: 'Card', IMAGE: 'Card', CODEFILE: 'The bytes under card', BIND: 'Pair', LOAD: 'The program of the job that begins at card'};
 
-// What a refusal, a fault or another last line means: {card, means, advice}; null for a line without a row.
-export function explained(rows, line) {
+// What a refusal, a fault or another last line means: {card, means, advice}; null for a line without a row. What can be so only in a
+// codefile that was made by hand is left out, unless there is one.
+export function explained(rows, line, byHand = false) {
   const refusal = OF_CARD.exec(line), ending = OF_TASK.exec(line);
   if (refusal) {
     const [, kind, card, reason] = refusal, row = rows.get(`${kind}:${reason}`);
-    return row && {card: kind === 'BIND' ? 0 : Number(card), means: `${SUBJECTS[kind]} ${card} ${plain(row[1])}.`, advice: advised(`${kind}:${reason}`, row[2])};
+    return row && {card: kind === 'BIND' ? 0 : Number(card), means: `${SUBJECTS[kind]} ${card} ${plain(byHand ? row[1] : row[1].replace(BY_HAND, ''))}.`, advice: advised(`${kind}:${reason}`, row[2])};
   }
   const row = ending && rows.get(`Endings and faults:${ending[1]}`);
   return row ? {card: 0, means: plain(row[1]), advice: advised(`Endings and faults:${ending[1]}`, row[2])} : null;

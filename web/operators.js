@@ -33,7 +33,7 @@ export const MEANINGS = {
   EQUL: 'leaves 1 if the two are equal, else 0', NEQL: 'leaves 1 if the two differ, else 0', SAME: 'leaves 1 if all 48 bits are equal, else 0',
   LAND: 'makes the “and” of 48 bits', LOR: 'makes the “or” of 48 bits', LNOT: 'turns all 48 bits', LEQV: 'leaves 1 bits where both are equal',
   BSET: 'sets a bit', BRST: 'resets a bit', ISOL: 'takes out a field', INSR: 'puts a field in',
-  BRUN: 'goes to the place named', BRTR: 'goes to the place named if the word on top is true', BRFL: 'goes to the place named if the word on top is false',
+  BRUN: 'goes to the place named', BRTR: 'goes to the place named if the word on top is true, which is an odd number, as 1', BRFL: 'goes to the place named if the word on top is false, which is an even number, as 0',
   MKST: 'marks the stack: a record for a call is begun', ENTR: 'calls: enters the record that was begun',
   EXIT: 'leaves the procedure without a value', RETN: 'leaves the procedure with the word on top as its value',
   MPCW: 'pushes the entry of a procedure', DLET: 'drops the word on top', EXCH: 'exchanges the two words on top',

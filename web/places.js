@@ -27,6 +27,7 @@ export class Places {
     }
     if (!place) return this.first(hash);
     if (!this.isShown(place)) await page.guard(() => this.open(place));
+    page.course.takesUp(history.state?.task);
     if (matchMedia('(max-width:800px)').matches) scrollTo(0, 0);
   }
 
@@ -49,9 +50,9 @@ export class Places {
   }
   async task({id}) {
     if (!this.page.editor.name) this.page.editor.choose(START.name);
-    if (!await this.page.course.opensTask(id)) throw new Error(`There is no task ${id} in this page: see the list of lessons.`);
+    if (!await this.page.course.opensTask(id)) throw new Error(`There is no exercise ${id} in this page: see the list of lessons.`);
   }
-  // A sheet of a teacher's own tasks, and one of them.
+  // A sheet of a teacher's own exercises, and one of them.
   async sheet({packed, number}) {
     if (!this.page.editor.name) this.page.editor.choose(START.name);
     await this.page.course.opensSheet(await unpacked(packed), number);
@@ -83,7 +84,7 @@ export class Places {
   // Opens another deck; what was open before is one step back in the browser's history.
   async leaves(opens) {
     await this.put();
-    history.pushState(null, '', location.href);
+    history.pushState(history.state, '', location.href);
     this.page.show('deck');
     opens();
   }
@@ -94,7 +95,7 @@ export class Places {
 
   // ------------------------------------------------------------ the address of what is open
 
-  // Puts what is shown into the address, soon. Soon is when nothing is under way any more, since what is shown until then isn't what the
+  // Puts what is shown into the address, and the exercise that is being done into the history's entry, soon. Soon is when nothing is under way any more, since what is shown until then isn't what the
   // address asks for.
   soon() {
     this.addresses ??= setTimeout(() => {
@@ -106,8 +107,8 @@ export class Places {
   async put() {
     clearTimeout(this.addresses);
     this.addresses = null;
-    const address = await this.now();
-    if (!this.addresses && location.hash !== address) history.replaceState(null, '', location.search + address);
+    const address = await this.now(), task = this.page.course.current?.id ?? '';
+    if (!this.addresses && (location.hash !== address || (history.state?.task ?? '') !== task)) history.replaceState({task}, '', location.search + address);
   }
   async now() {
     if (this.page.shows('hand')) return this.held || location.hash;

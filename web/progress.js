@@ -41,6 +41,16 @@ function isOfTask({has = [], lacks = []}, text) {
   return [has].flat().every(holds) && ![lacks].flat().some(holds);
 }
 
+// Why a run hasn't done a task of writing: the first line that differs, or what the deck lacks or may not have.
+export function whyNot({lines = [], has = [], lacks = []}, text, printed) {
+  const is = printed.split('\n').slice(0, -1), at = lines.findIndex((line, k) => is[k] !== line), holds = it => (typeof it === 'string' ? text.includes(it) : it.test(text));
+  if (at >= 0) return `Line ${at + 1} ${is[at] === undefined ? 'is missing' : `is ${is[at]}`}, and must be ${lines[at]}.`;
+  if (lines.length && is.length > lines.length) return `${lines.length} lines must be printed, and there are ${is.length}.`;
+  const missing = [has].flat().find(it => !holds(it)), kept = [lacks].flat().find(holds);
+  if (missing !== undefined) return typeof missing === 'string' ? `The lines are right, but the deck lacks ${missing}.` : 'The lines are right, but it isn’t the deck of this exercise any more.';
+  return kept === undefined ? '' : `The lines are right, but the deck has ${kept}.`;
+}
+
 // Whether a command does a task of writing by itself; `least` is the least core in which its deck runs.
 export function isWritten(task, {words, text, status, printed, core, least}) {
   const lines = printed.split('\n').slice(0, -1), same = (wanted, given = lines) => JSON.stringify(given) === JSON.stringify(wanted), runs = words[0] === 'run';

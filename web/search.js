@@ -13,6 +13,7 @@ function briefOf(state) {
     count, status, task: operator?.task ?? '', card: cardKey(operator), text: operator?.text ?? '', lines: fresh.length,
     ends: endings.length > 0, bad: endings.some(it => it.bad) || status > 3,
     stores: changes.flatMap(it => it.into ?? []),
+    records: Object.fromEntries(tasks.map(task => [task.name, task.records.length])),
     paging: [...new Set(changes.filter(it => it.kind === 'in' || it.kind === 'out').map(it => it.kind))],
     depths: Object.fromEntries(tasks.map(task => [task.name, task.records.filter(record => record.level >= 0).length])),
   };

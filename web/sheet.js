@@ -103,5 +103,5 @@ function keyOf(text) {
 // The sheet that a text is: {key, title, text, tasks}; fails with the line and a sentence. `decks` are those of the page.
 export function sheetOf(text, decks) {
   const {title, tasks} = partsOf(text), key = keyOf(text);
-  return {key, title: title || 'Tasks of your teacher', text, tasks: tasks.map((task, k) => taskOf(task, k + 1, key, decks))};
+  return {key, title: title || 'Exercises of your teacher', text, tasks: tasks.map((task, k) => taskOf(task, k + 1, key, decks))};
 }

@@ -40,7 +40,7 @@ function waitOf(image, task) {
   if (task.condition === 0) return ['ready', ''];
   if (task.condition === 1) return [`awaits the end of task ${task.job}.${task.wanted}`, ''];
   const record = image.recordOfMark(task.wanted);
-  return [`waits at cell ${task.offset} of record ${record}`, `${record} ${task.offset}`];
+  return [`waits at cell ${task.offset} of record ${record.split(' ')[1]} of task ${record.split(' ')[0]}`, `${record} ${task.offset}`];
 }
 
 function taskOf(image, task, names) {

@@ -10,7 +10,7 @@ import {showTimeline, windowOf} from './timeline.js';
 import {followedText} from './follow.js';
 import {statusText} from './messages.js';
 import {cardsOf} from './cards.js';
-import {cellWords} from './walk.js';
+import {cellWords, GONE} from './walk.js';
 import {faultShown, showFaultNote} from './fault-note.js';
 
 // The operator's name and operands, without a label.
@@ -52,7 +52,7 @@ function endsText(endings) {
 function endText(state, rows, ends) {
   if (state.status === 0) return `${ends}. No task lives any more; what you see is the machine before this operator`;
   const {means, advice} = statusText(rows, state.status, state.lines.shown.at(-1));
-  return `the run stops here. ${means} ${advice}`;
+  return `the run stops here. ${means} ${advice.replace(', or press the button', '')}`;
 }
 
 // The name that a card has in the place of a couple; empty if it has none.
@@ -90,7 +90,7 @@ export function showLine(session, width = byId('line').clientWidth || 1000) {
 
 // How deep the stack of the running task is, and how deep one gets on the line of time.
 function depthText({tasks, last}, deepest) {
-  const records = tasks.find(task => task.name === last)?.records.filter(it => it.level >= 0).length;
+  const records = tasks.find(task => task.name === last)?.records.length;
   return records ? `${countOf(records, 'record')} deep${deepest > 1 ? `, ${deepest} at most` : ''}` : '';
 }
 
@@ -110,9 +110,10 @@ export function showMoment(session, view, rows, act) {
   document.body.classList.toggle('two', Boolean(session.otherState));
   byId('pair').hidden = !session.otherState;
   byId('right').hidden = Boolean(session.otherState);
+  byId('to-stop').hidden = !stops.size;
   showFaultNote(fault, rows, act);
   const {stacks, line} = measured();
-  markCards(byId('cards'), state, stops, fault?.operator);
+  markCards(byId('cards'), state, stops, faultyOf(fault));
   showAlgol(byId('algol'), session);
   showPrinted(byId('printed'), state.lines, state.fresh.length);
   byId('stacks').classList.toggle('past', shown !== state);
@@ -130,6 +131,12 @@ export function showMoment(session, view, rows, act) {
   showLine(session, line);
 }
 
+// The operator whose card is marked as faulty: of a program that ran out of its segment the last one there.
+function faultyOf(fault) {
+  const after = fault?.wrongs.find(it => it.after)?.after;
+  return after ? {...fault.operator, card: after} : fault?.operator;
+}
+
 // The list of changes as a part, which stays if the next operator says the same.
 function changesPart(state) {
   return [[JSON.stringify([state.changes, state.status, state.count === 0]), () => changesList(state)]];
@@ -143,8 +150,9 @@ function showFollowed(state, {followed}) {
 
 // The words of the cell that the keys have come to.
 function showWalked(state, {walked}) {
-  byId('walked').hidden = !walked;
-  put(byId('walked'), cellWords(state, walked));
+  const words = walked ? cellWords(state, walked) : '';
+  byId('walked').hidden = !words || words === GONE;
+  put(byId('walked'), words);
 }
 
 // One of two cores: what changed, core, and the lines.
@@ -173,6 +181,7 @@ function outText(state) {
 
 function showPair({state, otherState}, view) {
   byId('theorem').textContent = theoremText(state, otherState);
+  byId('theorem').className = state.count === otherState.count && state.status === otherState.status ? '' : 'apart';
   showOne(byId('first'), state, view);
   showOne(byId('second'), otherState, view);
 }

@@ -1,6 +1,7 @@
 // The steps: the deck that is stepped through, the moment that is shown, and the ways to another one.
 import {byId} from './elements.js';
 import {perform} from './acts.js';
+import {cardKey} from './search.js';
 import {algolOf} from './algol.js';
 import {hasJob} from './cards.js';
 import {NO_JOB} from './commands.js';
@@ -151,8 +152,10 @@ export class Steps {
 
   play(on = !this.playing) {
     clearInterval(this.playing);
+    const from = this.session?.state?.count;
     this.playing = on ? setInterval(() => {
-      if (!this.session?.state || this.session.state.status !== undefined) this.play(false);
+      const {state, stops} = this.session ?? {}, isStopped = state && state.count !== from && stops.has(cardKey(state.operator));
+      if (!state || state.status !== undefined || isStopped) this.play(false);
       else if (!this.going) this.goBy(1);
     }, Number(byId('speed').value)) : null;
     byId('play').textContent = on ? 'pause' : 'play';
@@ -234,6 +237,11 @@ export class Steps {
     this.view.walked = nextCell(this.session.state, this.view.walked, way);
     this.redraw();
     speak(cellWords(this.session.state, this.view.walked));
+  }
+
+  walksOff() {
+    this.view.walked = '';
+    this.redraw();
   }
 
   // What is shown, for tests.

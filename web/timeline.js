@@ -13,13 +13,13 @@ export function windowOf(count, end, old) {
 }
 
 // The records that the task of an operator has after it.
-function depthOf({depths, task}) {
-  return depths[task] ?? 0;
+function depthOf({records, task}) {
+  return records[task] ?? 0;
 }
 
-function titleOf({count, task, card, text, paging, lines, bad, depths}) {
+function titleOf({count, task, card, text, paging, lines, bad, records}) {
   const moves = {in: 'words come into core', out: 'words leave core'};
-  return [`operator ${count}`, task ? `${task} card ${card}: ${text}` : '', depths[task] ? `${depths[task]} records` : '', ...paging.map(way => moves[way]), lines ? `prints ${lines} ${lines > 1 ? 'lines' : 'line'}` : '', bad ? 'a fault' : '']
+  return [`operator ${count}`, task ? `${task} card ${card}: ${text}` : '', records[task] ? `${records[task]} records` : '', ...paging.map(way => moves[way]), lines ? `prints ${lines} ${lines > 1 ? 'lines' : 'line'}` : '', bad ? 'a fault' : '']
     .filter(Boolean).join('; ');
 }
 

@@ -1,6 +1,8 @@
 // From cell to cell of the picture by keys: the words that the mouse finds when it rests on a cell.
 import {heldBy, placeOf} from './reading.js';
 
+export const GONE = 'No cell is there now.';
+
 // The records and cells of all stacks, from the bottom of the first one to the top of the last one: `task record` or `task record cell`.
 function places(state) {
   return (state.remains ?? state).tasks.flatMap(task => task.records.flatMap(record => [`${task.name} ${record.number}`,
@@ -22,12 +24,12 @@ function linkSaid(link) {
 // A place in words: what a record is, or what a cell holds. Empty for a place that is gone.
 export function cellWords(state, place) {
   const [name, number, at] = place.split(' '), task = (state.remains ?? state).tasks.find(it => it.name === name), record = task?.records[number - 1];
-  if (!record) return place ? 'No cell is there now.' : '';
+  if (!record) return place ? GONE : '';
   const many = record.cells.length, where = `record ${number} of task ${name}`;
   if (at === undefined && record.level < 0) return `Record ${number} of task ${name}, open: ${many} ${many === 1 ? 'cell' : 'cells'}.`;
   if (at === undefined) return `Record ${number} of task ${name}, level ${record.level}: its static link leads to ${linkSaid(record.link)}, ${many} ${many === 1 ? 'cell' : 'cells'}.`;
   const cell = record.cells.find(it => it.at === Number(at));
-  if (!cell) return 'No cell is there now.';
+  if (!cell) return GONE;
   const couple = record.level < 0 ? `Cell ${at}` : `Cell ${record.level},${at}${cell.name ? ` ${cell.name}` : ''}`, isTop = task.records.at(-1) === record && record.cells.at(-1) === cell;
   const array = cell.to && /^(ROW|ELEMENT)$/.test(cell.kind) ? ` of ${placeOf(cell.to)}` : '';
   return `${couple}, in ${where}: tag ${cell.tag}, ${heldBy(cell)}${array}.${isTop ? ' It is the top of the stack.' : ''}`;

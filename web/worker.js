@@ -68,7 +68,7 @@ export class Desk {
     machine.last ??= end ?? undefined;
     const state = machine.state(count);
     const then = state.count ? machine.machine(state.count - 1) : null, over = state.status !== undefined && then?.tasks.length;
-    return {...state, before: then && shownOfBefore(then), remains: over ? remainsOf(then) : null, wrongs: wrongsOf(state, then), end: machine.last ?? null,
+    return {...state, before: then && shownOfBefore(then), remains: over ? remainsOf(then) : null, wrongs: wrongsOf(state, then, machine.operators), end: machine.last ?? null,
       compared: machine.compared, brief: search.brief(state.count)};
   }
 
@@ -164,9 +164,9 @@ function remainsOf({count, tasks, numbers, areas, things, sectorsUsed, coreWords
 }
 
 // Of each task that a fault has just ended: its name, the fault, and what was wrong in the machine before.
-function wrongsOf({fresh, operator}, before) {
+function wrongsOf({fresh, operator}, before, operators) {
   const endings = before && operator ? fresh.map(endingOf).filter(it => it?.bad) : [];
-  return endings.map(({task, name}) => ({task, name, ...(name === 'PARENT' ? {said: '', fits: null, cells: []} : wrongOf(name, before, operator))}));
+  return endings.map(({task, name}) => ({task, name, ...(name === 'PARENT' ? {said: '', fits: null, cells: []} : wrongOf(name, before, operator, operators))}));
 }
 
 // Of the machine before an operator what the page shows with it: how many records each task had, the topmost one, and the numbers of

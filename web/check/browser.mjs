@@ -60,7 +60,7 @@ export class Browser {
   }
 
   // Waits until an expression in the page is true.
-  async until(expression, seconds = 60) {
+  async until(expression, seconds = 120) {
     const end = Date.now() + 1000 * seconds;
     while (!(await this.value(`!!(${expression})`))) {
       if (Date.now() > end) throw new Error(`not within ${seconds} seconds: ${expression}`);

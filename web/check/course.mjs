@@ -1,12 +1,13 @@
 // The course in a browser: each task of each lesson is done wrongly and then rightly; a teacher's sheet; and what is handed in.
 import {TASKS} from '../course.js';
+import {START} from '../decks.js';
 import {packedText, unpacked} from '../share.js';
 import {FOUND, LEAST_OF_TEN, PREDICTED, SEARCHED, WRITTEN} from '../tests/answers.js';
 
 const DONE = "document.getElementById('task').className === 'done'";
 
-async function isDone(it, seconds = 0) {
-  if (seconds) await it.browser.until(DONE, seconds).catch(() => {});
+async function isDone(it, waits = false) {
+  if (waits) await it.browser.until(DONE).catch(() => {});
   return it.browser.value(DONE);
 }
 // Opens a task, and leaves the keyboard to the page.
@@ -16,17 +17,17 @@ async function begins(it, hash) {
 }
 
 async function answers(it, answer) {
-  await it.until("document.querySelector('#quiz form')", 20);
+  await it.until("document.querySelector('#quiz form')");
   await it.browser.value(`{ const quiz = document.getElementById('quiz'), field = quiz.querySelector('input'), answer = ${JSON.stringify(answer)};
     if (field) { field.value = answer; quiz.querySelector('form').requestSubmit(); }
     else [...quiz.querySelectorAll('button')].find(it => it.textContent === answer).click(); } 0`);
-  await it.until("/Right:|No:/.test(document.getElementById('quiz').textContent)", 20);
+  await it.until("/Right:|No:/.test(document.getElementById('quiz').textContent)");
 }
 async function predicts(it, {id}, hash) {
   for (const [answer, right] of [[PREDICTED[id][1], false], [PREDICTED[id][0], true]]) {
     await begins(it, hash);
     await answers(it, answer);
-    it.wants(await isDone(it, right ? 20 : 0) === right, `task ${id}: ${answer} is marked ${right ? 'wrong' : 'right'}`);
+    it.wants(await isDone(it, right) === right, `task ${id}: ${answer} is marked ${right ? 'wrong' : 'right'}`);
   }
 }
 
@@ -44,7 +45,7 @@ async function finds(it, {id}, hash) {
     it.wants(!await isDone(it), `task ${id} is done at operator ${FOUND[id][1]}`);
     await it.goes(FOUND[id][0]);
   }
-  it.wants(await isDone(it, 30), `task ${id} isn't done: ${await it.shown('#task')}`);
+  it.wants(await isDone(it, true), `task ${id} isn't done: ${await it.shown('#task')}`);
 }
 
 async function runsOrChecks(it, task) {
@@ -63,7 +64,7 @@ async function writes(it, task, hash) {
     await runsOrChecks(it, task);
     if (!right) it.wants(!await isDone(it), `task ${id} is done by a deck that doesn't: ${await it.shown('#task')}`);
   }
-  it.wants(await isDone(it, 30), `task ${id} isn't done: ${await it.shown('#task')} ${await it.shown('#outcome')}`);
+  it.wants(await isDone(it, true), `task ${id} isn't done: ${await it.shown('#task')} ${await it.shown('#outcome')}`);
 }
 
 // Each task of each lesson, wrongly and then rightly; marks are there after a reload.
@@ -73,11 +74,28 @@ export async function course(it) {
   for (const task of TASKS) await {predict: predicts, find: finds, write: writes}[task.kind](it, task, `task:${task.id}`);
   await it.reloads();
   it.wants(await it.shown('#lessons-button') === `Lessons ${TASKS.length}/${TASKS.length}`, `marks after a reload: ${await it.shown('#lessons-button')}`);
-  it.wants(/no task 9\.9/.test((await it.opens('task:9.9')).message), 'a task that isn’t there: no sentence');
+  it.wants(/no exercise 9\.9/.test((await it.opens('task:9.9')).message), 'a task that isn’t there: no sentence');
   await it.opens('jensen,4096,30');
   const lines = await it.browser.value("['now', 'next'].map(kind => document.querySelector(`#algol .${kind}`)?.textContent.trim() ?? '').join('|')");
   it.wants(lines === 'do total := total + term;|i × i))', `beside card 30 stand ${lines}`);
+  await comesBack(it);
   await handsIn(it);
+}
+
+// Whoever comes back to a task finds the deck that they wrote for it, until they begin anew; after the last task of a lesson comes the next lesson.
+async function comesBack(it) {
+  let {text} = await it.opens('task:1.5');
+  it.wants(text === WRITTEN['1.5'][0], `back at a task stands ${text}`);
+  await it.click('#run');
+  it.wants(await it.shown('#task a') === 'next: lesson 2', `after the last task of a lesson comes ${await it.shown('#task a')}`);
+  await it.until("history.state?.task === '1.5'");
+  await it.reloads();
+  ({text} = await it.state());
+  it.wants(text === WRITTEN['1.5'][0] && /^Exercise 1\.5/.test(await it.shown('#task')), `a task after a reload: ${await it.shown('#task')}`);
+  await it.opens('task:1.2');
+  await it.browser.value("[...document.querySelectorAll('#task button')].find(it => it.textContent === 'Begin anew').click(); 0");
+  ({text} = await it.state());
+  it.wants(text === START.text, `a task that is begun anew has ${text}`);
 }
 
 // The one link of all that was done, as a teacher sees it.
@@ -130,19 +148,20 @@ export async function sheets(it) {
   const packed = await packedText(SHEET);
   await begins(it, `sheet:${packed}`);
   await it.click('#run');
-  it.wants(!await isDone(it), 'a sheet’s task is done by the deck with which it opens');
+  it.wants(!await isDone(it) && /Line 1 is 1\.1 42, and must be 1\.1 30\./.test(await it.shown('#task')), `a sheet’s task with the deck with which it opens: ${await it.shown('#task')}`);
   await it.types(WRITTEN['1.5'][0].replace('42', '30'));
   await it.click('#run');
-  it.wants(await isDone(it, 30), `a sheet’s task isn’t done: ${await it.shown('#task')}`);
+  it.wants(await isDone(it, true), `a sheet’s task isn’t done: ${await it.shown('#task')}`);
+  it.wants(await it.shown('#task a') === 'next: find 2', `after the first task of a sheet comes ${await it.shown('#task a')}`);
   await begins(it, `sheet:${packed},2`);
   await it.goes(17);
   it.wants(!await isDone(it), 'a later moment is taken for the first one');
   await it.goes(12);
-  it.wants(await isDone(it, 30), `a sheet’s moment isn’t found: ${await it.shown('#task')}`);
+  it.wants(await isDone(it, true), `a sheet’s moment isn’t found: ${await it.shown('#task')}`);
   for (const [answer, right] of [['6', false], ['5', true]]) {
     await begins(it, `sheet:${packed},3`);
     await answers(it, answer);
-    it.wants(await isDone(it, right ? 20 : 0) === right, `a sheet’s question: ${answer}`);
+    it.wants(await isDone(it, right) === right, `a sheet’s question: ${answer}`);
   }
   await writesSheet(it);
 }
@@ -150,9 +169,9 @@ export async function sheets(it) {
 // The editor of sheets: what is wrong is said with its line, and the link leads to the tasks.
 async function writesSheet(it) {
   const {browser} = it, types = text => browser.value(`{ const it = document.getElementById('sheet-text'); it.value = ${JSON.stringify(text)}; it.dispatchEvent(new Event('input')); } document.getElementById('sheet-said').textContent`);
-  await browser.value("[...document.querySelectorAll('#lessons button')].find(it => /Write tasks/.test(it.textContent)).click(); 0");
+  await browser.value("[...document.querySelectorAll('#lessons button')].find(it => /Write exercises/.test(it.textContent)).click(); 0");
   it.wants(/^Line 2 of the sheet: print: is no word/.test(await types('task: A\nprint: 5\n')), 'a wrong line of a sheet');
-  it.wants(/^3 tasks: write 1, find 2, predict 3/.test(await types(SHEET)), 'a right sheet');
+  it.wants(/^3 exercises: write 1, find 2, predict 3/.test(await types(SHEET)), 'a right sheet');
   await browser.click('#sheet-link');
   await it.until("document.getElementById('link-dialog').open");
   const address = await browser.value("document.getElementById('link-text').value");

@@ -77,7 +77,7 @@ export async function follows(it) {
 export async function aloud(it) {
   const {browser} = it, spoken = () => browser.value("document.getElementById('spoken').textContent");
   const says = async (pattern, what) => {
-    await browser.until(`${pattern}.test(document.getElementById('spoken').textContent)`, 10).catch(() => {});
+    await browser.until(`${pattern}.test(document.getElementById('spoken').textContent)`).catch(() => {});
     it.wants(pattern.test(await spoken()), `${what}: it says ${told(await spoken())}`);
   };
   await it.opens('two,630,19');
@@ -95,6 +95,6 @@ export async function aloud(it) {
   for (const key of ['ArrowDown', 'ArrowDown']) await browser.press(key);
   await browser.press('Enter');
   const one = "document.querySelectorAll('#cards .stopped').length === 1";
-  await browser.until(one, 10).catch(() => {});
+  await browser.until(one).catch(() => {});
   it.wants(await browser.value(one), `a breakpoint by keys in the list of cards; the focus is on ${await browser.value("document.activeElement.outerHTML.slice(0, 120)")}`);
 }

@@ -55,18 +55,23 @@ export async function bad_input(it) {
   await stops(it);
 }
 
+// Waits until the page tells where a fault is; of a run that took long, on a slow machine, it is looked for at a press only.
+async function findsFault(it) {
+  if (/^Find/.test(await it.shown('.offer'))) await it.browser.click('.offer');
+  await it.until("document.querySelector('#look')");
+}
+
 // A fault: Run says so and marks its card, a button shows the machine before it, and the last machine stays in view. A halt isn't red.
 export async function faults(it) {
   const {browser} = it;
   await it.writes('?JOB T\n?ASM\nSEGMENT MAIN 2\nLT8 7\nMKST\nNAMC 0,9\nNAMC 2,2\nONE\nADD\nENTR\nEXIT\n?END\n', 630);
   await it.click('#run');
-  it.wants(/^Take \d+ words of core, and run$/.test(await it.shown('.offer')), 'no button for a core that suffices');
+  it.wants(/^Take \d+ words of core, enough/.test(await it.shown('.offer')), 'no button for a core that suffices');
   await it.click('.offer');
-  if (/^Find/.test(await it.shown('.offer'))) await browser.click('.offer'); // of a run that took long, on a slow machine
-  await it.until("document.querySelector('#look')", 30);
+  await findsFault(it);
   it.wants(await it.shown('#gutter .refused') === '9' && /status 0/.test(await it.shown('.status.bad')), `a fault at card 9: ${await it.shown('#gutter .refused')} ${await it.shown('.status')}`);
   let state = await it.click('#look');
-  await it.until("!document.getElementById('fault').hidden", 10);
+  await it.until("!document.getElementById('fault').hidden");
   it.wants(state.count === 5 && await it.shown('#cards .faulty .stop') === '9' && await it.shown('#stacks .wrong-sign') === '✕', `before a fault: ${state.count}`);
   state = await it.click('#fault button');
   it.wants(state.count === 6 && /couple 2,2/.test(await it.shown('#fault')) && await it.shown('#stacks.past .wrong-sign') === '✕', `at a fault: ${state.count} ${await it.shown('#fault')}`);
@@ -74,6 +79,19 @@ export async function faults(it) {
   await it.opens('halt,4096');
   await it.click('#run');
   it.wants(/status 3/.test(await it.shown('.status.halted')), `a wanted halt: ${await it.shown('.status')}`);
+}
+
+// Mistakes of a first deck: the card and what is wrong with it are named, and another job has nothing to do with the core of the one before.
+export async function mistakes(it) {
+  const deck = cards => `?JOB T\n?ASM\nSEGMENT MAIN 2\n${cards.join('\n')}\n?END\n`;
+  await it.opens('two,630');
+  await it.types(deck(['ONE', 'ZERO']));
+  const {core} = await it.click('#run');
+  await findsFault(it);
+  it.wants(core === 4096 && await it.shown('#gutter .refused') === '5' && /after card 5\. Card 5, ZERO, is the last one/.test(await it.shown('#outcome')), `no EXIT, in ${core} words: ${await it.shown('#outcome')}`);
+  await it.types(deck(['ONE', 'ONE', 'AD', 'EXIT']));
+  await it.click('#run');
+  it.wants(await it.shown('#gutter .refused') === '6' && /^No operator is called AD\. Is it to be ADD\?/.test(await it.shown('.status.bad')), `AD for ADD: ${await it.shown('.status')}`);
 }
 
 // Names for cells: the machine gets couples, the picture has the names, and a wrong line is refused with its card.
@@ -102,14 +120,14 @@ export async function keeps(it) {
   await it.writes(text, 4096);
   await it.click('#step');
   for (let k = 0; k < 3; k++) await it.pressed('own', text, 'ArrowRight');
-  await it.until("location.hash.startsWith('#deck:') && location.hash.endsWith(',4096,3')", 10);
+  await it.until("location.hash.startsWith('#deck:') && location.hash.endsWith(',4096,3')");
   const address = await browser.value('location.href');
   await it.reloads();
   await is('own deck after a reload', 3);
-  await it.until("location.hash.endsWith(',4096,3')", 10);
+  await it.until("location.hash.endsWith(',4096,3')");
   await it.opens('jensen,4096,13');
   await browser.value('history.back()');
-  await it.until(holds, 10);
+  await it.until(holds);
   await is('own deck after Back', 3);
   await browser.opens('about:blank');
   await browser.opens(address);
@@ -117,7 +135,7 @@ export async function keeps(it) {
   await is('own deck by its address', 3);
   await it.opens('two,630');
   await browser.value("{ const it = document.getElementById('pick'); it.value = [...it.options].find(option => option.text.includes('OWN')).value; it.dispatchEvent(new Event('change')); } 0");
-  await it.until(holds, 10);
+  await it.until(holds);
   it.wants(/isn’t whole/.test((await it.opens('deck:AAAA,4096,3')).message), 'half an address: no sentence');
   it.wants(/can’t read/.test((await it.opens('two;630')).message), 'an address that is none: no sentence');
 }

@@ -81,7 +81,7 @@ export class Tried {
   }
 
   // Waits until something holds in the page; what is under way there is told if it doesn't come.
-  async until(expression, seconds = 20) {
+  async until(expression, seconds = 120) {
     try {
       await this.browser.until(expression, seconds);
     } catch (error) {

@@ -9,7 +9,7 @@ import {placeOf} from '../address.js';
 import {ALGOL_DECKS, algolOf} from '../algol.js';
 import {COURSE, TASKS} from '../course.js';
 import {START} from '../decks.js';
-import {deckOfTask, isFound, isWritten, Progress} from '../progress.js';
+import {deckOfTask, isFound, isWritten, Progress, whyNot} from '../progress.js';
 import {isRight, questionOf} from '../predict.js';
 import {runWords, textOf} from '../program.js';
 
@@ -73,6 +73,13 @@ for (const task of TASKS.filter(it => it.kind === 'write' && !it.resumed)) {
     assert.deepEqual(done, [true, false]);
   });
 }
+
+test('why a run hasn’t done a task', () => {
+  const lines = ['1.1 2', '1.1 ENDED'], task = {lines, has: ['?SWITCH'], lacks: ['LT8 2']};
+  for (const [printed, text, why] of [['1.1 1\n1.1 ENDED\n', '', 'Line 1 is 1.1 1, and must be 1.1 2.'], ['1.1 2\n', '', 'Line 2 is missing, and must be 1.1 ENDED.'], ['1.1 2\n1.1 ENDED\n1.2 ENDED\n', '', '2 lines must be printed, and there are 3.'],
+    ['1.1 2\n1.1 ENDED\n', 'LT8 3', 'The lines are right, but the deck lacks ?SWITCH.'], ['1.1 2\n1.1 ENDED\n', '?SWITCH LT8 2', 'The lines are right, but the deck has LT8 2.'], ['1.1 2\n1.1 ENDED\n', '?SWITCH', '']]) assert.equal(whyNot(task, text, printed), why);
+  assert.match(whyNot({lines, has: /SUM/}, 'LT8 2', '1.1 2\n1.1 ENDED\n'), /isn’t the deck/);
+});
 
 test('a run that is resumed', () => {
   const printed = '1.1 23\n1.1 ENDED\n', task = TASKS.find(it => it.id === '6.1');

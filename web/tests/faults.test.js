@@ -5,7 +5,8 @@ import {after, test} from 'node:test';
 import {setImmediate as turn} from 'node:timers/promises';
 import {Native} from './native.js';
 import {Desk} from '../worker.js';
-import {fittingCauses} from '../faults.js';
+import {fittingCauses, fittingMeaning} from '../faults.js';
+import {refusedWord} from '../refusals.js';
 import {explained, statusText, tablesOf} from '../messages.js';
 
 const native = new Native(process.env.B67 ?? 'b67');
@@ -22,7 +23,7 @@ const FAULTS = [
   ['STACK UNDERFLOW', 'ONE / ADD / EXIT', 5, /^ADD takes 2 words, and record 1 has 1 word: 1\.$/, /^An operand is missing\.$/],
   ['STACK UNDERFLOW', 'ONE / MKST / DLET / EXIT', 6, /record 2 has no word\. The record is open/, /^Words below an open mark/],
   ['STACK OVERFLOW', 'L: ONE / BRUN L', 4, /^The stack of task 1\.1 has 64 words by now, in 1 record/, /^A loop that pushes in each turn: look at what a turn leaves on the stack\.$/, '?STACK 64\n'],
-  ['STACK OVERFLOW', 'MPCW F / MKST / NAMC 2,2 / ENTR / EXIT / SEGMENT F 3 / MKST / NAMC 2,2 / ENTR / EXIT', 0, /in \d\d records/, /^Or a recursion that misses its end/, '?STACK 99\n'],
+  ['STACK OVERFLOW', 'MPCW F / MKST / NAMC 2,2 / ENTR / EXIT / SEGMENT F 3 / MKST / NAMC 2,2 / ENTR / EXIT', 0, /in \d\d records/, /^A recursion that misses its end/, '?STACK 99\n'],
   ['INVALID OPERAND', 'NAMC 2,2 / ONE / ADD / EXIT', 6, /the couple 2,2 is none\.$/, /^A reference where a number is wanted \(NAMC for VALC\)/],
   ['INVALID OPERAND', 'MKST / NAMC 0,9 / ONE / ONE / ENTR / EXIT', 8, /^PRINT wants 1 argument, and its record has 2 words: 1 and 1\.$/, /^An intrinsic with the wrong number of arguments/],
   ['INVALID OPERAND', 'ONE / ENTR / EXIT', 5, /entered already: no MKST/, /^ENTR without its MKST\.$/],
@@ -32,16 +33,16 @@ const FAULTS = [
   ['INVALID INDEX', 'MKST / NAMC 0,8 / LT8 9 / ENTR / NAMC 2,2 / LT8 9 / NXLV / EXIT', 10, /^The index is 9, and the array has 9 words: the elements 0 to 8\.$/, /^An index that starts at 1/],
   ['INVALID INDEX', 'MKST / NAMC 0,8 / LT8 9 / ENTR / NAMC 2,2 / ONE / CHSN / NXLV / EXIT', 11, /^The index is -1, and/, ''],
   ['INVALID INDEX', 'MKST / NAMC 0,8 / ZERO / ENTR / EXIT', 7, /^ARRAYDEC gets 0; a length/, ''],
-  ['INVALID ADDRESS', 'ONE / VALC 2,9 / EXIT', 5, /^The couple 2,9 names cell 9 of record 1, which has the cells 2 to 2\.$/, /^The cell isn't pushed yet/],
+  ['INVALID ADDRESS', 'ONE / VALC 2,9 / EXIT', 5, /^The couple 2,9 names cell 9 of record 1, and that record has the cells 2 to 2\.$/, /^The cell isn't pushed yet/],
   ['INVALID ADDRESS', 'ONE / VALC 2,0 / EXIT', 5, /cell 0 of record 1/, /^The first cell has displacement 2, not 0\.$/],
   ['INTEGER OVERFLOW', 'LT48 549755813887 / ONE / ADD / EXIT', 6, /the result would be 549,755,813,888\./, /numbers are too large/],
   ['DIVIDE BY ZERO', 'LT8 7 / ZERO / IDIV / EXIT', 6, /^IDIV takes 7 and 0\.$/, /^Test the divisor first\.$/],
-  ['EXPONENT', 'LT8 5 / LNOT / CHSN / EXIT', 6, /which is no whole number\.$/, /^Or the word was made by LNOT/],
+  ['EXPONENT', 'LT8 5 / LNOT / CHSN / EXIT', 6, /which is no whole number\.$/, /^The word was made by LNOT/],
   ['EXPONENT', 'MKST / NAMC 0,11 / ENTR / CHSN / EXIT', 7, /#800000000000/, /^READ has no number left.*LNOT/],
   ['LOOP', 'NAMC 2,2 / VALC 2,2 / EXIT', 5, /so it leads to itself/, /cell that holds its own couple|without STFF/],
   ['MARK PENDING', 'MKST / EXIT', 5, /^Record 2 is open/, /^An MKST without its ENTR\.$/],
   ['INVALID OPERATOR', 'NVLD', 4, /^The card is NVLD/, ''],
-  ['INVALID OPERATOR', 'ONE', 0, /behind the last card of its segment/, /runs into its filling/],
+  ['INVALID OPERATOR', 'ONE / ZERO', 0, /^Card 5, ZERO, is the last one of its segment, and it isn’t EXIT, RETN or BRUN/, ''],
   ['MEMORY PROTECT', 'ONE / NAMC 1,3 / STOD / EXIT / ROW R / NUM 7', 6, /data row 1,3|names no single word/, /./],
   ['UPLEVEL', 'MPCW F / MKST / NAMC 2,2 / ENTR / EXIT / SEGMENT F 3 / ONE / NAMC 3,2 / STFF / RETN', 13, /leads into the record that is left\.$/, /^Let the caller own/],
   ['CRITICAL BLOCK', 'MPCW P / MPCW Q / MKST / NAMC 2,3 / ENTR / EXIT / SEGMENT P 3 / EXIT / SEGMENT Q 3 / MKST / NAMC 0,12 / NAMC 2,2 / ENTR / DLET / EXIT', 18, /^Record 2 would be left, and task 1\.2, started by task 1\.1, lives still\.$/, /^AWAIT the task first/],
@@ -63,6 +64,20 @@ for (const [name, cards, card, said, causes, head] of FAULTS) {
     else assert.match(fitting, causes);
   });
 }
+
+test('of a meaning of several clauses that which holds', () => {
+  const {means} = explained(rows, '1.1 INVALID INDEX');
+  assert.match(fittingMeaning(means, {clause: 0}), /^An index isn't 0 or more and below the length\.$/);
+  assert.match(fittingMeaning(means, {clause: 1}), /^ARRAYDEC or RESIZE was asked/);
+  assert.deepEqual([fittingMeaning(means, {}), fittingMeaning(means, {after: 5})], [means, '']);
+});
+
+test('a refused card of assembly whose word is wrong', () => {
+  const refused = [['ONE / AD / EXIT', 'ASM 5 REASON 1', 'No operator is called AD. Is it to be ADD?'], ['L: ENTER', 'ASM 4 REASON 1', 'No operator is called ENTER. Is it to be ENTR?'], ['add', 'ASM 4 REASON 1', 'Operators have capital letters: ADD.'],
+    ['ONE / PRINTIT', 'ASM 5 REASON 1', 'No operator is called PRINTIT.'], ['L : ONE', 'ASM 4 REASON 1', ''], ['BRUN AGAIN', 'ASM 4 REASON 5', 'No card has the label AGAIN: before its operator.'],
+    ['MPCW F', 'ASM 4 REASON 5', 'No SEGMENT card is called F.'], ['BRUN L / SEGMENT F 3 / L: EXIT', 'ASM 4 REASON 5', ''], ['LT8 300', 'ASM 4 REASON 3', ''], ['ONE', 'LOAD 1 REASON 8', '']];
+  for (const [cards, line, sentence] of refused) assert.equal(refusedWord(line, deckOf(cards)), sentence, cards);
+});
 
 test('the page’s advice names nothing that the page hasn’t', () => {
   const lines = [...text.matchAll(/^\| `([A-Z ]+)` \|/gm)].map(found => `1.1 ${found[1]}`);

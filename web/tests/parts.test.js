@@ -11,6 +11,7 @@ import {followedText, nextChoice} from '../follow.js';
 import {partOf, startOf} from '../cards-area.js';
 import {numbersForRead, withNumbers} from '../deck-view.js';
 import {decksOf, GROUPS, START} from '../decks.js';
+import {lanesBeside} from '../draw-arrows.js';
 import {intrinsicsIn, Lexicon, operatorsIn} from '../lexicon.js';
 import {INTRINSICS, MEANINGS, OPERATORS, TAKES} from '../operators.js';
 import {OwnDecks} from '../keep.js';
@@ -58,11 +59,11 @@ function storageFor(most) {
 
 test('decks of one’s own are kept, by two tabs too', () => {
   const storage = storageFor(100), one = new OwnDecks(storage), other = new OwnDecks(storage);
-  assert.equal(one.begin('a\n', 4096, 'two', 1), 'mine-1');
-  assert.equal(other.begin('b\n', 630, '', 2), 'mine-2');
+  assert.equal(one.begin('a\n', 4096, 'two', '1.2', 1), 'mine-1');
+  assert.equal(other.begin('b\n', 630, '', '', 2), 'mine-2');
   one.put('mine-1', {text: 'aa\n', core: '700'}, 3);
   const later = new OwnDecks(storage);
-  assert.deepEqual(later.list().map(({name, text, core, from}) => [name, text, core, from]), [['mine-1', 'aa\n', 700, 'two'], ['mine-2', 'b\n', 630, '']]);
+  assert.deepEqual(later.list().map(({name, text, core, from, task}) => [name, text, core, from, task]), [['mine-1', 'aa\n', 700, 'two', '1.2'], ['mine-2', 'b\n', 630, '', '']]);
   later.remove('mine-1');
   assert.deepEqual(new OwnDecks(storage).list().map(it => it.name), ['mine-2']);
 });
@@ -70,12 +71,12 @@ test('decks of one’s own are kept, by two tabs too', () => {
 test('decks of one’s own without storage, or in a full one', () => {
   const none = new OwnDecks(null), full = new OwnDecks(storageFor(0));
   for (const own of [none, full]) {
-    assert.equal(own.begin('a\n', 4096, '', 1), 'mine-1');
+    assert.equal(own.begin('a\n', 4096, '', '', 1), 'mine-1');
     assert.equal(own.put('mine-1', {text: 'b\n', core: 4096}, 2), false);
     assert.equal(own.get('mine-1').text, 'b\n');
   }
   const many = new OwnDecks(null);
-  for (let k = 0; k < 70; k++) many.begin(`${k}\n`, 4096, '', k);
+  for (let k = 0; k < 70; k++) many.begin(`${k}\n`, 4096, '', '', k);
   assert.equal(many.list().length, 60);
   assert.equal(many.list()[0].text, '69\n');
 });
@@ -83,6 +84,12 @@ test('decks of one’s own without storage, or in a full one', () => {
 test('couples by the running level, and numbers', () => {
   for (const [number, level, text] of [[0x1005, 2, '2,5'], [0x0009, 2, '0,9'], [0x2002, 2, '1,2'], [0x3002, 3, '3,2'], [0x0402, 8, '8,2']]) assert.equal(coupleText(number, level), text);
   for (const [word, text] of [[5, '5'], [2 ** 46 + 5, '-5'], [2 ** 47, '#800000000000']]) assert.equal(numberText(word), text);
+});
+
+test('lanes beside a column: of arrows that pass a stack, one for each cell', () => {
+  const arrow = (kind, from, to) => ({kind, task: {name: from}, to}), columns = ['1.1', '1.2', '1.3', '1.4'];
+  const lanes = lanesBeside([arrow('ref', '1.3', '1.1 1 2'), arrow('ref', '1.4', '1.1 1 2'), arrow('wait', '1.3', '1.1 1 2'), arrow('link', '1.2', '1.1 1'), arrow('ref', '1.4', '1.2 1 3')], name => columns.indexOf(name));
+  assert.deepEqual(columns.map((_, k) => lanes(k)), [2, 1, 0, 0]);
 });
 
 test('spans of sectors', () => {
@@ -168,8 +175,9 @@ test('the operators of the page are those of MACHINE: names, codes, and how many
 
 test('what a card’s operator does', () => {
   const lexicon = new Lexicon(joined('operators'), joined('glossary'));
-  assert.match(lexicon.ofCard('TOP: ADD  ; the sum'), /^ADD, syllable 80: adds the two numbers on top\. a b -> a \+ b$/);
-  assert.match(lexicon.ofCard('NAMC 0,9'), /the intrinsic PRINT, which prints the value/);
+  assert.match(lexicon.ofCard('TOP: ADD  ; the sum'), /^ADD: adds the two numbers on top\.$/);
+  assert.match(lexicon.ofCard('NAMC 0,9'), /the MCP’s procedure PRINT, which prints the value/);
+  assert.match(lexicon.ofCard('VALC 2,3'), /the value of the cell\. 2,3 is cell 3 of the record of level 2\.$/);
   for (const card of ['SEGMENT MAIN 2', '; ADD', '', 'ROW R', '?END']) assert.equal(lexicon.ofCard(card), '');
   const terms = new Map(lexicon.terms.map(cells => [cells[0], cells.at(-1)]));
   for (const term of ['couple', 'accidental entry', 'thunk', 'dictionary', 'hole', 'sector, chain', 'theorem']) assert.ok(terms.get(term), term);

@@ -1,5 +1,6 @@
 // A teacher's sheets, what is handed in, names for cells, and what is said of a step. B67 names the native program.
 import assert from 'node:assert/strict';
+import {readFileSync} from 'node:fs';
 import {after, test} from 'node:test';
 import {setImmediate as turn} from 'node:timers/promises';
 import {Native, decks} from './native.js';
@@ -38,6 +39,16 @@ test('the example of a sheet is done rightly and wrongly', async () => {
   const {text} = PAGE.get('two'), sees = count => isFound(find, {name: 'two', text}, desk.state({deck: text, core: 630, count}));
   assert.deepEqual([20, 19, 23].map(sees), [true, false, false]);
   assert.deepEqual([20, 23].map(count => desk.isFirst({deck: text, core: 630, find: find.find, count})), [true, false]);
+});
+
+test('the sheet that TEACHING shows is done rightly and wrongly', () => {
+  const [, text] = /```text\n(title:[\s\S]*?)```/.exec(readFileSync(new URL('../../docs/TEACHING.md', import.meta.url), 'utf8'));
+  const {tasks: [write, find]} = sheetOf(text, PAGE), done = ['LT8 5', 'LT8 3'].map(card => {
+    const words = runWords(write.core), deck = write.deck.replace('LT8 3', card), {status, bytes} = native.call(words, deck);
+    return isWritten(write, {words, text: deck, status, printed: textOf(bytes), core: write.core});
+  });
+  assert.deepEqual(done, [true, false]);
+  assert.deepEqual([find.kind, find.on, find.core, find.first], ['find', 'two', 630, true]);
 });
 
 test('a sheet that is none says which line is wrong', () => {
