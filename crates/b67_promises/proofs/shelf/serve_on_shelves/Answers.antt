@@ -10,6 +10,12 @@ is_told : {R : Type 0} (held : R → List (List ℕ)) (now : R) (named : Option 
 is_told held now (Some path) = λ e. none-some _ (sym e)
 is_told held now None = tt
 
-pub returns : goal.returns
-returns c = λ w w' same few.
+pub returns-clause-decks : goal.returns-clause-decks
+returns-clause-decks c = λ w w' same few.
     c.serve_twice.ensures.decks (free_left c.args.input.now) w w' refl (ap Some same) few (is_told (λ s. s.held) c.args.shelf.now (backing_path c.args.words.now)) (is_told (λ s. s.held) c.args.other_shelf.now (backing_path c.args.other_words.now))
+
+pub returns-clause-call : goal.returns-clause-call
+returns-clause-call c = c.serve_twice.ensures.call
+
+pub returns-clause-other_call : goal.returns-clause-other_call
+returns-clause-other_call c = c.serve_twice.ensures.other_call
