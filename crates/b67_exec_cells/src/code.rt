@@ -44,16 +44,3 @@ pub fn read_in(cpu: &Cpu, desc: SegDesc) -> Result<(Op, Place), Undecodable>
     let code = cpu.core.words(desc.address, desc.words);
     decode_in_segment(code, cpu.regs.place)
 }
-
-/// The operator at the running place and the place after it, or why there is none. None exactly if the running
-/// segment is absent.
-#[inline(always)]
-pub fn reading(cpu: &Cpu) -> Option<Result<(Op, Place), Undecodable>>
-    requires { RunsSome cpu.now }
-    ensures { ForEach cpu.now (λ x plan s m t. GivesReading x plan m t result) }
-{
-    match present_segment(cpu) {
-        Some(desc) => Some(read_in(cpu, desc)),
-        None => None,
-    }
-}
