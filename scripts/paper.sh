@@ -28,7 +28,7 @@ day=$(sed -n 's/^date-released: //p' ../CITATION.cff)
 SOURCE_DATE_EPOCH=$(date -u -d "$day" +%s)
 export SOURCE_DATE_EPOCH TZ=UTC
 cp paper*.svg paper.css "$room/"
-grep -v '^<!--' PAPER.md | sed -E 's/\[([^]]*)\]\([A-Z]+\.md[^)]*\)/\1/g' |
+grep -v '^<!--' PAPER.md | sed -E 's/\[([^]]*)\]\([A-Za-z./]+\.md[^)]*\)/\1/g' |
     pandoc -f gfm -t html5 -s --wrap=none --metadata title='Paging changes no line' --metadata lang=en --css paper.css |
     sed '/<header id="title-block-header">/,/<\/header>/d; s/^<p><em>Figure/<p class="caption"><em>Figure/' >"$room/paper.html"
 (cd "$room" && weasyprint -q paper.html paper.pdf)

@@ -1,7 +1,8 @@
 //! A deck whose two arrays evict each other, served on one shelf and on another, in the least core and in a larger one.
 
 use crate::halts::serve_halted_then_resumed;
-use crate::shelf::{Shelf, serve_on_shelf, serve_on_shelves};
+use crate::shelf::{Shelf, serve_on_shelf};
+use crate::shelves::serve_on_shelves;
 use b67_program::{calm_paper, serve, serve_process, tape_of};
 use std::process::ExitCode;
 use std::test::Fail;

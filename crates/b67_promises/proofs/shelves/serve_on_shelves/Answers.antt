@@ -3,7 +3,7 @@ use Rattle.std.proofs.lemmas.Option.{none-some}
 use Rattle.b67_io.specs.Free.{free_left}
 use Rattle.b67_job.specs.Command.{backing_path}
 use Rattle.b67_promises.specs.Paging.{FileIsTold}
-use Rattle.b67_promises.proofs.shelf.serve_on_shelves.Goals as goal
+use Rattle.b67_promises.proofs.shelves.serve_on_shelves.Goals as goal
 
 -- a shelf tells what the file of each path holds
 is_told : {R : Type 0} (held : R → List (List ℕ)) (now : R) (named : Option (List ℕ)) → FileIsTold (λ (d : R) (path : List ℕ). Some (held d)) now named
