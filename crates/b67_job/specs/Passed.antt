@@ -4,4 +4,4 @@ pub use Rattle.b67_image.specs.Parts.{parts_of}
 pub use Rattle.b67_image.specs.Typed.{AreTyped}
 pub use Rattle.b67_session.specs.declared.seeking.CodePlace.{CodePlace}
 pub use Rattle.b67_session.specs.declared.seeking.Sought.{Sought}
-pub use Rattle.b67_session.specs.declared.seeking.Sought.TheVariants.{Place, Switch}
+pub use Rattle.b67_session.specs.declared.seeking.Sought.TheVariants.{Place, Switch, Within, Deepest}

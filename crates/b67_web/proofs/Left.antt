@@ -1,10 +1,10 @@
 -- Numbers that are read as places from the front.
-use Rattle.std.proofs.Common.{◌≡◌, ◌≢◌, ◌==◌, true, false, ℕ, ◌-◌, ◌<◌, ◌≤◌, List, [], ◌∷◌, ◌++◌, length, take, drop, get_or, refl, sym, ap, ◌∙◌, subst, append_assoc, append-nil, arith}
+use Rattle.std.proofs.Common.{◌≡◌, ◌≢◌, ◌^◌, ◌==◌, true, false, ℕ, ◌-◌, ◌<◌, ◌≤◌, List, [], ◌∷◌, ◌++◌, length, take, drop, get_or, refl, sym, ap, ◌∙◌, subst, append_assoc, append-nil, arith}
 use Rattle.std.specs.List.{AllByRecursion}
 use Rattle.std.proofs.lemmas.Bool.{eqb-true, eqb-false}
 use Rattle.std.proofs.lemmas.List.{take_rest}
 use Rattle.b67_web.specs.Asked.{numbers_of, IsCodePlace, AsksFor}
-use Rattle.b67_program.specs.Passed.{CodePlace, Sought, Place, Switch}
+use Rattle.b67_program.specs.Passed.{CodePlace, Sought, Place, Switch, Within, Deepest}
 
 -- numbers are those of these places
 abbrev pub AreOf : List ℕ → List CodePlace → Type 0
@@ -80,9 +80,20 @@ all_read numbers places left none before = by left (eqb-true (length left) 0 non
 -- kind 0 asks for nothing by numbers of no places
 pub no_places : (kind : ℕ) (numbers : List ℕ) → kind ≡ 0 → ((places : List CodePlace) → AllByRecursion IsCodePlace places → numbers ≢ numbers_of places) → (what : Sought) (places : List CodePlace) → AsksFor what places kind numbers → ⊥
 no_places kind numbers is none Place places a = none places a.2 a.1
-no_places kind numbers is none Switch places a = (let one = a.0 in omega (arith, is, one))
+no_places kind numbers is none Switch places a = (let other = a.0 in omega (arith, is, other))
+no_places kind numbers is none (Within job number height) places a = (let other = a.0 in omega (arith, is, other))
+no_places kind numbers is none Deepest places a = (let other = a.0 in omega (arith, is, other))
+
+-- kind 2 by numbers of no task
+pub no_within : (kind : ℕ) (numbers : List ℕ) → kind ≡ 2 → ((job number height : ℕ) → job < 2 ^ 8 → numbers ≢ job ∷ number ∷ height ∷ 0 ∷ []) → (what : Sought) (places : List CodePlace) → AsksFor what places kind numbers → ⊥
+no_within kind numbers is none Place places a = (let other = a.0 in omega (arith, is, other))
+no_within kind numbers is none Switch places a = (let other = a.0 in omega (arith, is, other))
+no_within kind numbers is none (Within job number height) places a = none job number height a.3 a.2
+no_within kind numbers is none Deepest places a = (let other = a.0 in omega (arith, is, other))
 
 -- another kind asks for nothing
-pub no_kind : (kind : ℕ) (numbers : List ℕ) → kind ≢ 0 → kind ≢ 1 → (what : Sought) (places : List CodePlace) → AsksFor what places kind numbers → ⊥
-no_kind kind numbers not_0 not_1 Place places a = not_0 a.0
-no_kind kind numbers not_0 not_1 Switch places a = not_1 a.0
+pub no_kind : (kind : ℕ) (numbers : List ℕ) → kind ≢ 0 → kind ≢ 1 → kind ≢ 2 → kind ≢ 3 → (what : Sought) (places : List CodePlace) → AsksFor what places kind numbers → ⊥
+no_kind kind numbers not_0 not_1 not_2 not_3 Place places a = not_0 a.0
+no_kind kind numbers not_0 not_1 not_2 not_3 Switch places a = not_1 a.0
+no_kind kind numbers not_0 not_1 not_2 not_3 (Within job number height) places a = not_2 a.0
+no_kind kind numbers not_0 not_1 not_2 not_3 Deepest places a = not_3 a.0

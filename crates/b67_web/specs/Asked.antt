@@ -1,7 +1,7 @@
 -- What a page asks a search for, and what it is told.
 use Rattle.std.specs.Prelude.{◌≡◌, ◌<◌, ◌^◌, ℕ, List, [], ◌∷◌, Option, Some, None, Result, Ok, Err}
 use Rattle.std.specs.List.{AllByRecursion}
-use Rattle.b67_program.specs.Passed.{CodePlace, Sought, Place, Switch}
+use Rattle.b67_program.specs.Passed.{CodePlace, Sought, Place, Switch, Within, Deepest}
 use Rattle.b67_program.specs.Found.{IsFoundInMemory, find_status}
 use Rattle.b67_program.specs.declared.finding.FindFault.{FindFault}
 
@@ -17,10 +17,13 @@ pub record IsCodePlace (p : CodePlace) : Type 0 where
   pub word : p.place.word < 2 ^ 16
   pub syllable : p.place.syllable < 2 ^ 8
 
--- a kind and numbers ask for this: kind 0 for places, by their numbers; kind 1 for a switch of tasks
+-- a kind and numbers ask for this: kind 0 for places, by their numbers; kind 1 for a switch of tasks; kind 2 for a task by its job and
+-- number, within a height; kind 3 for the highest stack
 abbrev pub AsksFor : Sought → List CodePlace → ℕ → List ℕ → Type 0
 AsksFor Place places kind numbers = (kind ≡ 0) × (numbers ≡ numbers_of places) × AllByRecursion IsCodePlace places
 AsksFor Switch places kind numbers = (kind ≡ 1) × (places ≡ [])
+AsksFor (Within job number height) places kind numbers = (kind ≡ 2) × (places ≡ []) × (numbers ≡ job ∷ number ∷ height ∷ 0 ∷ []) × (job < 2 ^ 8)
+AsksFor Deepest places kind numbers = (kind ≡ 3) × (places ≡ [])
 
 -- the page is told this status, and the count if there is one; else what stood in its place stays there
 abbrev pub Tells : Result (Option ℕ) FindFault → ℕ → ℕ → ℕ → Type 0

@@ -1,6 +1,6 @@
 //! What a page asks a search for.
 
-ghost use Rattle.std.specs.Prelude.{◌≡◌, ◌≢◌, List, Some, None, Result, Ok, IfSome, IfOk};
+ghost use Rattle.std.specs.Prelude.{◌≡◌, ◌≢◌, ◌<◌, ◌^◌, ℕ, List, [], ◌∷◌, Some, None, Result, Ok, IfSome, IfOk};
 ghost use Rattle.std.specs.List.{AllByRecursion};
 ghost use Rattle.b67_program.specs.Passed.{CodePlace, Sought};
 ghost use Rattle.b67_program.specs.Found.{IsFoundInMemory};
@@ -55,8 +55,26 @@ fn places_of(alloc: Global, numbers: &[u32]) -> Result<Option<Vec<CodePlace>>, A
     Ok(Some(places))
 }
 
+/// The task that four numbers name, and its height: job, number, height and 0.
+fn within_of(numbers: &[u32]) -> Option<Sought>
+    ensures some { IfSome result (λ what. AsksFor what [] 2 numbers.now) }
+    ensures none { result ≡ None → (job number height : ℕ) → job < 2 ^ 8 → numbers.now ≢ job ∷ number ∷ height ∷ 0 ∷ [] }
+{
+    let [job, number, height, end] = numbers else {
+        return None;
+    };
+    if *job > 255 || *end > 0 {
+        return None;
+    }
+    Some(Sought::Within {
+        job: *job as u8,
+        number: *number,
+        height: *height,
+    })
+}
+
 /// What a kind and numbers ask for, if they ask for anything.
-#[tactic(auto, using(crate::proofs::Left::no_places, crate::proofs::Left::no_kind))]
+#[tactic(auto, using(crate::proofs::Left::no_places, crate::proofs::Left::no_within, crate::proofs::Left::no_kind))]
 fn question_of(alloc: Global, kind: u32, numbers: &[u32]) -> Result<Option<Question>, AllocError>
     ensures some { IfOk result (λ found. IfSome found (λ q. AsksFor q.what q.places.items kind numbers.now)) }
     ensures none { result ≡ Ok None → (what : Sought) (places : List CodePlace) → AsksFor what places kind numbers.now → ⊥ }
@@ -72,6 +90,17 @@ fn question_of(alloc: Global, kind: u32, numbers: &[u32]) -> Result<Option<Quest
         },
         1 => Ok(Some(Question {
             what: Sought::Switch,
+            places: Vec::new(alloc),
+        })),
+        2 => match within_of(numbers) {
+            Some(what) => Ok(Some(Question {
+                what,
+                places: Vec::new(alloc),
+            })),
+            None => Ok(None),
+        },
+        3 => Ok(Some(Question {
+            what: Sought::Deepest,
             places: Vec::new(alloc),
         })),
         _ => Ok(None),
@@ -98,6 +127,9 @@ fn tell(answer: Result<Option<u64>, FindFault>, found: &mut u64) -> u8
 /// - Kind 0: it stands at one of the places that the numbers name, four a place: job, displacement of the segment in the dictionary,
 ///   word and syllable.
 /// - Kind 1: another task makes it than made the one before.
+/// - Kind 2: a task makes it whose topmost mark stands so high or lower, in words from the base of its stack. The numbers are its
+///   job, its number, the height and 0.
+/// - Kind 3: the stack of the task that makes it is the highest of all.
 ///
 /// Status 0 is that it was found, 1 that it holds at no such count. Else nothing is answered: 2 the deck is refused; 4 core is too
 /// small, or 5 there are too few sectors, to open the session or for a step before anything is found; 9 out of memory; 255 the
