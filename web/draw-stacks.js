@@ -34,7 +34,7 @@ function longestName(state) {
 class StacksDrawing {
   // `view` says what is folded and followed, and which arrows are drawn; `operators` name the cards of return words.
   constructor(state, operators, view) {
-    Object.assign(this, {state, operators, view, parts: [], records: new Map(), cells: new Map(), lowest: 40, highest: 0});
+    Object.assign(this, {state, operators, view, parts: [], registers: [], records: new Map(), cells: new Map(), lowest: 40, highest: 0});
     this.fresh = new Set(state.freshCells);
     this.short = view.fit && state.tasks.length > 3;
     this.room = COUPLE + Math.ceil(CHARACTER * longestName(state));
@@ -48,8 +48,8 @@ class StacksDrawing {
   }
 
   // Adds a part: what makes it at the origin, by a key that says all it depends on, and its place.
-  add(key, x, y, make) {
-    this.parts.push({key, place: `translate(${x} ${y})`, make: () => drawn('g', {}, make())});
+  add(key, x, y, make, parts = this.parts) {
+    parts.push({key, place: `translate(${x} ${y})`, make: () => drawn('g', {}, make())});
   }
 
   draw() {
@@ -165,8 +165,8 @@ class StacksDrawing {
   drawRegisters(task, x, y) {
     const mark = this.records.get(`${task.name} ${task.records.length}`).y, together = Math.abs(mark - y - 10) < 4;
     const text = together ? '◂ S, F' : '◂ S';
-    this.add(`S ${task.name} ${text}`, x, y, () => textAt(0, 15, 'dim small', text));
-    if (!together) this.add(`F ${task.name}`, x, mark, () => textAt(0, 5, 'dim small', '◂ F'));
+    this.add(`S ${task.name} ${text}`, x, y, () => textAt(0, 15, 'dim small register', text), this.registers);
+    if (!together) this.add(`F ${task.name}`, x, mark, () => textAt(0, 5, 'dim small register', '◂ F'), this.registers);
   }
 }
 
@@ -204,7 +204,7 @@ const pictures = new WeakMap(); // by its box: the picture's element, what is dr
 function pictureOf(box) {
   const kept = pictures.get(box);
   if (kept?.svg.parentNode === box) return kept;
-  const made = {svg: drawn('svg', {role: 'img'}, drawn('g'), drawn('g'))};
+  const made = {svg: drawn('svg', {role: 'img'}, drawn('g'), drawn('g'), drawn('g'))};
   put(box, made.svg);
   pictures.set(box, made);
   return made;
@@ -222,10 +222,17 @@ export function showStacks(box, state, operators, view, {clientWidth, clientHeig
   Object.assign(picture, {cells: drawing.cells, size, above});
   for (const [name, value] of Object.entries({width: width * size, height: full * size, viewBox: `0 ${above} ${width} ${full}`})) set(svg, name, value);
   svg.setAttribute('aria-label', spoken(state));
-  putKept(svg.firstChild, drawing.parts.map(({key, make}) => [key, make])).forEach((node, k) => set(node, 'transform', drawing.parts[k].place));
-  putKept(svg.lastChild, paths);
+  const [records, arrows, registers] = svg.children;
+  putPlaced(records, drawing.parts);
+  putKept(arrows, paths);
+  putPlaced(registers, drawing.registers);
   const running = drawing.tasks.find(task => task.runs), at = running && drawing.records.get(`${running.name} ${running.records.length}`);
   if (at) bringIn(box, {x: at.x * size, right: (at.x + at.width) * size, y: (at.y - above) * size}, {clientWidth, clientHeight, scrollLeft, scrollTop, key: `${state.count} ${running.name} ${running.records.length}`});
+}
+
+// Puts parts into a group, each at its place.
+function putPlaced(group, parts) {
+  putKept(group, parts.map(({key, make}) => [key, make])).forEach((node, k) => set(node, 'transform', parts[k].place));
 }
 
 const watched = new WeakMap(); // by its box: the record on top that was brought into view last
