@@ -3,6 +3,7 @@ import assert from 'node:assert/strict';
 import {after, test} from 'node:test';
 import {setImmediate as turn} from 'node:timers/promises';
 import {Native, decks} from './native.js';
+import {lostStores} from '../lost.js';
 import {Machine} from '../machine.js';
 import {Search} from '../search.js';
 
@@ -30,6 +31,17 @@ for (const [name, searches] of Object.entries(FOUND)) {
     await turn();
     const search = searchOf(name);
     for (const [kind, from, way, to, what] of searches) assert.equal(search.find(kind, from, way, what ?? []), to, `${kind} from ${from}`);
+  });
+}
+
+// The stores that are lost in a run: the operator that writes over one, and the one that had stored.
+const LOST = {switched: [[17, 12]], shared: [], bank: [[54, 38]]};
+
+for (const [name, lost] of Object.entries(LOST)) {
+  test(`${name}: stores that are lost`, async () => {
+    await turn();
+    const search = searchOf(name), briefs = Array.from({length: search.machine.end() + 1}, (_, count) => search.brief(count));
+    assert.deepEqual(lostStores(briefs).map(it => [it.at, it.lost]), lost);
   });
 }
 
