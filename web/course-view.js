@@ -28,6 +28,10 @@ function numberOf({id, sheet, number}) {
 function nameOfTask(task) {
   return `${task.kind} ${numberOf(task)}`;
 }
+// A text in which a card's name isn't parted from the question mark before it.
+function unparted(text) {
+  return text.replace(/\?(?=[A-Z])/g, '?\u2060');
+}
 function lessonOf({id}) {
   return id.split('.')[0];
 }
@@ -81,7 +85,7 @@ export class Course {
     this.listSheets();
   }
   lessonPart({id, title, idea, shows, tells = {}, tasks}) {
-    const sentence = (parts, k) => element('li', {'data-tells': tells[k]}, element('span', {}, parts.map(part => (Array.isArray(part) ? element('a', {href: part[1]}, part[0]) : part))));
+    const sentence = (parts, k) => element('li', {'data-tells': tells[k]}, element('span', {}, parts.map(part => (Array.isArray(part) ? element('a', {href: part[1]}, part[0]) : unparted(part)))));
     return element('details', {id: `lesson-${id}`}, element('summary', {}, `${id} ${title} `, element('span', {class: 'dim', 'data-lesson': id})),
       element('p', {}, idea, ' ', element('a', {href: `#lesson:${id}`, class: 'small'}, 'address')), element('ol', {}, shows.map(sentence)),
       element('ul', {class: 'tasks'}, tasks.map(task => this.taskRow(task, `#task:${task.id}`))), this.paperButton(`${id} ${title}`, tasks));
@@ -92,7 +96,7 @@ export class Course {
     return element('p', {class: 'small'}, element('button', {type: 'button', title: 'the questions alone, with room for answers', onclick: () => printQuestions(title, parts)}, 'Questions on paper'));
   }
   taskRow(task, href) {
-    return element('li', {'data-task': task.id}, element('a', {href}, nameOfTask(task)), ` ${task.name ? `${task.name}. ` : ''}${task.text} `, element('span', {class: 'dim'}, task.kind === 'write' ? wantedText(task) : ''));
+    return element('li', {'data-task': task.id}, element('a', {href}, nameOfTask(task)), ` ${task.name ? `${task.name}. ` : ''}${unparted(task.text)} `, element('span', {class: 'dim'}, task.kind === 'write' ? wantedText(task) : ''));
   }
 
   // The sheets that this browser has got, each with a link that leads to it.

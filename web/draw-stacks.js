@@ -59,7 +59,7 @@ class StacksDrawing {
     this.tasks.forEach((task, column) => {
       const width = this.widthOf(task), gap = this.short ? GAP - 14 : GAP;
       this.drawTask(task, column, x, width);
-      if (!column) this.first = {parts: [...this.parts], right: x + width + 6};
+      if (!column) this.first = {parts: [...this.parts], right: x + Math.max(width, this.text(task.condition).length * CHARACTER) + 6};
       x += Math.max(width, this.text(task.condition).length * CHARACTER - 10) + (lanes(column) ? Math.max(gap, BESIDE + LANE * lanes(column)) : gap);
     });
     const {paths, lowest, shown} = drawArrows(arrows, this);

@@ -82,7 +82,7 @@ export function showLine(session, goes, width = byId('line').clientWidth || 1000
   session.window = windowOf(session.state.count, session.end, session.window);
   const {state, window, briefs, stops, end} = session, line = byId('line'), all = end ?? window.to, known = briefsOf(briefs, window);
   session.losses = lostStores(known);
-  session.signs = signsOn(known, session.losses);
+  session.signs = signsOn(known, session.losses, known.length > Math.min(window.to, all) - window.from);
   showSigns(byId('signs'), session.signs, goes);
   if (!session.otherState) putKept(byId('changed'), changesPart(state, changesOf(session)));
   const deepest = showTimeline(line, {count: state.count, window, briefs, stops, losses: session.losses, width}), depth = depthText(state, deepest);

@@ -44,6 +44,7 @@ test('signs of the line of time', () => {
   const counts = signs => Object.fromEntries(signs.map(it => [it.kind, it.counts]));
   assert.deepEqual(counts(signsOn(briefs, [])), {in: [1, 3], out: [1], line: [2], bad: [4]});
   assert.deepEqual(counts(signsOn([...briefs, brief(5, {records: {1.1: 1, 1.2: 1}})], [{at: 5}, {at: 5}])).lost, [5]);
+  assert.equal(counts(signsOn([brief(5, {records: {1.1: 1, 1.2: 1}})], [], false)).lost, undefined);
   assert.deepEqual([0, 1, 3].map(now => nextOf([1, 3], now)), [1, 3, 1]);
   assert.deepEqual([0, 1, 3, 9].map(now => nextOf([1, 3], now, -1)), [3, 3, 1, 3]);
 });
