@@ -3,8 +3,8 @@ import {element, putKept} from './elements.js';
 import {countOf} from './words.js';
 
 const SIGNS = [
-  {kind: 'in', sign: '▲', none: 'words come into core', one: 'page-in', holds: it => it.paging.includes('in')},
-  {kind: 'out', sign: '▼', none: 'words leave core', one: 'page-out', holds: it => it.paging.includes('out')},
+  {kind: 'in', sign: '▲', none: 'words come into core', one: 'time into core', many: 'times into core', holds: it => it.paging.includes('in')},
+  {kind: 'out', sign: '▼', none: 'words leave core', one: 'time out of core', many: 'times out of core', holds: it => it.paging.includes('out')},
   {kind: 'line', sign: '●', none: 'a line is printed', one: 'line printed', many: 'lines printed', holds: it => it.lines > 0 && !it.bad},
   {kind: 'bad', sign: '✕', none: 'a fault', one: 'fault', holds: it => it.bad},
 ];
