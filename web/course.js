@@ -51,7 +51,7 @@ export const COURSE = [
       ['Without the switch ', ['the same program prints 2', '#shared,685,26'], ', since the child fetches what its parent has stored.']],
     tasks: [
       {id: '4.1', kind: 'predict', at: 'switched,685,7', text: 'Which task makes operator 8?'},
-      {id: '4.2', kind: 'find', at: 'switched,685,0', text: 'The lost addition: go to the store that changes nothing.', how: 'Click the cell 2,2 when it is in the picture, and press n: the next store into it. What changed says what it was before.', holds: state => state.changes.some(it => it.into && / already$/.test(it.text))},
+      {id: '4.2', kind: 'find', at: 'switched,685,0', text: 'The lost addition: go to the store that changes nothing.', how: 'Click the cell 2,2 when it is in the picture, and press n: the next store into it. What changed says what it was before.', asksLost: true, holds: state => state.changes.some(it => it.into && / already$/.test(it.text))},
       {id: '4.3', kind: 'write', at: 'shared,685', text: 'What if the parent doesn’t await its child? In the deck shared take the cards of AWAIT out (card 18 to 21), and the MKST of card 22 stays.', lines: ['1.1 1', '1.2 PARENT', '1.1 CRITICAL BLOCK']},
       {id: '4.4', kind: 'find', at: 'dining,3258,0', text: 'The philosophers: go to a moment at which four tasks or more wait.', how: 'Key t goes to the next change of task, e to the operator before the first fault. Below each stack stands whether its task waits.', holds: state => state.tasks.filter(task => task.condition !== 'ready').length >= 4},
       {id: '4.5', kind: 'write', text: 'Write a deck of one task that waits for an event which nobody causes. WAIT is a procedure of the MCP, and takes the couple of a cell with 0.', lines: ['1.1 DEADLOCK']}]},

@@ -11,6 +11,7 @@ export const KEYS = [
   {key: 'g', act: 'paging', shift: true, what: 'next paging: words come into core or leave it', short: 'paging'},
   {key: 't', act: 'task', shift: true, what: 'next change of task', short: 'task'},
   {key: 'n', act: 'store', shift: true, what: 'next store into the cell or the array that is followed', short: 'store'},
+  {key: 'x', act: 'lost', shift: true, what: 'next store that is lost: another task writes over it, and had fetched the cell before it'},
   {key: 'v', act: 'follow', shift: true, what: 'follow the next cell or array (a click on it does the same)', short: 'follow'},
   {key: 'f', act: 'fault', shift: true, what: 'next fault or end of a task', short: 'fault or end'},
   {key: 'r', act: 'deepest', what: 'the moment at which a stack has the most records of the whole run', short: 'deepest'},

@@ -1,6 +1,7 @@
 // Searches through a run: for the next line, paging, change of task, store, fault, end of a call, or breakpoint. Lines and faults
 // are found by halving, the others state by state. Where none follows a search gives null, but the end of a call may be the run's.
 import {endingOf} from './changes.js';
+import {touchesOf} from './lost.js';
 import {least, MOST_OPERATORS} from './machine.js';
 
 const MOST_GLANCES = 20000;
@@ -12,7 +13,7 @@ function briefOf(state) {
   return {
     count, status, task: operator?.task ?? '', card: cardKey(operator), text: operator?.text ?? '', lines: fresh.length,
     ends: endings.length > 0, bad: endings.some(it => it.bad) || status > 3,
-    stores: changes.flatMap(it => it.into ?? []),
+    stores: changes.flatMap(it => it.into ?? []), ...touchesOf(changes),
     records: Object.fromEntries(tasks.map(task => [task.name, task.records.length])),
     paging: [...new Set(changes.filter(it => it.kind === 'in' || it.kind === 'out').map(it => it.kind))],
     depths: Object.fromEntries(tasks.map(task => [task.name, task.records.filter(record => record.level >= 0).length])),

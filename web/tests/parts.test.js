@@ -150,7 +150,7 @@ test('each key does one thing', () => {
   assert.deepEqual(actOf('o', true), {act: 'line', way: -1});
   assert.deepEqual(actOf('O', true), {act: 'line', way: -1});
   assert.deepEqual(actOf('ArrowLeft', false), {act: 'back', way: 1});
-  assert.equal(actOf('x', false), null);
+  assert.equal(actOf('j', false), null);
 });
 
 // What join.py takes out of docs, asked of itself.
@@ -178,7 +178,8 @@ test('what a card’s operator does', () => {
   assert.match(lexicon.ofCard('TOP: ADD  ; the sum'), /^ADD: adds the two numbers on top\.$/);
   assert.match(lexicon.ofCard('NAMC 0,9'), /the MCP’s procedure PRINT, which prints the value/);
   assert.match(lexicon.ofCard('VALC 2,3'), /the value of the cell\. 2,3 is cell 3 of the record of level 2\.$/);
-  for (const card of ['SEGMENT MAIN 2', '; ADD', '', 'ROW R', '?END']) assert.equal(lexicon.ofCard(card), '');
+  assert.match(lexicon.ofCard('?SWITCH 7 1.2'), /^\?SWITCH: when so many operators of the whole run are made, this task makes the next one/);
+  for (const card of ['SEGMENT MAIN 2', '; ADD', '', 'ROW R', '?NONE', '?']) assert.equal(lexicon.ofCard(card), '');
   const terms = new Map(lexicon.terms.map(cells => [cells[0], cells.at(-1)]));
   for (const term of ['couple', 'accidental entry', 'thunk', 'dictionary', 'hole', 'sector, chain', 'theorem']) assert.ok(terms.get(term), term);
   assert.match(joined('proved'), /Nothing proves that the WebAssembly/);

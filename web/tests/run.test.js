@@ -3,6 +3,7 @@ import assert from 'node:assert/strict';
 import {after, test} from 'node:test';
 import {setImmediate as turn} from 'node:timers/promises';
 import {Native, decks} from './native.js';
+import {lostStores} from '../lost.js';
 import {Machine} from '../machine.js';
 import {Search} from '../search.js';
 
@@ -33,12 +34,23 @@ for (const [name, searches] of Object.entries(FOUND)) {
   });
 }
 
+// The stores that are lost in a run: the operator that writes over one, and the one that had stored.
+const LOST = {switched: [[17, 12]], shared: [], bank: [[54, 38]]};
+
+for (const [name, lost] of Object.entries(LOST)) {
+  test(`${name}: stores that are lost`, async () => {
+    await turn();
+    const search = searchOf(name), briefs = Array.from({length: search.machine.end() + 1}, (_, count) => search.brief(count));
+    assert.deepEqual(lostStores(briefs).map(it => [it.at, it.lost]), lost);
+  });
+}
+
 // What a count changed, and the card of its operator.
 const CHANGED = [
   ['two', 20, 25, /^array 2,2 .* to sectors 2 to 8, which it takes now\. No copy led into core, so none is turned$/],
   ['two', 23, 28, /^array 2,3 .* to sectors 9 to 15, which it takes now\./],
   ['two', 20, 25, /^element 6 of array 2,3 .*: 0 becomes 12$/],
-  ['switched', 8, 29, /^task 1\.2 runs, after 1\.1$/],
+  ['switched', 8, 29, /^1\.2 runs, after 1\.1$/],
   ['switched', 12, 33, /^cell 2,2, in record 1 of task 1\.1: 0 becomes 1$/],
   ['switched', 17, 18, /^cell 2,2, in record 1 of task 1\.1: 1 is stored, and it was 1 already$/],
   ['jensen', 21, 24, /^cell 2,2, in record 1 of task 1\.1: 0 becomes 1$/],
