@@ -15,3 +15,4 @@ pub mod Status
 pub mod Causes
 pub mod Passed
 pub mod LookedAt
+pub mod Stepped

@@ -55,7 +55,7 @@ module _ {K : Type 0} {taken : K → Option (List ℕ)} {old between : K} {was i
   front_took : Prints taken old between was before printed is now → before ≡ 0 → Took taken old between (run_text printed ++ take now is)
   front_took p e = subst (λ (x : List ℕ). Took taken old between x) (sym (ap (λ n. take n was ++ p.text) e) ∙ p.same) p.took
 
-  lines_took : Prints taken old between was before printed is now → before ≡ 0 → now ≡ 0 → Took taken old between (run_text printed)
+  pub lines_took : Prints taken old between was before printed is now → before ≡ 0 → now ≡ 0 → Took taken old between (run_text printed)
   lines_took p e f = subst (λ (x : List ℕ). Took taken old between x) (ap (λ n. run_text printed ++ take n is) f ∙ append-nil (run_text printed)) (front_took p e)
 
 -- ---- the steps that a session may make
@@ -73,7 +73,7 @@ sum_below (x ∷ more) m (inr has) low each =
     omega (arith, sum_by-cons (λ (y : SessionJob). y.progress.made) x more, each x (inl refl), sum_below more m has low (λ y k. each y (inr k)))
 
 -- a session of which a task makes the next step has made fewer operators than eight jobs may make
-fewer : (told : Option (List (List ℕ))) (k : Machine) (s : Session) (m : SessionJob) (t : Task) → StandsAt told k s → IsNext s m t → k.tasks.made < MOST_MADE
+pub fewer : (told : Option (List (List ℕ))) (k : Machine) (s : Session) (m : SessionJob) (t : Task) → StandsAt told k s → IsNext s m t → k.tasks.made < MOST_MADE
 fewer told k s m t stands n =
     let inm : Has s.jobs m = (keyed_has number_of n.chosen.who.job s.jobs m n.member).0 in
     let int : Has m.progress.job.tasks t = (keyed_has (λ (u : Task). u.number) n.chosen.who.task m.progress.job.tasks t n.task).0 in

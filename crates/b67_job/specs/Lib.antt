@@ -13,3 +13,5 @@ pub mod Judgement
 pub mod Due
 pub mod Statuses
 pub mod Searches
+pub mod SearchStatus
+pub mod Stepping

@@ -2,3 +2,6 @@
 pub use Rattle.b67_layout_storage.specs.Machine.{DeviceAfterCalls}
 pub use Rattle.b67_image.specs.Parts.{parts_of}
 pub use Rattle.b67_image.specs.Typed.{AreTyped}
+pub use Rattle.b67_session.specs.declared.seeking.CodePlace.{CodePlace}
+pub use Rattle.b67_session.specs.declared.seeking.Sought.{Sought}
+pub use Rattle.b67_session.specs.declared.seeking.Sought.TheVariants.{Place, Switch}

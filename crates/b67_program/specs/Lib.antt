@@ -1,3 +1,4 @@
+pub mod Found
 pub mod InMemory
 pub mod Input
 pub mod Lent
@@ -5,3 +6,5 @@ pub mod Opening
 pub mod Served
 pub mod Started
 pub mod Words
+pub mod Passed
+pub mod Stepped
