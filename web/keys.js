@@ -14,7 +14,7 @@ export const KEYS = [
   {key: 'x', act: 'lost', shift: true, what: 'next store that is lost: another task writes over it, and had fetched the cell before it'},
   {key: 'v', act: 'follow', shift: true, what: 'follow the next cell or array (a click on it does the same)', short: 'follow'},
   {key: 'f', act: 'fault', shift: true, what: 'next fault or end of a task', short: 'fault or end'},
-  {key: 'r', act: 'deepest', what: 'the moment at which a stack has the most records of the whole run', short: 'deepest'},
+  {key: 'r', act: 'deepest', what: 'the moment at which a stack is the highest of the whole run, in words', short: 'highest stack'},
   {key: 'e', act: 'before', what: 'before the end: the last operator before the first fault, or before the end', short: 'before the end'},
   {key: 'b', act: 'stop', what: 'breakpoint at the next card, or none there (a click on a card does the same)', short: 'breakpoint'},
   {key: 'Enter', act: 'stopped', shift: true, what: 'go to the next breakpoint', short: 'go to it'},

@@ -28,7 +28,7 @@ function keepState({states, faults}, core, state) {
 // What was looked for in vain, in a sentence.
 function nothingFound(kind, way, state, followed) {
   const things = {line: 'No line is printed', paging: 'There is no paging', task: 'No other task runs', fault: 'No task ends', stopped: 'No breakpoint is met',
-    store: `Nothing is stored into ${followed && nameOfFollowed(state, followed)}`, over: 'No operator is made', out: 'No operator is made', deepest: 'No stack is deeper'};
+    store: `Nothing is stored into ${followed && nameOfFollowed(state, followed)}`, over: 'No operator is made', out: 'No operator is made', deepest: 'No stack is higher'};
   return `${things[kind]} ${way > 0 ? 'after' : 'before'} this moment, so the page stays here.`;
 }
 
