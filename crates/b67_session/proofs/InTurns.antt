@@ -37,10 +37,3 @@ module _ (told : Option (List (List ℕ))) (steps more : ℕ) (first : Session) 
           y.below (j - steps) (omega (arith, low, up)) (halt_kept old mid keeps ∙ at ∙ ap (λ (n : ℕ). Some n) (omega (arith, x.made, up)))
     ];
   }
-
--- what holds of none of the sessions before, and not of the one in between, holds of none up to it
-pub none_then : (P : Session → Type 0) (steps : ℕ) (first s : Session) → after steps first ≡ s → ((j : ℕ) → j < steps → P (after j first) → ⊥) → (P s → ⊥) → (j : ℕ) → j < steps + 1 → P (after j first) → ⊥
-none_then P steps first s came none other j low = by (below j steps low) where
-  by : (j < steps) ⊎ (j ≡ steps) → P (after j first) → ⊥
-  by (inl less) = none j less
-  by (inr same) = λ p. other (subst P (ap (λ (i : ℕ). after i first) same ∙ came) p)
