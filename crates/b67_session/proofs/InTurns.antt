@@ -1,12 +1,11 @@
 -- Operators of a turn after others of it.
-use Rattle.std.proofs.Common.{◌≡◌, ◌≤◌, ◌<◌, ◌⊎◌, ℕ, ◌+◌, ◌-◌, List, length, Option, Some, inl, inr, sym, ap, ◌∙◌, subst, arith}
+use Rattle.std.proofs.Common.{◌≡◌, ◌≤◌, ◌<◌, ℕ, ◌+◌, ◌-◌, List, length, Option, Some, inl, inr, sym, ap, ◌∙◌, subst, arith}
 use Rattle.std.proofs.lemmas.Bool.{cases_lt}
 use Rattle.b67_model.specs.Common.{after, lines, Session}
 use Rattle.b67_session_lines.proofs.Statuses.{after-add}
 use Rattle.b67_task_tables.specs.declared.tables.Machine.{Machine}
 use Rattle.b67_task_tables.proofs.Keeping.{halt_kept}
 use Rattle.b67_session.specs.Slices.{NextFits, Keeps}
-use Rattle.b67_session.proofs.Fitting.{below}
 use Rattle.b67_session.specs.Steps.{GoesOnInTurn}
 
 module _ (told : Option (List (List ℕ))) (steps more : ℕ) (first : Session) (old mid new : Machine) (keeps : Keeps old mid) (x : GoesOnInTurn told steps first old mid) (y : GoesOnInTurn told more x.session mid new) where
