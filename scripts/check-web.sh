@@ -3,13 +3,14 @@
 #
 #     sh scripts/check-web.sh [PROGRAM]
 #
-# PROGRAM is `b67` on the path if it isn't given. Four parts, and each line says how long one took:
+# PROGRAM is `b67` on the path if it isn't given. Five parts, and each line says how long one took:
 #
 # heap      the heap of the module by itself, built by the kit's clang
 # reader    the page's reader of images and its other parts, by node's own test runner
 # page      made again by scripts/web.sh from the proved crates, with the same bytes as web/b67.html; it wants the esbuild by which
 #           that was joined (web/README.md)
 # module    each deck of decks/ by each command in the page's module and in PROGRAM: statuses, all that is printed, and the sectors
+# searches  of each deck that is run: images by the module's steps and by its command `image`; searches by one run and state by state
 #
 # The last line is `check-web: all the same`, or names the parts that differ or can't be tried. Four minutes on a machine that does
 # nothing else. Status 1 if anything differs, 2 if something is missing: then what can be tried is tried. No part of the gate.
@@ -59,9 +60,12 @@ page() {
 module() {
     $run "$top/web/check/compare.mjs" "$page" "$program" "$top/decks"
 }
+searches() {
+    $run "$top/web/check/searches.mjs" "$page" "$top/decks"
+}
 
 differ='' lacking='' begun=$(date +%s)
-for part in heap reader page module; do
+for part in heap reader page module searches; do
     since=$(date +%s) status=0
     $part >"$room/said" 2>&1 || status=$?
     case $status in
@@ -69,7 +73,7 @@ for part in heap reader page module; do
     2) lacking="$lacking $part" ;;
     *) differ="$differ $part" && sed '$d' "$room/said" ;;
     esac
-    printf '%-7s %s (%d s)\n' "$part" "$(tail -1 "$room/said")" $(($(date +%s) - since))
+    printf '%-8s %s (%d s)\n' "$part" "$(tail -1 "$room/said")" $(($(date +%s) - since))
 done
 took="$(($(date +%s) - begun)) s"
 if [ -n "$differ" ]; then

@@ -242,12 +242,14 @@ class Page:
         return [over[number] for number in range(len(self.blocks))]
 
     def usual_way(self):
-        """The stops of the usual way: chapter, definition, what to look at, and the stop or contract that names it."""
+        """The stops of the usual way: chapter, definition, what to look at, the stop or contract that names it, and 1 if the short way
+        leaves it out."""
         way, chapter, before = [], "", list(self.roots)
         for name, said in rows("way.txt"):
             if name is None:
                 chapter = said
                 continue
+            is_deep, name = name.startswith("+"), name.lstrip("+")
             if name not in self.by_name:
                 raise Wrong(f"way.txt: {name} isn't shown")
             number = self.by_name[name]
@@ -255,7 +257,7 @@ class Page:
             if not over or number in before:
                 raise Wrong(f"way.txt: {name} isn't named by what comes before it, or comes twice")
             before.append(number)
-            way.append([chapter, number, said, over[0]])
+            way.append([chapter, number, said, over[0], int(is_deep)])
         return way
 
     def clauses_in_words(self):
@@ -287,15 +289,16 @@ class Page:
         return [len(block.lines()) for block in self.blocks]
 
     def way_lines(self):
+        """The lines of the two contracts, of these and the short way, and of these and the whole usual way."""
         counts = self.counts()
         contracts = 0
         for function, main in FUNCTIONS[:2]:
             block, text = trust.statement(function, [main])
             contracts += len(trust.Block(block.path, block.name, block.first, text).lines())
-        return contracts, contracts + sum(counts[stop[1]] for stop in self.way)
+        return contracts, contracts + sum(counts[stop[1]] for stop in self.way if not stop[4]), contracts + sum(counts[stop[1]] for stop in self.way)
 
     def data(self):
-        contracts, on_way = self.way_lines()
+        contracts, on_way, on_whole = self.way_lines()
         counts, main = self.counts(), self.main_numbers()
         return {
             "definitions": [
@@ -314,6 +317,7 @@ class Page:
             "main": [int(number in main) for number in range(len(counts))],
             "mainLines": contracts + sum(counts[number] for number in main),
             "wayLines": on_way,
+            "wholeWayLines": on_whole,
             "allLines": sum(counts),
         }
 
@@ -328,7 +332,9 @@ class Page:
             "ENDS_LINES": f"{self.most['serve_described ends'][0]:,}",
             "DECKS_LINES": f"{self.most['run_twice decks'][0]:,}",
             "ALL_LINES": f"{data['allLines']:,}",
-            "STOPS": str(len(self.way)),
+            "WHOLE_LINES": f"{data['wholeWayLines']:,}",
+            "STOPS": str(sum(1 for stop in self.way if not stop[4])),
+            "ALL_STOPS": str(len(self.way)),
             "NAMES": f"{len(self.blocks):,}",
         }
         for name, value in places.items():
@@ -341,9 +347,10 @@ class Page:
         return template.replace("{{DATA}}", shown)
 
     def figures(self):
-        contracts, on_way = self.way_lines()
+        contracts, on_way, on_whole = self.way_lines()
+        short = sum(1 for stop in self.way if not stop[4])
         links = sum(1 for shown in self.shown for line in shown["lines"] for part in line if isinstance(part, list))
-        lines = [f"{on_way:6} lines on the usual way, with {contracts} of two contracts, in {len(self.way)} stops"]
+        lines = [f"{on_way:6} lines on the short way, with {contracts} of two contracts, in {short} stops", f"{on_whole:6} lines on the whole usual way, in {len(self.way)} stops"]
         for name, (count, names) in self.most.items():
             lines.append(f"{count:6} lines at most, {names} names: {name}")
         main = self.main_numbers()
@@ -400,9 +407,10 @@ def flaws_of(text):
             reads = len(own) + sum(counts[one] for one in reached)
             if reads != most:
                 yield f"{definitions[number][0]} {clause}: {most} lines are said, and its links lead to {reads}"
-    on_way = found["contractLines"] + sum(counts[stop[1]] for stop in found["way"])
-    if on_way != found["wayLines"]:
-        yield f"the usual way: {found['wayLines']} lines are said, and it has {on_way}"
+    for name, stops in [("wayLines", [stop for stop in found["way"] if not stop[4]]), ("wholeWayLines", found["way"])]:
+        on_way = found["contractLines"] + sum(counts[stop[1]] for stop in stops)
+        if on_way != found[name]:
+            yield f"the usual way: {found[name]} lines are said, and it has {on_way}"
 
 
 def main(arguments):

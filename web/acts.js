@@ -80,6 +80,7 @@ const STEPS = {
   last: page => page.guard(async () => page.steps.goTo(await page.steps.ask('end', {}))),
   before: page => page.guard(async () => page.steps.goTo(await page.steps.ask('firstFault', {}) - 1)),
   ...Object.fromEntries(['over', 'out', 'line', 'paging', 'task', 'store', 'fault', 'stopped', 'deepest'].map(kind => [kind, (page, way) => page.steps.find(kind, way)])),
+  lost: ({steps}, way) => steps.lost(way),
   stoppedBack: page => page.steps.find('stopped', -1),
   follow: ({steps}, way) => steps.follows(steps.view.walked && way > 0 && steps.view.walked.split(' ').length === 3 ? steps.view.walked : nextChoice(steps.session.state, steps.view.followed, way)),
   stop: ({steps}) => steps.toggle(cardKey(steps.session.state.next ?? steps.session.state.operator)),

@@ -103,6 +103,17 @@ export function operatorsOf(program, deck, job) {
   return operators;
 }
 
+// The places of breakpoints, four numbers each: job, displacement of the segment in the job's dictionary, which is one more than its number,
+// word and syllable. A breakpoint is a card or, of an operator without one, `job/segment@word:syllable`.
+export function placesOf(stops, operators) {
+  const named = stops.filter(stop => stop.includes('/')), cards = new Set(stops);
+  const found = operators.flatMap((job, k) => Object.entries(job).filter(([, [card]]) => card && cards.has(String(card))).map(([place]) => `${k + 1}/${place}`));
+  return [...named, ...found].flatMap(place => {
+    const [job, segment, word, syllable] = place.split(/[/@:]/).map(Number);
+    return [job, segment + 1, word, syllable];
+  });
+}
+
 // The names of a job's segments, in order; none under ?HEX.
 export function segmentNames(deck, job) {
   const {kind, text} = bodyOf(deck, job);

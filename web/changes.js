@@ -55,14 +55,14 @@ function pagingOf(before, after) {
 // The tasks that began or ended, and a task that another one follows.
 function tasksChanged(before, after) {
   const was = new Set(before.tasks.map(task => task.name)), is = new Set(after.tasks.map(task => task.name));
-  const born = [...is].filter(name => !was.has(name)).map(name => ({kind: 'task', text: `task ${name} is started`}));
-  const dead = [...was].filter(name => !is.has(name)).map(name => ({kind: 'task', text: `task ${name} has ended`}));
+  const born = [...is].filter(name => !was.has(name)).map(name => ({kind: 'task', text: `${name} is started`}));
+  const dead = [...was].filter(name => !is.has(name)).map(name => ({kind: 'task', text: `${name} has ended`}));
   const woken = after.tasks.flatMap(task => {
     const old = before.tasks.find(it => it.name === task.name);
-    return old && old.condition !== task.condition ? [{kind: 'task', text: `task ${task.name}: ${task.condition}`}] : [];
+    return old && old.condition !== task.condition ? [{kind: 'task', text: `${task.name}: ${task.condition}`}] : [];
   });
   const other = before.last && after.last && before.last !== after.last;
-  const next = other ? [{kind: 'task', text: `task ${after.last} runs, after ${before.last}`}] : [];
+  const next = other ? [{kind: 'task', text: `${after.last} runs, after ${before.last}`}] : [];
   return [...next, ...born, ...dead, ...woken];
 }
 
@@ -124,7 +124,7 @@ function elements(before, after) {
     const then = new Map(was.numbers);
     const now = new Map(thing.numbers);
     return [...new Set([...then.keys(), ...now.keys()])].filter(n => then.get(n) !== now.get(n))
-      .map(n => ({kind: 'cell', into: thing.cell + thing.kind, text: `element ${n} of ${thing.text}: ${then.get(n) ?? 0} becomes ${now.get(n) ?? 0}`}));
+      .map(n => ({kind: 'cell', into: thing.cell + thing.kind, element: n, text: `element ${n} of ${thing.text}: ${then.get(n) ?? 0} becomes ${now.get(n) ?? 0}`}));
   });
 }
 

@@ -6,6 +6,7 @@ import {showHelp} from './help.js';
 import {keepValue, keptValue} from './keep.js';
 import {deckOfTask, isFound, isWritten, Progress, whyNot} from './progress.js';
 import {Quiz} from './quiz.js';
+import {printQuestions} from './paper.js';
 import {operatorParts} from './reading.js';
 import {packedText} from './share.js';
 import {sheetOf} from './sheet.js';
@@ -26,6 +27,10 @@ function numberOf({id, sheet, number}) {
 }
 function nameOfTask(task) {
   return `${task.kind} ${numberOf(task)}`;
+}
+// A text in which a card's name isn't parted from the question mark before it.
+function unparted(text) {
+  return text.replace(/\?(?=[A-Z])/g, '?\u2060');
 }
 function lessonOf({id}) {
   return id.split('.')[0];
@@ -80,13 +85,18 @@ export class Course {
     this.listSheets();
   }
   lessonPart({id, title, idea, shows, tells = {}, tasks}) {
-    const sentence = (parts, k) => element('li', {'data-tells': tells[k]}, element('span', {}, parts.map(part => (Array.isArray(part) ? element('a', {href: part[1]}, part[0]) : part))));
+    const sentence = (parts, k) => element('li', {'data-tells': tells[k]}, element('span', {}, parts.map(part => (Array.isArray(part) ? element('a', {href: part[1]}, part[0]) : unparted(part)))));
     return element('details', {id: `lesson-${id}`}, element('summary', {}, `${id} ${title} `, element('span', {class: 'dim', 'data-lesson': id})),
       element('p', {}, idea, ' ', element('a', {href: `#lesson:${id}`, class: 'small'}, 'address')), element('ol', {}, shows.map(sentence)),
-      element('ul', {class: 'tasks'}, tasks.map(task => this.taskRow(task, `#task:${task.id}`))));
+      element('ul', {class: 'tasks'}, tasks.map(task => this.taskRow(task, `#task:${task.id}`))), this.paperButton(`${id} ${title}`, tasks));
+  }
+  // A button that prints the questions of a lesson or of a sheet.
+  paperButton(title, tasks) {
+    const parts = tasks.map((task, k) => ({kind: task.kind, text: task.text, name: task.name, number: k + 1, wanted: task.kind === 'write' ? wantedText(task) : ''}));
+    return element('p', {class: 'small'}, element('button', {type: 'button', title: 'the questions alone, with room for answers', onclick: () => printQuestions(title, parts)}, 'Questions on paper'));
   }
   taskRow(task, href) {
-    return element('li', {'data-task': task.id}, element('a', {href}, nameOfTask(task)), ` ${task.name ? `${task.name}. ` : ''}${task.text} `, element('span', {class: 'dim'}, task.kind === 'write' ? wantedText(task) : ''));
+    return element('li', {'data-task': task.id}, element('a', {href}, nameOfTask(task)), ` ${task.name ? `${task.name}. ` : ''}${unparted(task.text)} `, element('span', {class: 'dim'}, task.kind === 'write' ? wantedText(task) : ''));
   }
 
   // The sheets that this browser has got, each with a link that leads to it.
@@ -94,7 +104,7 @@ export class Course {
     const parts = await Promise.all(this.sheets.map(async ({key, title, text, tasks}) => {
       const hash = `#sheet:${await packedText(text)}`;
       return element('details', {id: `sheet-${key}`, open: this.current?.sheet === key}, element('summary', {}, `${title} `, element('span', {class: 'dim', 'data-lesson': key})),
-        element('ul', {class: 'tasks'}, tasks.map((task, k) => this.taskRow(task, `${hash},${k + 1}`))));
+        element('ul', {class: 'tasks'}, tasks.map((task, k) => this.taskRow(task, `${hash},${k + 1}`))), this.paperButton(title, tasks));
     }));
     put(byId('sheets'), parts);
     this.showMarks();
@@ -109,6 +119,7 @@ export class Course {
       row.classList.toggle('current', this.current?.id === row.dataset.task);
     }
     for (const step of document.querySelectorAll('#lessons [data-tells]')) step.classList.toggle('untold', step.dataset.tells.split(' ').includes(this.current?.id) && !this.progress.isDone(this.current));
+    document.body.classList.toggle('hides-lost', Boolean(this.current?.asksLost) && !this.progress.isDone(this.current));
     for (const {id, key, tasks} of [...COURSE, ...this.sheets]) {
       const box = document.querySelector(`[data-lesson="${id ?? key}"]`);
       if (box) box.textContent = `${tasks.filter(task => this.progress.isDone(task)).length} of ${tasks.length}`;
@@ -266,7 +277,7 @@ export class Course {
 
   // Asks before a step; a right answer at the moment of a task to predict does it.
   async asks(now, then, session) {
-    const said = await this.quiz.asks(now, then), task = this.current;
+    const said = await this.quiz.asks(now, then, session.text), task = this.current;
     if (!said || task?.kind !== 'predict') return;
     const {name, core} = session, its = task.at === `${name},${core},${now.count}` || task.count === now.count && (task.deck ? session.raw === task.deck : name === deckOfTask(task));
     if (its) this.done(task, {deck: session.raw, core, count: now.count}, `Right: ${said}.`);

@@ -25,7 +25,7 @@ export const COURSE = [
     tasks: [
       {id: '2.1', kind: 'predict', at: 'factorial,4096,23', text: 'FACT calls itself: where does the static link of the new record lead?'},
       {id: '2.2', kind: 'find', at: 'factorial,4096,0', text: 'Go to the first RETN: a record is left, and 3,2 is another cell than before.', how: 'Click a card with RETN, which sets a breakpoint, and press Enter: the machine goes on to it.', holds: made('RETN'), first: true},
-      {id: '2.3', kind: 'find', at: 'factorial,4096,0', text: 'Go to a moment at which task 1.1 has six records or more.', how: 'Step with →, or go to the deepest moment of all (key r), which takes a while.', holds: state => deepest(state) >= 6},
+      {id: '2.3', kind: 'find', at: 'factorial,4096,0', text: 'Go to a moment at which task 1.1 has six records or more.', how: 'Step with →, or go to the moment at which the stack is the highest (key r).', holds: state => deepest(state) >= 6},
       {id: '2.4', kind: 'write', at: 'factorial,4096', text: 'Why can’t FACT have level 4? Give it that level, and press Check: the loader refuses it by its rule 8.', refused: /^LOAD \d+ REASON 8 /},
       {id: '2.5', kind: 'write', text: 'Words below an open mark can’t be taken. Write a deck that pushes a word, marks the stack with MKST, and then tries to take the word: DLET takes one.', lines: ['1.1 STACK UNDERFLOW']}]},
   {id: '3', title: 'Call by name', tells: {1: '3.1', 2: '3.2'}, idea: 'ALGOL 60 passes an expression, which is evaluated at each use. Here a thunk is passed, a procedure without parameters; an operator that wanted a value meets it, and enters it by accident.',
@@ -41,7 +41,7 @@ export const COURSE = [
       {id: '3.3', kind: 'find', at: 'jensen,4096,30', text: 'How often is i × i computed? Go to the last time: the MULT that leaves 100.', how: 'Click the card with MULT, and press Enter again and again: each time counts.', holds: state => made('MULT')(state) && recordsOf(state, '1.1').at(-1).cells.at(-1)?.text === '100'},
       {id: '3.4', kind: 'write', at: 'jensen,4096', text: 'What is SUM(i, 1)? Pass ONE in the place of the thunk SQ: two cards become one.', lines: ['1.1 10', '1.1 ENDED'], has: /SEGMENT SUM/},
       {id: '3.5', kind: 'write', at: 'swap,4096', text: 'SWAP(i, A[i]) fails. Let the deck call SWAP(A[i], i), which works.', lines: ['1.1 3', '1.1 1', '1.1 0', '1.1 ENDED'], has: /SEGMENT SWAP/},
-      {id: '3.6', kind: 'find', at: 'manboy,32768,0', text: 'Man or boy: go to a moment at which the stack has 257 records, more than at any other.', how: 'Key r goes to the deepest moment of a run. It takes some time here.', holds: state => deepest(state) >= 257}]},
+      {id: '3.6', kind: 'find', at: 'manboy,32768,0', text: 'Man or boy: go to a moment at which the stack has 257 records, more than at any other.', how: 'Key r goes to the moment at which the stack is the highest.', holds: state => deepest(state) >= 257}]},
   {id: '4', title: 'Tasks on a cactus', tells: {1: '4.1', 2: '4.1', 3: '4.1 4.2'}, idea: 'A child has a stack of its own, whose first static link leads into its parent’s stack. Both see the same cells, and one may read between the other’s reading and writing.',
     shows: [
       ['Two tasks add 1 to one cell, 2,2 in record 1 of task 1.1: the child 1.2, which ', ['operator 6', '#switched,685,6'], ' starts, finds it by its static link.'],
@@ -51,7 +51,7 @@ export const COURSE = [
       ['Without the switch ', ['the same program prints 2', '#shared,685,26'], ', since the child fetches what its parent has stored.']],
     tasks: [
       {id: '4.1', kind: 'predict', at: 'switched,685,7', text: 'Which task makes operator 8?'},
-      {id: '4.2', kind: 'find', at: 'switched,685,0', text: 'The lost addition: go to the store that changes nothing.', how: 'Click the cell 2,2 when it is in the picture, and press n: the next store into it. What changed says what it was before.', holds: state => state.changes.some(it => it.into && / already$/.test(it.text))},
+      {id: '4.2', kind: 'find', at: 'switched,685,0', text: 'The lost addition: go to the store that changes nothing.', how: 'Click the cell 2,2 when it is in the picture, and press n: the next store into it. What changed says what it was before.', asksLost: true, holds: state => state.changes.some(it => it.into && / already$/.test(it.text))},
       {id: '4.3', kind: 'write', at: 'shared,685', text: 'What if the parent doesn’t await its child? In the deck shared take the cards of AWAIT out (card 18 to 21), and the MKST of card 22 stays.', lines: ['1.1 1', '1.2 PARENT', '1.1 CRITICAL BLOCK']},
       {id: '4.4', kind: 'find', at: 'dining,3258,0', text: 'The philosophers: go to a moment at which four tasks or more wait.', how: 'Key t goes to the next change of task, e to the operator before the first fault. Below each stack stands whether its task waits.', holds: state => state.tasks.filter(task => task.condition !== 'ready').length >= 4},
       {id: '4.5', kind: 'write', text: 'Write a deck of one task that waits for an event which nobody causes. WAIT is a procedure of the MCP, and takes the couple of a cell with 0.', lines: ['1.1 DEADLOCK']}]},

@@ -9,7 +9,7 @@ const LETTERS = {mcp: 'M', dictionary: 'D', stack: 'S', code: 'C', row: 'R', arr
 // The kinds of changes: the colour and the words of each.
 const CHANGES = {
   in: ['in', 'comes into core'], out: ['out', 'leaves core'], turn: ['turn', 'copy turned'], made: ['in', 'new in core'],
-  gone: ['quiet', 'gone'], task: ['turn', 'task'], cell: ['quiet', 'store'], line: ['ink', 'prints'], took: ['quiet', 'takes'], pushed: ['quiet', 'pushes'],
+  gone: ['quiet', 'gone'], lost: ['out lost', 'a store is lost'], task: ['turn', 'task'], cell: ['quiet', 'store'], line: ['ink', 'prints'], took: ['quiet', 'takes'], pushed: ['quiet', 'pushes'],
   call: ['call', 'calls'], entered: ['call', 'enters'], began: ['call', 'begins'], left: ['call', 'leaves'], goes: ['quiet', 'goes'],
 };
 

@@ -2,6 +2,7 @@
 import {drawn, put, putKept, set, taskClass} from './elements.js';
 import {INTRINSICS} from './operators.js';
 import {heldBy} from './reading.js';
+import {cornerAt, pinnedWidth, placePinned} from './pin-stack.js';
 import {arrowsOf, chosen, drawArrows, lanesBeside, legend} from './draw-arrows.js';
 
 const [LEAST_SCALE, LEAST_FIT, MOST_FIT] = [0.8, 0.2, 2.2];
@@ -34,7 +35,7 @@ function longestName(state) {
 class StacksDrawing {
   // `view` says what is folded and followed, and which arrows are drawn; `operators` name the cards of return words.
   constructor(state, operators, view) {
-    Object.assign(this, {state, operators, view, parts: [], records: new Map(), cells: new Map(), lowest: 40, highest: 0});
+    Object.assign(this, {state, operators, view, parts: [], registers: [], records: new Map(), cells: new Map(), lowest: 40, highest: 0});
     this.fresh = new Set(state.freshCells);
     this.short = view.fit && state.tasks.length > 3;
     this.room = COUPLE + Math.ceil(CHARACTER * longestName(state));
@@ -48,8 +49,8 @@ class StacksDrawing {
   }
 
   // Adds a part: what makes it at the origin, by a key that says all it depends on, and its place.
-  add(key, x, y, make) {
-    this.parts.push({key, place: `translate(${x} ${y})`, make: () => drawn('g', {}, make())});
+  add(key, x, y, make, parts = this.parts) {
+    parts.push({key, place: `translate(${x} ${y})`, make: () => drawn('g', {}, make())});
   }
 
   draw() {
@@ -58,6 +59,7 @@ class StacksDrawing {
     this.tasks.forEach((task, column) => {
       const width = this.widthOf(task), gap = this.short ? GAP - 14 : GAP;
       this.drawTask(task, column, x, width);
+      if (!column) this.first = {parts: [...this.parts], right: x + Math.max(width, this.text(task.condition).length * CHARACTER) + 6};
       x += Math.max(width, this.text(task.condition).length * CHARACTER - 10) + (lanes(column) ? Math.max(gap, BESIDE + LANE * lanes(column)) : gap);
     });
     const {paths, lowest, shown} = drawArrows(arrows, this);
@@ -165,8 +167,8 @@ class StacksDrawing {
   drawRegisters(task, x, y) {
     const mark = this.records.get(`${task.name} ${task.records.length}`).y, together = Math.abs(mark - y - 10) < 4;
     const text = together ? '◂ S, F' : '◂ S';
-    this.add(`S ${task.name} ${text}`, x, y, () => textAt(0, 15, 'dim small', text));
-    if (!together) this.add(`F ${task.name}`, x, mark, () => textAt(0, 5, 'dim small', '◂ F'));
+    this.add(`S ${task.name} ${text}`, x, y, () => textAt(0, 15, 'dim small register', text), this.registers);
+    if (!together) this.add(`F ${task.name}`, x, mark, () => textAt(0, 5, 'dim small register', '◂ F'), this.registers);
   }
 }
 
@@ -204,8 +206,8 @@ const pictures = new WeakMap(); // by its box: the picture's element, what is dr
 function pictureOf(box) {
   const kept = pictures.get(box);
   if (kept?.svg.parentNode === box) return kept;
-  const made = {svg: drawn('svg', {role: 'img'}, drawn('g'), drawn('g'))};
-  put(box, made.svg);
+  const made = {svg: drawn('svg', {role: 'img'}, drawn('g'), drawn('g'), drawn('g')), pinned: drawn('svg', {class: 'pinned', 'aria-hidden': 'true'}, drawn('g'))};
+  put(box, made.svg, made.pinned);
   pictures.set(box, made);
   return made;
 }
@@ -218,21 +220,30 @@ export function showStacks(box, state, operators, view, {clientWidth, clientHeig
   const usual = Math.min(1, Math.max(LEAST_SCALE, (clientWidth - 26) / width)) * view.size / 14;
   const size = view.fit ? Math.max(LEAST_FIT, Math.min(MOST_FIT, (clientWidth - 26) / width, (clientHeight - 28) / height)) : usual;
   const full = view.prints ? height : Math.max(height, (clientHeight - 24) / size), above = top - (full - height);
-  const picture = pictureOf(box), {svg} = picture;
+  const picture = pictureOf(box), {svg, pinned} = picture, room = view.prints ? 0 : pinnedWidth(drawing.tasks, {width, right: drawing.first.right, size}, clientWidth);
   Object.assign(picture, {cells: drawing.cells, size, above});
   for (const [name, value] of Object.entries({width: width * size, height: full * size, viewBox: `0 ${above} ${width} ${full}`})) set(svg, name, value);
   svg.setAttribute('aria-label', spoken(state));
-  putKept(svg.firstChild, drawing.parts.map(({key, make}) => [key, make])).forEach((node, k) => set(node, 'transform', drawing.parts[k].place));
-  putKept(svg.lastChild, paths);
+  const [records, arrows, registers] = svg.children;
+  putPlaced(records, drawing.parts);
+  putKept(arrows, paths);
+  putPlaced(registers, drawing.registers);
+  putPlaced(pinned.firstChild, room ? drawing.first.parts : []);
+  placePinned(box, pinned, room, {above, full, size, left: LEFT});
   const running = drawing.tasks.find(task => task.runs), at = running && drawing.records.get(`${running.name} ${running.records.length}`);
-  if (at) bringIn(box, {x: at.x * size, right: (at.x + at.width) * size, y: (at.y - above) * size}, {clientWidth, clientHeight, scrollLeft, scrollTop, key: `${state.count} ${running.name} ${running.records.length}`});
+  if (at) bringIn(box, {x: at.x * size, right: (at.x + at.width) * size, y: (at.y - above) * size, room}, {clientWidth, clientHeight, scrollLeft, scrollTop, key: `${state.count} ${running.name} ${running.records.length}`});
+}
+
+// Puts parts into a group, each at its place.
+function putPlaced(group, parts) {
+  putKept(group, parts.map(({key, make}) => [key, make])).forEach((node, k) => set(node, 'transform', parts[k].place));
 }
 
 const watched = new WeakMap(); // by its box: the record on top that was brought into view last
 
 // Brings the topmost record of the running task into view if another one is on top now; else the box stays where it was scrolled to.
-function bringIn(box, {x, right, y}, {clientWidth, clientHeight, scrollLeft, scrollTop, key}) {
-  if (x < scrollLeft || right > scrollLeft + clientWidth) box.scrollLeft = Math.max(0, Math.min(x - 60, right + 60 - clientWidth)); // no further than it must
+function bringIn(box, {x, right, y, room}, {clientWidth, clientHeight, scrollLeft, scrollTop, key}) {
+  if (x < scrollLeft + room || right > scrollLeft + clientWidth) box.scrollLeft = Math.max(0, Math.min(x - Math.max(60, room + 30), right + 60 - clientWidth)); // no further than it must
   const [, ...record] = key.split(' '), last = watched.get(box);
   watched.set(box, record.join(' '));
   if (last !== record.join(' ') && last?.split(' ')[0] !== record[0] && (y < scrollTop || y > scrollTop + clientHeight - 20)) box.scrollTop = Math.max(0, y - clientHeight / 2);
@@ -240,7 +251,7 @@ function bringIn(box, {x, right, y}, {clientWidth, clientHeight, scrollLeft, scr
 
 // The name of the cell at a place of the window; null if there is none.
 export function cellAt(box, {clientX, clientY}) {
-  const {svg, cells, size, above} = pictureOf(box), corner = svg.getBoundingClientRect();
+  const {svg, pinned, cells, size, above} = pictureOf(box), corner = cornerAt(svg, pinned, {clientX});
   const x = (clientX - corner.left) / size, y = (clientY - corner.top) / size + above;
   const found = [...(cells ?? [])].find(([name, it]) => !it.folded && !name.startsWith('task') && Math.abs(it.y - y) <= ROW / 2 && x >= it.x && x <= it.x + it.width);
   return found ? found[0] : null;

@@ -1,4 +1,5 @@
 // What an operator did by itself: the words that it took and pushed, what it called, which record it entered or left, where it goes on.
+import {fetchedBy} from './lost.js';
 import {INTRINSICS, TAKES} from './operators.js';
 import {cellOfCouple, endOfChain, heldBy, listed, operatorParts, placeOf, recordsOf} from './reading.js';
 
@@ -62,13 +63,14 @@ function namedBy(before, task, cell) {
 }
 
 // Words taken from the record on top, and pushed there.
-function onTop({name, operands, task, before, was, now, after}) {
+function onTop(it) {
+  const {name, operands, task, before, was, now, after} = it;
   const from = Math.max(0, was.at(-1).cells.length - (TAKES[name] ?? 0)), taken = was.at(-1).cells.slice(from), pushed = now.at(-1).cells.slice(from);
-  const parts = [...(taken.length ? [{kind: 'took', text: held(taken)}] : [])];
+  const parts = [...(taken.length ? [{kind: 'took', text: held(taken)}] : [])], fetched = fetchedBy(it, taken);
   if (name === 'VALC' && pushed.length) {
     const found = cellOfCouple(before, task, operands[0]), chain = found && found.cell.kind !== 'NUM' ? `, by ${heldBy(found.cell)}` : '';
-    parts.push({kind: 'pushed', text: `${held(pushed)}, the value of cell ${operands[0]}${found?.cell.name ? ` ${found.cell.name}` : ''}${found ? ` in record ${found.record.number}` : ''}${chain}`});
-  } else if (pushed.length) parts.push({kind: 'pushed', text: `${held(pushed)}${pushed.length === 1 ? namedBy(before, task, pushed[0]) : ''}`});
+    parts.push({kind: 'pushed', text: `${held(pushed)}, the value of cell ${operands[0]}${found?.cell.name ? ` ${found.cell.name}` : ''}${found ? ` in record ${found.record.number}` : ''}${chain}`, from: fetched});
+  } else if (pushed.length) parts.push({kind: 'pushed', text: `${held(pushed)}${pushed.length === 1 ? namedBy(before, task, pushed[0]) : ''}`, from: fetched});
   return name.startsWith('BR') ? [...parts, ...goesOn(after)] : parts;
 }
 

@@ -28,6 +28,18 @@ export function handsIn(text) {
   return [...new Set([...text.matchAll(/#hand:([\w-]+)/g)].map(found => found[1]))];
 }
 
+// A deck without its comments and the room in it.
+function bare(deck) {
+  return deck.split('\n').map(card => card.replace(/;.*/, '').trim().replace(/\s+/g, ' ')).filter(Boolean).join('\n');
+}
+
+// Of some works of one task, null for none, a letter for each that has the same cards as another, comments left out; else an empty text.
+export function sameDecks(works) {
+  const bares = works.map(work => (work?.deck.includes('\n') ? bare(work.deck) : '')), letters = new Map();
+  for (const it of bares) if (it && !letters.has(it) && bares.indexOf(it) !== bares.lastIndexOf(it)) letters.set(it, String.fromCharCode(97 + letters.size % 26));
+  return bares.map(it => letters.get(it) ?? '');
+}
+
 // ------------------------------------------------------------ work done again
 
 // Does a work of finding again: is the state at its count what the task wants, and for the first time if it asks for that?

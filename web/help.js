@@ -7,10 +7,11 @@ const PICTURE = [
   'A box is an activation record: at its foot its number, level and static link, then the place to which it returns, then its cells. A dashed box is a record that MKST has begun.',
   'The small number in a cell is its tag: 0 a number, 1 a reference, 5 an array or a copy of one, 7 the entry of a procedure. D[3] is the display register of level 3. S is the top word of a stack, F its topmost mark.',
   'Yellow is what the last operator changed; red, with a cross, what was wrong for an operator that faulted. A copy of an array leads into core, or to the array’s original if the words were not in core.',
-  'On the line of time each column is an operator in the colour of its task, as high as its stack is deep; a dot is a printed line, a cross a fault, a triangle that points up words that came into core, one that points down words that left it. Point at a column to read it; drag along the line to go there.',
+  'On the line of time each column is an operator in the colour of its task, as high as its stack is deep; a dot is a printed line, a cross a fault, a triangle that points up words that came into core, one that points down words that left it, a crossed circle a store that is lost: another task had fetched the cell before it and writes over it. The signs below the line lead from one to the next. Point at a column to read it; drag along the line to go there.',
 ];
 const CARDS = [
   'A deck is a text of cards, one on each line. ?JOB NAME begins a job, ?ASM its program, ?END ends it. ?STACK, ?QUANTUM, ?HALT and ?SWITCH stand before the first job; ?LIMIT before ?ASM, and ?DATA, with the numbers for READ, after the program.',
+  '?QUANTUM 10 gives each task turns of ten operators. ?SWITCH 7 1.2 hands over to task 2 of job 1 when seven operators of the whole run are made, wherever the turn is: so one can try what happens if tasks are switched there.',
   'SEGMENT NAME LEVEL begins a procedure; the first one, of level 2, is the outer block. What is declared within it has level 3, and so on. Each operator has a card: its name, its operands, and a comment after a semicolon. LABEL: stands before an operator.',
   'A couple level,displacement names a cell: 2,2 is the first cell of the outer block, 3,2 the first argument of a procedure of level 3. VALC pushes what the cell holds, NAMC the couple itself.',
   'A call is MKST, NAMC of the procedure’s cell, the arguments, ENTR. Level 0 has the procedures of the MCP, the Master Control Program: MKST, NAMC 0,9, a number, ENTR prints it.',

@@ -18,6 +18,11 @@ export function intrinsicsIn(text) {
   return new Map(rowsOfTable(text).filter(row => /^\d+$/.test(row[0])).map(([number, call, does]) => [number, {call, does}]));
 }
 
+// The cards that begin with a question mark.
+const COMMANDS = {JOB: 'begins a job, with its name', ASM: 'the job’s program follows, an operator on each card', HEX: 'the job’s program follows as a codefile, in hexadecimal', DATA: 'the numbers for READ follow',
+  END: 'ends the job', STACK: 'so many words has each stack', QUANTUM: 'so many operators has a turn, after which another task is next', LIMIT: 'so many operators may the job make',
+  HALT: 'after so many operators the run halts, and leaves its image', SWITCH: 'when so many operators of the whole run are made, this task makes the next one, if it is ready; it is written job.task'};
+
 export class Lexicon {
   constructor(operators, glossary) {
     Object.assign(this, {operators: operatorsIn(operators), intrinsics: intrinsicsIn(operators), terms: rowsOfTable(glossary)});
@@ -25,6 +30,8 @@ export class Lexicon {
 
   // What a card's operator does, in a line; empty for a card without one. The table of operators has the rest.
   ofCard(card) {
+    const command = /^\?([A-Z]+)/.exec(card)?.[1];
+    if (command) return COMMANDS[command] ? `?${command}: ${COMMANDS[command]}.` : '';
     const [name, operand = ''] = card.replace(/;.*/, '').trim().replace(/^[A-Z][A-Z0-9]*: */, '').split(/\s+/);
     if (!this.operators.has(name)) return '';
     const couple = /^(\d+),(\d+)$/.exec(operand), intrinsic = couple?.[1] === '0' && this.intrinsics.get(couple[2]);

@@ -1,7 +1,7 @@
 // The picture of the stacks as a file, with the colours that it has now.
 import {saveFile} from './keep.js';
 
-const PAINT = ['fill', 'stroke', 'stroke-width', 'stroke-dasharray', 'font-family', 'font-size', 'font-weight', 'opacity', 'color'];
+const PAINT = ['fill', 'paint-order', 'stroke', 'stroke-width', 'stroke-dasharray', 'font-family', 'font-size', 'font-weight', 'opacity', 'color'];
 
 // A copy of a picture in which each part has its colours and letters by itself, so that it needs no style sheet.
 function alone(picture) {

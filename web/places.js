@@ -28,6 +28,7 @@ export class Places {
     if (!place) return this.first(hash);
     if (!this.isShown(place)) await page.guard(() => this.open(place));
     page.course.takesUp(history.state?.task);
+    page.hand.tells(hash);
     if (matchMedia('(max-width:800px)').matches) scrollTo(0, 0);
   }
 
@@ -59,7 +60,7 @@ export class Places {
   }
   async hand({packed}) {
     if (!this.page.editor.name) this.page.editor.choose(START.name);
-    this.page.hand.shows(await handedIn(packed));
+    this.page.hand.shows(await handedIn(packed), packed);
   }
 
   async open({deck, core, count, other}) {
@@ -70,7 +71,7 @@ export class Places {
     }
     if (text === null && editor.name !== deck) editor.choose(deck);
     if (core) byId('core').value = core;
-    if (text !== null && editor.text !== text) editor.take(text, 'The deck of an address.');
+    if (text !== null && editor.text !== text) editor.take(text, this.page.hand.about());
     if (other) byId('other').value = other;
     if (other) this.page.core('other');
     byId('two').setAttribute('aria-pressed', String(Boolean(other)));
@@ -86,6 +87,7 @@ export class Places {
     await this.put();
     history.pushState(history.state, '', location.href);
     this.page.show('deck');
+    this.page.hand.forgets();
     opens();
   }
   newDeck() {

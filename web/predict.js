@@ -4,11 +4,19 @@ import {operatorParts, recordsOf} from './reading.js';
 const COMPUTES = /^(ADD|SUBT|MULT|IDIV|RDIV|CHSN|LESS|LSEQ|GREQ|GRTR|EQUL|NEQL|NXLV|ISOL|INSR|LAND|LOR)$/;
 const [MOST_CHOICES, RECORD] = [6, / record /];
 
+// Why this task is next: by a card of the deck, or since the one before can't go on or has had its turn.
+function whyNext({count, last, tasks}, next, deck) {
+  const card = [...deck.matchAll(/^\?SWITCH +(\d+) +(\S+)/gm)].find(it => Number(it[1]) === count && it[2] === next);
+  if (card) return `the card ${card[0]} hands over to it when ${count} operators are made`;
+  const was = tasks.find(it => it.name === last);
+  return `task ${last} ${!was ? 'has ended' : was.condition === 'ready' ? 'has had its turn' : was.condition}, and ${next} is the next one that is ready`;
+}
+
 // Which task makes the next operator, where several are ready and another one than before does it.
-function aboutTask(now, then) {
+function aboutTask(now, then, deck) {
   const ready = now.tasks.filter(it => it.condition === 'ready').map(it => it.name);
   if (ready.length < 2 || !now.last || then.last === now.last) return null;
-  return {ask: `Task ${now.last} made the last operator, and ${ready.length} tasks are ready. Which one makes the next?`, choices: ready, right: [then.last], hides: true};
+  return {ask: `Task ${now.last} made the last operator, and ${ready.length} tasks are ready. Which one makes the next?`, choices: ready, right: [then.last], why: whyNext(now, then.last, deck), hides: true};
 }
 
 // What leaves core, where an array or a segment is wanted that has no room.
@@ -46,11 +54,11 @@ function aboutTop(now, then) {
   return {ask: 'Which number is on top of the stack after it?', right: [cell.text]};
 }
 
-// The question that the next operator deserves; null for none.
-export function questionOf(now, then) {
+// The question that the next operator of a deck deserves; null for none.
+export function questionOf(now, then, deck = '') {
   if (!now.next || !then || then.count !== now.count + 1) return null;
   for (const about of [aboutFault, aboutTask, aboutPaging, aboutLink, aboutLine, aboutTop]) {
-    const found = about(now, then);
+    const found = about(now, then, deck);
     if (found) return found;
   }
   return null;

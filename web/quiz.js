@@ -15,13 +15,13 @@ export class Quiz {
   }
 
   // Asks about the next operator, if it deserves a question; gives whether the answer was right, and null without one.
-  async asks(now, then) {
-    const question = questionOf(now, then), answer = question && await this.answerTo(question, now.next);
+  async asks(now, then, deck) {
+    const question = questionOf(now, then, deck), answer = question && await this.answerTo(question, now.next);
     if (answer === null) return null;
     const right = isRight(question, answer), said = question.right.join(', ');
     this.asked++;
     if (right) this.right++;
-    put(byId('quiz'), element('strong', {class: right ? 'right' : 'wrong'}, right ? '✓ Right: ' : '✕ No: '), `${said}. ${right ? '' : 'The keys ← and → ask it again. '}${this.right} of ${this.asked} so far.`);
+    put(byId('quiz'), element('strong', {class: right ? 'right' : 'wrong'}, right ? '✓ Right: ' : '✕ No: '), `${said}${question.why ? `, since ${question.why}` : ''}. ${right ? '' : 'The keys ← and → ask it again. '}${this.right} of ${this.asked} so far.`);
     return right ? said : '';
   }
   answerTo(question, next) {

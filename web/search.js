@@ -1,9 +1,19 @@
-// Searches through a run: for the next line, paging, change of task, store, fault, end of a call, or breakpoint. Lines and faults
-// are found by halving, the others state by state. Where none follows a search gives null, but the end of a call may be the run's.
+// Searches through a run: for the next line, paging, change of task, store, fault, end of a call, or breakpoint, and for the highest stack.
+// Where none follows a search gives null, but the end of a call may be the run's.
+//
+// What a search costs. The module looks for a breakpoint, a change of task, the end of a call and the highest stack in one run, from the
+// start to what it finds. It finds the first one; the last one before a moment takes about two such runs for each doubling of the distance
+// (`lastBefore`). Lines, faults and the run's end are found by halving, from marks, in about three runs. Paging, stores and the way back
+// out of a call are looked for state by state, each made from a mark that is near.
 import {endingOf} from './changes.js';
-import {least, MOST_OPERATORS} from './machine.js';
+import {touchesOf} from './lost.js';
+import {placesOf} from './cards.js';
+import {halved, least, MOST_OPERATORS} from './machine.js';
 
 const MOST_GLANCES = 20000;
+const [PLACE, SWITCH, WITHIN, DEEPEST] = [0, 1, 2, 3]; // kinds of the module's searches
+const [MADE_MEANWHILE, MOST_NEAR] = [250000, 256]; // operators that a run makes while a search glances at one state; of so many at most
+const FIRST_WINDOW = 16;
 
 // What the time line and the searches need of a state.
 function briefOf(state) {
@@ -12,7 +22,7 @@ function briefOf(state) {
   return {
     count, status, task: operator?.task ?? '', card: cardKey(operator), text: operator?.text ?? '', lines: fresh.length,
     ends: endings.length > 0, bad: endings.some(it => it.bad) || status > 3,
-    stores: changes.flatMap(it => it.into ?? []),
+    stores: changes.flatMap(it => it.into ?? []), ...touchesOf(changes),
     records: Object.fromEntries(tasks.map(task => [task.name, task.records.length])),
     paging: [...new Set(changes.filter(it => it.kind === 'in' || it.kind === 'out').map(it => it.kind))],
     depths: Object.fromEntries(tasks.map(task => [task.name, task.records.filter(record => record.level >= 0).length])),
@@ -30,9 +40,20 @@ function progressText(many, count, milliseconds) {
   return `${many.toLocaleString('en')} operators looked through, at ${count.toLocaleString('en')}; ${Math.round(many / milliseconds * 1000)} in a second, Esc stops`;
 }
 
-// A glance at a machine whose state is made.
-function glanceOf({next, tasks}) {
-  return {task: '', next, present: '', records: Math.max(0, ...tasks.map(task => task.records.length)), depths: Object.fromEntries(tasks.map(task => [task.name, task.records.filter(record => record.level >= 0).length]))};
+// The greatest number below `to` at which something holds, null for none; `first` gives the least one from one number on, below another.
+// It asks in windows that double, backwards from `to`, and then halves the one in which something was found.
+export function lastBefore(first, to) {
+  let [found, low, high] = [null, to, to];
+  for (let width = FIRST_WINDOW; found === null && low > 0; width *= 2) {
+    [low, high] = [Math.max(0, to - width), low];
+    found = first(low, high);
+  }
+  while (found !== null && found + 1 < high) {
+    const middle = Math.floor((found + 1 + high) / 2), later = first(middle, high);
+    if (later === null) high = middle;
+    else found = later;
+  }
+  return found;
 }
 
 export class Search {
@@ -45,10 +66,10 @@ export class Search {
     return this.briefs.get(count);
   }
 
-  // What the machine tells at a glance; that of operator 0 is made of its state.
+  // What the machine tells at a glance.
   glance(count) {
     if (!this.glances.has(count)) {
-      this.glances.set(count, count ? this.machine.glance(count) : glanceOf(this.machine.machine(0)));
+      this.glances.set(count, this.machine.glance(count));
       if (this.glances.size > MOST_GLANCES) this.glances.delete(this.glances.keys().next().value);
     }
     return this.glances.get(count);
@@ -57,38 +78,77 @@ export class Search {
   // The count that a search from `from` comes to: forwards (way 1) or backwards (way -1). `what` are the breakpoints, or what is followed.
   find(kind, from, way, what) {
     if (kind === 'line') return way > 0 ? this.nextLine(from) : this.lineBefore(from);
-    if (kind === 'fault') return way > 0 ? this.nextLine(from, line => endingOf(line)) : this.lineBefore(from, line => endingOf(line));
+    if (kind === 'fault') return way > 0 ? this.nextLine(from, 'ended') : this.lineBefore(from, 'ended');
     if (kind === 'deepest') return this.deepest();
-    return this.walk({quick: this.quickOf(kind, from, what), test: this.testOf(kind, from, way, what)}, from, way, kind === 'over' || kind === 'out');
+    const ends = kind === 'over' || kind === 'out', tests = {quick: this.quickOf(kind, from, what), test: this.testOf(kind, from, way, what)};
+    const found = ends ? this.leaves(kind, from, way, tests) : this.asked(kind, from, way, what, tests);
+    return found === undefined ? this.walk(tests, from, way, ends) : found;
   }
 
-  // The count that prints the next line that passes.
-  nextLine(from, passes = () => true) {
-    const number = count => this.machine.linesAt(count).filter(passes).length, now = number(from);
-    return number(MOST_OPERATORS) > now ? least(count => number(count) > now, from + 1) : null;
+  // A breakpoint or a change of task, by the module; undefined of what it can't tell. First as many states are looked at as cost no more than
+  // the run up to here.
+  asked(kind, from, way, what, tests) {
+    const sought = {stopped: {kind: PLACE, numbers: kind === 'stopped' ? placesOf(what, this.machine.operators) : []}, task: {kind: SWITCH}}[kind];
+    if (!sought) return undefined;
+    const many = Math.min(MOST_NEAR, Math.floor(from / MADE_MEANWHILE)), near = this.walk(tests, from, way, false, many);
+    if (near !== undefined) return near;
+    const first = (low, high) => this.machine.find(sought, low, high);
+    const before = way > 0 ? first(from + many) : lastBefore(first, from - many - 1);
+    return before === null || before === undefined ? before : before + 1;
+  }
+
+  // The end of a call: of that which the next operator makes (over), or of that in which the last one was made (out). Undefined of what the
+  // module can't tell. It tells when the task goes on below the record that is left; that record is left by the last operator of the task
+  // before that, and is there until then, so this one is found by halving.
+  leaves(kind, from, way, tests) {
+    if (way < 0) return undefined;
+    const near = this.walk(tests, from, way, true, 1);
+    if (near !== undefined) return near;
+    const at = this.glance(kind === 'over' ? from + 1 : from), task = kind === 'over' ? at.task : this.brief(from).task, mark = at.entered[task];
+    if (mark === undefined) return this.machine.end();
+    const [job, number] = task.split('.').map(Number), goesOn = this.machine.find({kind: WITHIN, numbers: [job, number, mark - 1, 0]}, from + 1);
+    if (goesOn === undefined) return undefined;
+    const isLeft = count => !(this.glance(count).marks?.[task] >= mark), last = goesOn ?? this.machine.end();
+    const left = isLeft(last - 1) ? halved(isLeft, from, last - 1) : last;
+    return kind === 'over' && this.glance(left).task !== task ? this.machine.end() : left;
+  }
+
+  // The count that prints the next line: any, or one that tells an end or a fault.
+  nextLine(from, which) {
+    const {machine} = this, now = machine.linesAt(from, which);
+    return machine.linesAt(MOST_OPERATORS, which) > now ? least(count => machine.linesAt(count, which) > now, from + 1) : null;
   }
 
   // The count that printed the last such line before `from`.
-  lineBefore(from, passes = () => true) {
-    const number = count => this.machine.linesAt(count).filter(passes).length;
-    const wanted = number(Math.max(from - 1, 0));
-    return wanted ? least(count => number(count) >= wanted) : null;
+  lineBefore(from, which) {
+    const wanted = this.machine.linesAt(Math.max(from - 1, 0), which);
+    return wanted ? least(count => this.machine.linesAt(count, which) >= wanted) : null;
   }
 
   // The count of the first fault, or else of the end.
   firstFault() {
-    return this.nextLine(0, line => endingOf(line)?.bad) ?? this.machine.end();
+    return this.nextLine(0, 'faulted') ?? this.machine.end();
   }
 
-  // The first count at which a stack has as many records as at no other; the whole run is looked through.
+  // The first count at which the stack of the task that goes on has more words than at any other. Where a run stops for want of core, the
+  // moment before is looked at by itself.
   deepest() {
+    const found = this.machine.find({kind: DEEPEST}, 0);
+    if (found === undefined) return this.highest();
+    if (found !== null) return found;
+    const last = this.machine.end() - 1, before = last > 0 ? this.machine.find({kind: DEEPEST}, 0, last) : null;
+    return before !== null && this.glance(before).words >= this.glance(last).words ? before : last;
+  }
+
+  // The same, state by state.
+  highest() {
     const begun = performance.now();
     let [found, most] = [0, 0];
     for (let count = 0; ; count++) {
       if (performance.now() > this.told + 200) this.say(progressText(count, count, performance.now() - begun));
-      const {over, records} = this.glance(count);
+      const {over, words} = this.glance(count);
       if (over) return found;
-      if (records > most) [found, most] = [count, records];
+      if (words > most) [found, most] = [count, words];
     }
   }
 
@@ -119,10 +179,12 @@ export class Search {
     this.tell(text);
   }
 
-  // Goes from state to state until the test holds. If it never does: to the run's end or its beginning, or nowhere.
-  walk({quick, test}, from, way, ends) {
+  // Goes from state to state until the test holds. If it never does: to the run's end or its beginning, or nowhere. Undefined if it holds of
+  // none of so many states.
+  walk({quick, test}, from, way, ends, most = Infinity) {
     const begun = performance.now();
     for (let count = from + way; ; count += way) {
+      if (Math.abs(count - from) > most) return undefined;
       if (count <= 0) return ends ? 0 : null;
       if (performance.now() > this.told + 200) this.say(progressText(Math.abs(count - from), count, performance.now() - begun));
       const glance = this.glance(count);

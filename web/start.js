@@ -93,6 +93,7 @@ function listenToSteps(page) {
     if (button) steps.follows(button.dataset.follow);
   });
   byId('unfollow').onclick = () => steps.follows('');
+  byId('message').onclick = () => page.say(''); // it lies over what is below it
 }
 
 function listenToWindow(page) {

@@ -6,7 +6,9 @@ import {endingOf} from './changes.js';
 import {showAlgol, showCards, markCards, showPrinted, lineRow} from './draw-cards.js';
 import {showStacks} from './draw-stacks.js';
 import {changesList, showMemory} from './draw-memory.js';
-import {showTimeline, windowOf} from './timeline.js';
+import {lossText, lostStores} from './lost.js';
+import {showSigns, signsOn} from './signs.js';
+import {briefsOf, showTimeline, windowOf} from './timeline.js';
 import {followedText} from './follow.js';
 import {statusText} from './messages.js';
 import {cardsOf} from './cards.js';
@@ -75,10 +77,15 @@ function showCount(session) {
   put(byId('of'), end === null ? 'operators' : `of ${end.toLocaleString('en')} operators`);
 }
 
-export function showLine(session, width = byId('line').clientWidth || 1000) {
+// The line of time, its signs, and what changed, since the line tells which stores are lost. `goes` leads to the next of some counts.
+export function showLine(session, goes, width = byId('line').clientWidth || 1000) {
   session.window = windowOf(session.state.count, session.end, session.window);
-  const {state, window, briefs, stops, end} = session, line = byId('line'), all = end ?? window.to;
-  const deepest = showTimeline(line, {count: state.count, window, briefs, stops, width}), depth = depthText(state, deepest);
+  const {state, window, briefs, stops, end} = session, line = byId('line'), all = end ?? window.to, known = briefsOf(briefs, window);
+  session.losses = lostStores(known);
+  session.signs = signsOn(known, session.losses, known.length > Math.min(window.to, all) - window.from);
+  showSigns(byId('signs'), session.signs, goes);
+  if (!session.otherState) putKept(byId('changed'), changesPart(state, changesOf(session)));
+  const deepest = showTimeline(line, {count: state.count, window, briefs, stops, losses: session.losses, width}), depth = depthText(state, deepest);
   if (byId('depth').textContent !== depth) byId('depth').textContent = depth;
   for (const [name, value] of [['now', state.count], ['min', 0], ['max', all]]) set(line, `aria-value${name}`, value);
   set(line, 'aria-valuetext', `${state.count} of ${end ?? 'many'} operators`);
@@ -86,6 +93,11 @@ export function showLine(session, width = byId('line').clientWidth || 1000) {
   byId('whole').hidden = window.from === 0 && window.to >= all;
   part.style.left = `${window.from / all * 100}%`;
   part.style.width = `${Math.max(0.5, (window.to - window.from) / all * 100)}%`;
+}
+
+// What the operator changed, and the stores of other tasks that it wrote over.
+export function changesOf({state, losses = []}) {
+  return [...state.changes, ...losses.filter(it => it.at === state.count).map(it => ({kind: 'lost', text: lossText(it)}))];
 }
 
 // How deep the stack of the running task is, and how deep one gets on the line of time.
@@ -105,7 +117,7 @@ function measured() {
 }
 
 // Draws all of a session's state.
-export function showMoment(session, view, rows, act) {
+export function showMoment(session, view, rows, {act, goes}) {
   const {state, stops} = session, fault = faultShown(session), shown = state.remains ?? state;
   document.body.classList.toggle('two', Boolean(session.otherState));
   byId('pair').hidden = !session.otherState;
@@ -122,13 +134,12 @@ export function showMoment(session, view, rows, act) {
   showOperator(session, rows);
   if (session.otherState) showPair(session, view);
   else {
-    putKept(byId('changed'), changesPart(state));
     showMemory(byId('memory'), shown, view.followed);
     byId('dump').textContent = state.dump || 'No task lives.';
   }
   showFollowed(state, view);
   showWalked(state, view);
-  showLine(session, line);
+  showLine(session, goes, line);
 }
 
 // The operator whose card is marked as faulty: of a program that ran out of its segment the last one there.
@@ -138,8 +149,8 @@ function faultyOf(fault) {
 }
 
 // The list of changes as a part, which stays if the next operator says the same.
-function changesPart(state) {
-  return [[JSON.stringify([state.changes, state.status, state.count === 0]), () => changesList(state)]];
+function changesPart(state, changes = state.changes) {
+  return [[JSON.stringify([changes, state.status, state.count === 0]), () => changesList({...state, changes})]];
 }
 
 // The cell or the array that is followed, and what it holds.

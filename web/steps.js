@@ -8,7 +8,8 @@ import {NO_JOB} from './commands.js';
 import {showResult} from './deck-view.js';
 import {nameOfFollowed} from './follow.js';
 import {sentenceOf, speak} from './speech.js';
-import {showDeck, showLine, showMoment} from './step-view.js';
+import {nextOf} from './signs.js';
+import {changesOf, showDeck, showLine, showMoment} from './step-view.js';
 import {cellWords, nextCell} from './walk.js';
 
 const MOST_FILLED = 65536;
@@ -27,7 +28,7 @@ function keepState({states, faults}, core, state) {
 // What was looked for in vain, in a sentence.
 function nothingFound(kind, way, state, followed) {
   const things = {line: 'No line is printed', paging: 'There is no paging', task: 'No other task runs', fault: 'No task ends', stopped: 'No breakpoint is met',
-    store: `Nothing is stored into ${followed && nameOfFollowed(state, followed)}`, over: 'No operator is made', out: 'No operator is made', deepest: 'No stack is deeper'};
+    store: `Nothing is stored into ${followed && nameOfFollowed(state, followed)}`, over: 'No operator is made', out: 'No operator is made', deepest: 'No stack is higher'};
   return `${things[kind]} ${way > 0 ? 'after' : 'before'} this moment, so the page stays here.`;
 }
 
@@ -143,6 +144,17 @@ export class Steps {
     });
   }
 
+  // Goes to the next of some counts of the line of time.
+  goesAlong(counts, way = 1) {
+    return this.page.guard(() => this.goTo(nextOf(counts, this.session.state.count, way)));
+  }
+  // Goes to the next store that is lost, of those on the line of time.
+  lost(way) {
+    const {counts = []} = this.session.signs.find(it => it.kind === 'lost') ?? {};
+    if (counts.length && !document.body.classList.contains('hides-lost')) return this.goesAlong(counts, way);
+    return this.page.guard(() => { throw new Error(counts.length ? 'Which store is lost is what this exercise asks.' : 'No store is lost on this line of time, so the page stays here.'); });
+  }
+
   async stopped() {
     this.turn++;
     this.play(false);
@@ -175,7 +187,7 @@ export class Steps {
     document.body.dataset.compared = state.compared;
     byId('two').setAttribute('aria-pressed', String(other !== null));
     this.draws();
-    speak(sentenceOf(state));
+    speak(sentenceOf({...state, changes: changesOf(session)}));
     page.course.sees(session, state).catch(() => {});
     page.places.soon();
     this.prepare();
@@ -183,7 +195,7 @@ export class Steps {
   draws() {
     const {page, session} = this;
     byId('what').title = page.lexicon.ofCard(session.state.operator?.text ?? '');
-    showMoment(session, this.view, page.rows, act => perform(page, act));
+    showMoment(session, this.view, page.rows, {act: act => perform(page, act), goes: counts => this.goesAlong(counts)});
   }
   redraw() {
     if (this.shown) this.draws();
@@ -216,7 +228,7 @@ export class Steps {
   later() {
     this.drawing ??= setTimeout(() => {
       this.drawing = null;
-      if (this.shown) showLine(this.session);
+      if (this.shown) showLine(this.session, counts => this.goesAlong(counts));
     }, 60);
   }
 

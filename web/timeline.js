@@ -1,5 +1,7 @@
 // The line of time: a column for each operator of a window of the run, with its task, its lines, its paging and its fault.
 import {drawn, put, set, taskClass} from './elements.js';
+import {lossText} from './lost.js';
+import {LOST_SIGN} from './signs.js';
 
 const [WHOLE, WINDOW] = [700, 400];
 const shownIn = new WeakMap(); // what each picture shows
@@ -42,15 +44,27 @@ function beginsTurn(briefs, at) {
   return Boolean(before?.task) && Boolean(briefs.get(at).task) && before.task !== briefs.get(at).task;
 }
 
+// The stores that are lost: a sign where each is written over.
+function lossSigns(losses, from, step) {
+  return losses.map(it => drawn('text', {x: (it.at - from + 0.5) * step - 5, y: 10, class: 'lost'}, LOST_SIGN, drawn('title', {}, `operator ${it.at}: a store is lost, ${lossText(it)}`)));
+}
+
+// The briefs of a window from its beginning on, up to the first one that isn't there yet.
+export function briefsOf(briefs, {from, to}) {
+  const found = [];
+  for (let at = from; at <= to && briefs.has(at); at++) found.push(briefs.get(at));
+  return found;
+}
+
 // Draws the window in a picture of this width. While window and breakpoints stay, only new columns are added and the cursor moved.
-export function showTimeline(picture, {count, window, briefs, stops, width}) {
+export function showTimeline(picture, {count, window, briefs, stops, losses, width}) {
   const step = width / (window.to - window.from + 1), deepest = Math.max(1, ...[...briefs.values()].filter(it => it.count >= window.from && it.count <= window.to).map(depthOf)), frame = [window.from, window.to, width, deepest, ...stops].join();
   let shown = shownIn.get(picture);
   if (shown?.briefs !== briefs || shown.frame !== frame) {
-    shown = {briefs, frame, counts: new Set(), columns: drawn('g'), cursor: drawn('path', {class: 'cursor'})};
+    shown = {briefs, frame, counts: new Set(), columns: drawn('g'), losses: drawn('g'), cursor: drawn('path', {class: 'cursor'})};
     shownIn.set(picture, shown);
     set(picture, 'viewBox', `0 0 ${width} 44`);
-    put(picture, shown.columns, shown.cursor);
+    put(picture, shown.columns, shown.losses, shown.cursor);
   }
   for (let at = window.from; at <= window.to; at++) {
     const brief = briefs.get(at);
@@ -58,6 +72,7 @@ export function showTimeline(picture, {count, window, briefs, stops, width}) {
     shown.counts.add(at);
     shown.columns.append(column(brief, (at - window.from) * step, step, {stopped: stops.has(brief.card), deepest, begins: beginsTurn(briefs, at)}));
   }
+  if (shown.losses.childElementCount !== losses.length) put(shown.losses, lossSigns(losses, window.from, step));
   set(shown.cursor, 'd', `M${(count - window.from + 0.5) * step} 0v44`);
   return deepest;
 }

@@ -1,10 +1,11 @@
-// Walks through docs/statement.html in a browser: node walk.mjs BROWSER PAGE [FOLDER]. Each stop of the usual way by the key n; each name
-// that the page shows by its link; the counts; the way back; names that are found; deep links. Prints what differs, and ends with status 1
-// if anything does. With FOLDER pictures are written there.
+// Walks through docs/statement.html in a browser: node walk.mjs BROWSER PAGE [FOLDER]. Each stop of the short way by the key n; each name
+// that the page shows by its link; that each name leads to what the imports of its file mean; the counts; Back; words by the keyboard;
+// names that are found; deep links. Prints what differs, and ends with status 1 if anything does. With FOLDER pictures are written there.
 import fs from 'node:fs';
 import path from 'node:path';
 import {pathToFileURL} from 'node:url';
 import {Browser} from '../../web/check/browser.mjs';
+import {wrongNames} from './names.mjs';
 
 const [program, page, folder] = process.argv.slice(2);
 if (!program || !page || !fs.existsSync(page)) {
@@ -21,29 +22,39 @@ function expect(what, is, wanted) {
 }
 const browser = await Browser.started(program, 1366, 768);
 const url = pathToFileURL(path.resolve(page)).href;
-const settled = () => browser.value('new Promise(done => setTimeout(done, 30))');
+const settled = () => browser.value('new Promise(done => setTimeout(done, 60))');
 try {
   await browser.opens(url);
   const data = JSON.parse(await browser.value("document.getElementById('data').textContent"));
   const shown = () => browser.value("shown === null ? null : definitions[shown][0]");
   const counted = () => browser.value("document.getElementById('count').innerText");
-  // the usual way, by one key
+  expect('names that lead to something else than their file means', wrongNames(data), []);
+  // the short way, by one key
+  const short = data.way.filter(stop => !stop[4]);
   let lines = data.contractLines;
-  for (const [number, stop] of data.way.entries()) {
+  for (const [number, stop] of short.entries()) {
     await browser.press('n');
     await settled();
     lines += data.definitions[stop[1]][3];
     expect(`stop ${number + 1}`, await shown(), data.definitions[stop[1]][0]);
     const said = await counted();
-    expect(`lines at stop ${number + 1}`, said.includes(`${number + 1} of ${data.way.length} names, ${lines} of ${data.wayLines} lines`), true);
+    expect(`lines at stop ${number + 1}`, said.includes(`${number + 1} of ${short.length} names, ${lines} of ${data.wayLines} lines`), true);
   }
-  expect('lines on the usual way', lines, data.wayLines);
-  // back to the contract
-  for (let times = 0; times < 20 && await shown() !== null; times++) {
+  expect('lines on the short way', lines, data.wayLines);
+  // Back leads to what was open before, and at last to the beginning
+  for (const stop of [...short.slice(0, -1).reverse(), null]) {
     await browser.press('b');
     await settled();
+    expect('Back', await shown(), stop && data.definitions[stop[1]][0]);
   }
-  expect('the way back ends at the contract', await shown(), null);
+  // a word that is built in, by the keyboard alone
+  await browser.press('n');
+  await settled();
+  await browser.value("document.querySelector('#side .word').focus()");
+  await browser.press('Enter');
+  expect('a word by the keyboard', await browser.value("document.querySelectorAll('#side .code .meaning').length"), 1);
+  await browser.press('Escape');
+  expect('Escape closes it', await browser.value("document.querySelectorAll('.meaning').length"), 0);
   // each definition by its link: it stands open, with its file and its lines, and each link of it has a place
   const wrong = await browser.value(`(async () => {
     const wrong = [];

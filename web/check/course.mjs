@@ -28,6 +28,7 @@ async function predicts(it, {id}, hash) {
     await begins(it, hash);
     await answers(it, answer);
     it.wants(await isDone(it, right) === right, `task ${id}: ${answer} is marked ${right ? 'wrong' : 'right'}`);
+    if (id === '4.1') it.wants(/1\.2, since the card \?SWITCH 7 1\.2 hands over/.test(await it.shown('#quiz')), `task 4.1, ${answer}: ${await it.shown('#quiz')}`);
   }
 }
 
@@ -120,6 +121,18 @@ async function handsIn(it) {
   await browser.value("document.querySelector('[data-hand=\"1.5\"] a').click(); 0");
   const state = await it.state();
   it.wants(state.text === WRITTEN['1.5'][0], 'the deck of a task that was handed in');
+  it.wants(/^Handed in by Ada\. write 1\.5: /.test(await it.shown('#task p')), `whose deck it is: ${await it.shown('#task')}`);
+  await browser.value("[...document.querySelectorAll('#task button')].find(it => it.textContent === 'All of the class').click(); 0");
+  await it.state();
+  it.wants(await browser.value("document.querySelectorAll('#class-table tr').length") === 2 && await it.shown('#task') === '', 'the way back to the table of a class');
+  await onPaper(it);
+}
+
+// The questions of a lesson for the printer, and nothing else.
+async function onPaper(it) {
+  await it.browser.value("window.print = () => {}; [...document.querySelectorAll('#lesson-4 button')].at(-1).click(); 0");
+  it.wants(await it.browser.value("document.querySelectorAll('#paper li').length") === 5 && await it.browser.value("document.body.classList.contains('paper') && getComputedStyle(document.getElementById('paper')).display === 'none'"), 'the questions of a lesson on paper');
+  await it.browser.value("dispatchEvent(new Event('afterprint')); 0");
 }
 
 const SHEET = `title: Check

@@ -73,6 +73,37 @@ export async function follows(it) {
   it.wants(last.count === 24 && last.message, `with no paging left g leads to ${last.count}: ${last.message}`);
 }
 
+// The signs below the line of time lead from one to the next; of a run of several tasks they tell which stores are lost.
+export async function signs(it) {
+  const {browser} = it, counts = async kind => {
+    await it.until(`document.querySelector('[data-sign=${kind}]')`);
+    return (await it.click(`[data-sign=${kind}]`)).count;
+  };
+  await it.opens('switched,685,0');
+  it.wants(await counts('lost') === 17 && /that of operator 12, task 1\.2/.test(await it.shown('#changed li')), `the sign of a store that is lost: ${told(await it.shown('#changed li'))}`);
+  it.wants((await it.pressed('switched', it.deck('switched'), 'x', true)).count === 17, 'x with shift leads away from the one store that is lost');
+  await it.opens('task:4.2');
+  await it.until("document.querySelector('[data-sign=lost]')");
+  it.wants(await it.shown('[data-sign=lost]') === '' && /this exercise asks/.test((await it.pressed('switched', it.deck('switched'), 'x')).message), 'an exercise’s answer is told by its sign');
+  await it.opens('two,630,0');
+  it.wants(await counts('out') === 20 && await counts('out') === 23, 'the sign of words that leave core leads elsewhere');
+  it.wants(/No store is lost/.test((await it.pressed('two', it.deck('two'), 'x')).message), 'a run of one task: x says nothing');
+}
+
+// Of many stacks that on which all stand stays at the left, and a click on it is one on its cells.
+export async function pinned(it) {
+  const {browser} = it;
+  await browser.size(1024, 768);
+  await it.opens('dining,3258,150');
+  await browser.value("document.getElementById('stacks').scrollLeft = 300; new Promise(goes => setTimeout(goes, 100))");
+  const [seen, x, y] = await browser.value("{ const it = document.querySelector('#stacks .pinned'), r = it.querySelector('.under').getBoundingClientRect(), b = document.getElementById('stacks').getBoundingClientRect(); [getComputedStyle(it).visibility, r.x + r.width / 2 - b.x, r.y + r.height / 2] }");
+  it.wants(seen === 'visible' && x > 0 && x < 250, `the stack of task 1.1 is ${seen} at ${x}, ${y}`);
+  await browser.click('#stacks .pinned .under');
+  it.wants(/^follows cell 2,2/.test(await browser.value("document.getElementById('followed').innerText")), 'a click on the stack at the left');
+  await browser.click('#unfollow');
+  await browser.size(1400, 900);
+}
+
 // By keys alone, and by ear: each step is one sentence, and up and down lead through the cells, whose words are said.
 export async function aloud(it) {
   const {browser} = it, spoken = () => browser.value("document.getElementById('spoken').textContent");

@@ -6,7 +6,7 @@
 import fs from 'node:fs';
 import path from 'node:path';
 import {course, sheets} from './course.mjs';
-import {aloud, each_deck, follows, two_cores} from './decks.mjs';
+import {aloud, each_deck, follows, pinned, signs, two_cores} from './decks.mjs';
 import {bad_input, faults, keeps, long_decks, mistakes, names, policies} from './inputs.mjs';
 import {Tried} from './tried.mjs';
 
@@ -33,7 +33,7 @@ async function without_memory64(it) {
 }
 
 async function tries_all(it) {
-  const parts = {each_deck, two_cores, follows, aloud, bad_input, faults, mistakes, names, keeps, long_decks, course, sheets, ...(it.isFirefox ? {} : {policies}), ...(pictures ? {takes_pictures} : {})};
+  const parts = {each_deck, two_cores, follows, signs, pinned, aloud, bad_input, faults, mistakes, names, keeps, long_decks, course, sheets, ...(it.isFirefox ? {} : {policies}), ...(pictures ? {takes_pictures} : {})};
   const named = process.env.TRIES?.split(',');
   await it.starts();
   for (const [name, part] of Object.entries(parts)) if (!named || named.includes(name)) await part(it);

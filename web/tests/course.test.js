@@ -63,6 +63,14 @@ for (const task of TASKS.filter(it => it.kind === 'predict')) {
   });
 }
 
+test('why a task is the next one', async () => {
+  await turn();
+  const desk = deskOf(), why = (deck, core, count) => questionOf(...[count, count + 1].map(at => desk.state({deck, core, count: at})), deck)?.why;
+  assert.equal(why(texts.get('switched'), 685, 7), 'the card ?SWITCH 7 1.2 hands over to it when 7 operators are made');
+  assert.equal(why(texts.get('quantum'), 1708, 25), 'task 1.1 awaits the end of task 1.2, and 1.2 is the next one that is ready');
+  assert.equal(why(texts.get('quantum'), 1708, 35), 'task 1.2 has had its turn, and 1.3 is the next one that is ready');
+});
+
 for (const task of TASKS.filter(it => it.kind === 'write' && !it.resumed)) {
   test(`write ${task.id}: ${task.text}`, async () => {
     await turn();

@@ -5,7 +5,7 @@ import {spawnSync} from 'node:child_process';
 import {test} from 'node:test';
 import {fileURLToPath} from 'node:url';
 import {hashOf, placeOf} from '../address.js';
-import {cardsOf} from '../cards.js';
+import {cardsOf, placesOf} from '../cards.js';
 import {endingOf} from '../changes.js';
 import {followedText, nextChoice} from '../follow.js';
 import {partOf, startOf} from '../cards-area.js';
@@ -18,6 +18,7 @@ import {OwnDecks} from '../keep.js';
 import {actOf, KEYS} from '../keys.js';
 import {momentsOfLessons} from '../course.js';
 import {least} from '../machine.js';
+import {Marks} from '../marks.js';
 import {spansText} from '../memory.js';
 import {explained, statusText, tablesOf} from '../messages.js';
 import {isPacked, packed, unpacked} from '../share.js';
@@ -101,6 +102,26 @@ test('the least count', () => {
   assert.equal(least(count => count >= 20, 15), 20);
 });
 
+test('marks: where they are laid, and which are kept', () => {
+  const marks = new Marks(10, 1 << 22);
+  assert.deepEqual(marks.wayTo(19), []);
+  assert.deepEqual(marks.wayTo(1000), [360, 920, 990]);
+  for (const count of marks.wayTo(1000)) marks.keep({count}, 1000);
+  assert.deepEqual([359, 360, 995].map(count => marks.below(count)?.count), [undefined, 360, 990]);
+  assert.deepEqual([marks.wayTo(1000), marks.wayTo(1009), marks.wayTo(1010)], [[], [], [1000]]);
+  for (let count = 1000; count < 2000; count += 10) marks.keep({count}, count);
+  assert.equal(marks.kept.length, 8);
+  assert.equal(marks.below(1990).count, 1990);
+  assert.ok(marks.below(1500) && marks.below(1500).count >= 360, 'none is left far from here');
+  assert.deepEqual(new Marks(10, 1 << 26).wayTo(1000), []); // too large to be kept
+});
+
+test('the places of breakpoints', () => {
+  const operators = [{'1@0:0': [4, 'ONE'], '1@0:1': [0, 'ADD'], '2@3:5': [9, 'EXIT']}, {'1@0:0': [14, 'ONE']}];
+  assert.deepEqual(placesOf(['9', '14', '2/3@1:4'], operators), [2, 4, 1, 4, 1, 3, 3, 5, 2, 2, 0, 0]);
+  assert.deepEqual(placesOf(['7', '0'], operators), []);
+});
+
 test('endings', () => {
   assert.deepEqual(endingOf('1.2 ENDED'), {task: '1.2', name: 'ENDED', bad: false});
   assert.deepEqual(endingOf('1.1 INVALID INDEX'), {task: '1.1', name: 'INVALID INDEX', bad: true});
@@ -150,7 +171,7 @@ test('each key does one thing', () => {
   assert.deepEqual(actOf('o', true), {act: 'line', way: -1});
   assert.deepEqual(actOf('O', true), {act: 'line', way: -1});
   assert.deepEqual(actOf('ArrowLeft', false), {act: 'back', way: 1});
-  assert.equal(actOf('x', false), null);
+  assert.equal(actOf('j', false), null);
 });
 
 // What join.py takes out of docs, asked of itself.
@@ -178,7 +199,8 @@ test('what a card’s operator does', () => {
   assert.match(lexicon.ofCard('TOP: ADD  ; the sum'), /^ADD: adds the two numbers on top\.$/);
   assert.match(lexicon.ofCard('NAMC 0,9'), /the MCP’s procedure PRINT, which prints the value/);
   assert.match(lexicon.ofCard('VALC 2,3'), /the value of the cell\. 2,3 is cell 3 of the record of level 2\.$/);
-  for (const card of ['SEGMENT MAIN 2', '; ADD', '', 'ROW R', '?END']) assert.equal(lexicon.ofCard(card), '');
+  assert.match(lexicon.ofCard('?SWITCH 7 1.2'), /^\?SWITCH: when so many operators of the whole run are made, this task makes the next one/);
+  for (const card of ['SEGMENT MAIN 2', '; ADD', '', 'ROW R', '?NONE', '?']) assert.equal(lexicon.ofCard(card), '');
   const terms = new Map(lexicon.terms.map(cells => [cells[0], cells.at(-1)]));
   for (const term of ['couple', 'accidental entry', 'thunk', 'dictionary', 'hole', 'sector, chain', 'theorem']) assert.ok(terms.get(term), term);
   assert.match(joined('proved'), /Nothing proves that the WebAssembly/);

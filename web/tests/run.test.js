@@ -1,17 +1,28 @@
-// Searches and changes over runs that docs/TOUR.md describes: stops 4, 7 and 9. B67 names the native program.
+// Searches and changes over runs that docs/TOUR.md describes: stops 4, 7 and 9; each search by a module that looks through runs and goes on
+// from marks, and state by state from the start. B67 names the native program.
 import assert from 'node:assert/strict';
 import {after, test} from 'node:test';
 import {setImmediate as turn} from 'node:timers/promises';
 import {Native, decks} from './native.js';
+import {lostStores} from '../lost.js';
+import {StandIn} from './stand-in.js';
 import {Machine} from '../machine.js';
-import {Search} from '../search.js';
+import {Marks} from '../marks.js';
+import {lastBefore, Search} from '../search.js';
 
 const native = new Native(process.env.B67 ?? 'b67');
 after(() => native.close());
 
-function searchOf(name) {
+function searchOf(name, program = native) {
   const {text, core} = decks().find(deck => deck.name === name);
-  return new Search(new Machine(native, text, core, false), () => {});
+  return new Search(new Machine(program, text, core, false), () => {});
+}
+
+// The same by a module that finds and steps, with marks three operators apart.
+function quickOf(name) {
+  const search = searchOf(name, new StandIn(native));
+  search.machine.marks = new Marks(3, 1);
+  return search;
 }
 
 // From a count, by a search and a way, to a count; null where there is none. A store is one into a cell or an array.
@@ -21,24 +32,56 @@ const FOUND = {
     ['task', 1, 1, null], ['paging', 24, 1, null], ['paging', 27, -1, 24], ['store', 0, 1, 20, '1.1 1 3array'], ['store', 20, 1, null, '1.1 1 3array']],
   switched: [['task', 1, 1, 8], ['task', 8, 1, 14], ['task', 14, -1, 8], ['fault', 0, 1, 13], ['store', 0, 1, 12, '1.1 1 2'],
     ['store', 12, 1, 17, '1.1 1 2'], ['store', 17, -1, 12, '1.1 1 2'], ['store', 17, 1, null, '1.1 1 2']],
-  jensen: [['out', 17, 1, 20], ['over', 16, 1, 20], ['out', 20, -1, 12], ['deepest', 40, 1, 17]],
+  jensen: [['out', 17, 1, 20], ['over', 16, 1, 20], ['over', 17, 1, 18], ['out', 20, -1, 12], ['out', 321, 1, 322], ['deepest', 40, 1, 32],
+    ['stopped', 0, 1, 17, ['24']], ['stopped', 17, 1, 20, ['24', '50']], ['stopped', 21, -1, 20, ['24', '50']], ['stopped', 21, -1, 17, ['24']],
+    ['stopped', 0, 1, 33, ['45']], ['stopped', 17, -1, null, ['24']], ['stopped', 17, 1, null, ['400']]],
   fault: [['fault', 0, 1, 69], ['line', 69, -1, 59]],
 };
 
 for (const [name, searches] of Object.entries(FOUND)) {
-  test(`${name}: searches`, async () => {
+  for (const made of [searchOf, quickOf]) test(`${name}: searches, ${made.name}`, async () => {
     await turn();
-    const search = searchOf(name);
+    const search = made(name);
     for (const [kind, from, way, to, what] of searches) assert.equal(search.find(kind, from, way, what ?? []), to, `${kind} from ${from}`);
   });
 }
+
+// The stores that are lost in a run: the operator that writes over one, and the one that had stored.
+const LOST = {switched: [[17, 12]], shared: [], bank: [[54, 38]]};
+
+for (const [name, lost] of Object.entries(LOST)) {
+  test(`${name}: stores that are lost`, async () => {
+    await turn();
+    const search = searchOf(name), briefs = Array.from({length: search.machine.end() + 1}, (_, count) => search.brief(count));
+    assert.deepEqual(lostStores(briefs).map(it => [it.at, it.lost]), lost);
+  });
+}
+
+test('a state from a mark is that from the start', async () => {
+  for (const name of ['two', 'switched', 'fault']) {
+    await turn();
+    const {machine} = searchOf(name), quick = quickOf(name).machine;
+    for (const count of [17, 0, 9, 10, 24, 23, 22, 500]) assert.deepEqual(quick.state(count), machine.state(count), `${name} ${count}`);
+    assert.ok(quick.program.stepped > 0, name);
+  }
+});
+
+test('the last of several numbers before one', () => {
+  const numbers = [3, 70, 71, 900, 5000, 5001], first = (low, high) => numbers.find(it => it >= low && it < high) ?? null;
+  for (const to of [0, 3, 4, 71, 72, 899, 901, 5001, 100000000]) {
+    let calls = 0;
+    const found = lastBefore((low, high) => { calls++; return first(low, high); }, to);
+    assert.equal(found, numbers.findLast(it => it < to) ?? null, `before ${to}`);
+    assert.ok(calls <= 2 * Math.ceil(Math.log2(to + 2)), `${calls} calls before ${to}`);
+  }
+});
 
 // What a count changed, and the card of its operator.
 const CHANGED = [
   ['two', 20, 25, /^array 2,2 .* to sectors 2 to 8, which it takes now\. No copy led into core, so none is turned$/],
   ['two', 23, 28, /^array 2,3 .* to sectors 9 to 15, which it takes now\./],
   ['two', 20, 25, /^element 6 of array 2,3 .*: 0 becomes 12$/],
-  ['switched', 8, 29, /^task 1\.2 runs, after 1\.1$/],
+  ['switched', 8, 29, /^1\.2 runs, after 1\.1$/],
   ['switched', 12, 33, /^cell 2,2, in record 1 of task 1\.1: 0 becomes 1$/],
   ['switched', 17, 18, /^cell 2,2, in record 1 of task 1\.1: 1 is stored, and it was 1 already$/],
   ['jensen', 21, 24, /^cell 2,2, in record 1 of task 1\.1: 0 becomes 1$/],

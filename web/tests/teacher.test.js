@@ -7,7 +7,7 @@ import {Native, decks} from './native.js';
 import {FOUND, WRITTEN} from './answers.js';
 import {CONDITIONS, conditionOf} from '../conditions.js';
 import {TASKS} from '../course.js';
-import {doneAgain, handedIn, handsIn, packedHand} from '../handin.js';
+import {doneAgain, handedIn, handsIn, packedHand, sameDecks} from '../handin.js';
 import {namesIn, NamesRefused, withoutNames} from '../names.js';
 import {isFound, isWritten} from '../progress.js';
 import {runWords, textOf} from '../program.js';
@@ -86,6 +86,13 @@ test('what a pupil hands in is one address, and each work is done again', async 
   assert.deepEqual(again, [true, false, true, false, true, null, false]);
   assert.deepEqual(handsIn(`Ada: b67.html#hand:${packed}\nBo <file:///b67.html#hand:abc-_1>, again #hand:abc-_1`), [packed, 'abc-_1']);
   await assert.rejects(handedIn(packed.slice(0, -9)), /isn’t whole|no work/);
+});
+
+test('equal decks of several pupils', () => {
+  const [one, same, other] = ['?JOB A\nLT8 4 ; four\n', '?JOB A\n  LT8  4\n; mine\n', '?JOB A\nLT8 5\n'].map(deck => ({deck}));
+  assert.deepEqual(sameDecks([one, other, same, null, {deck: 'two'}, {deck: 'two'}]), ['a', '', 'a', '', '', '']);
+  assert.deepEqual(sameDecks([other, one, one, other]), ['a', 'b', 'b', 'a']);
+  assert.deepEqual(sameDecks([one, null]), ['', '']);
 });
 
 const NAMED = '?JOB A\n?ASM\n; the sum\nSEGMENT MAIN 2\nCELL total 2,2\nZERO\nL: VALC total  ; the sum\nNAMC total\nSTOD\nCELL total 2,3 ; another\nVALC total\nEXIT\n?END\n';

@@ -17,6 +17,7 @@ use Rattle.b67_session_open.specs.Opens.{OpensAs, IsOpened}
 use Rattle.b67_session.specs.Slices.{StandsAt, SetsOutSome}
 use Rattle.b67_session.specs.Stops.{Stop}
 use Rattle.b67_session.specs.Stops as stops
+use Rattle.b67_session.proofs.Noted.{holds_as}
 use Rattle.b67_session.proofs.Openings.{stands_opened}
 use Rattle.b67_session.proofs.Pausing.{says_retold}
 use Rattle.b67_job.specs.Judgement.{judgement}
@@ -33,8 +34,8 @@ use Rattle.b67_job.specs.Searches.{IsLookedAt, FindsInDeck, FindsInText, StopsIn
 
 -- the least of these counts is the least of those
 pub least_as : (what : Sought) (places : List CodePlace) (A B : ℕ → Type 0) (s : Session) (found : Option ℕ) → ((n : ℕ) → A n → B n) → ((n : ℕ) → B n → A n) → FindsLeast what places A s found → FindsLeast what places B s found
-least_as what places A B s (Some n) to back (a, is, least) = (to n a, is, λ k b. least k (back k b))
-least_as what places A B s None to back none = λ k b. none k (back k b)
+least_as what places A B s (Some n) to back (a, is, least) = (to n a, holds_as what places A B s n back is, λ k b held. least k (back k b) (holds_as what places B A s k to held))
+least_as what places A B s None to back none = λ k b held. none k (back k b) (holds_as what places B A s k to held)
 
 module _ (from most : ℕ) (tasks : Tasks) (r : Run) (begun : tasks.made ≡ 0) (halt : tasks.halt ≡ r.halt) where
   pub looked_at : (n : ℕ) → IsSearched from most tasks n → IsLookedAt from most r n

@@ -1,11 +1,11 @@
 -- A search that has made so many steps and found nothing before them, and how it ends.
-use Rattle.std.proofs.Common.{◌≡◌, ◌≢◌, ◌≤◌, ◌<◌, ◌⊎◌, ℕ, ◌+◌, ◌-◌, zero, suc, List, [], ◌∷◌, Option, Some, None, Ok, Err, inl, inr, refl, sym, ap, ◌∙◌, subst, arith}
+use Rattle.std.proofs.Common.{◌≡◌, ◌≢◌, ◌≤◌, ◌<◌, ◌⊎◌, ℕ, ◌+◌, zero, suc, List, [], ◌∷◌, Option, Some, None, Ok, Err, inl, inr, refl, sym, ap, ◌∙◌, subst, arith}
+use Rattle.std.specs.Prelude.{option_map}
 use Rattle.std.proofs.lemmas.Bool.{cases_lt}
-use Rattle.b67_model.specs.Common.{SessionJob, Task, Session, StepResult, next, after, after_from, live_tasks, live_after, IsInOrderButPlaces}
+use Rattle.b67_model.specs.Common.{SessionJob, Task, Session, StepResult, next, after, after_from, live_tasks, live_after, height, IsInOrderButPlaces}
 use Rattle.b67_law_order.proofs.RunSessions.{sessions_stay_in_order_but_places}
 use Rattle.b67_law_sessions.specs.Turns.{IsNext}
-use Rattle.b67_law_sessions.proofs.Choices.{chosen_tasks_are_ready}
-use Rattle.b67_session_lines.proofs.Statuses.{after-add, over-stays}
+use Rattle.b67_session_lines.proofs.Statuses.{over-stays}
 use Rattle.b67_layout_storage.specs.Machine.{Says, DeviceAfterCalls}
 use Rattle.b67_task_tables.specs.declared.tables.TaskRow.{TaskRow}
 use Rattle.b67_task_tables.specs.declared.tables.Machine.{Machine}
@@ -19,7 +19,9 @@ use Rattle.b67_session.specs.declared.seeking.CodePlace.{CodePlace}
 use Rattle.b67_session.specs.declared.seeking.Sought.{Sought}
 use Rattle.b67_session.specs.declared.seeking.Sought.TheVariants as sought
 use Rattle.b67_session.specs.Slices.{IsOpen, Keeps, SliceMeets, Pauses, Slices}
-use Rattle.b67_session.specs.Search.{IsSought, IsSearched, FindsLeast, SearchLeaves}
+use Rattle.b67_session.specs.declared.seeking.Depth.{Depth}
+use Rattle.b67_session.specs.Search.{IsSought, IsSearched, FindsLeast, SearchLeaves, DeepestSoFar, PassesBy}
+use Rattle.b67_session.proofs.Noted.{holds_sought, sought_held, sought_other, sought_next, none_noted}
 use Rattle.b67_session.proofs.Next.{in_session, in_job}
 use Rattle.b67_session.proofs.Rows.{none_of}
 use Rattle.b67_session.proofs.Fitting.{below}
@@ -35,56 +37,92 @@ stays_ordered (suc n) s o = by_next (λ s' o'. stays_ordered n s' o') (next s) r
     by_next rest None e = o
     by_next rest (Some m) e = rest m.session (sessions_stay_in_order_but_places s m o e)
 
--- of a session whose tasks have ended nothing is sought
+-- no task makes the next operator of a session whose tasks have ended
 no_next : (s : Session) (m : SessionJob) (t : Task) → IsNext s m t → live_tasks s.jobs ≡ 0 → ⊥
 no_next s m t n none = none_of s.jobs m t (in_session s m t n) (in_job s m t n) none
 
-over_sought : (what : Sought) (places : List CodePlace) (s : Session) → IsInOrderButPlaces s → live_tasks s.jobs ≡ 0 → IsSought what places s → ⊥
-over_sought sought.Place places s o none (m, t, n, has) = no_next s m t n none
-over_sought sought.Switch places s o none (c, is, other) = (let (m, t, n, same, ready) = chosen_tasks_are_ready s c o is in no_next s m t n none)
-
--- nothing is sought of the sessions from one count up to another
-abbrev pub NoneBefore : Sought → List CodePlace → ℕ → ℕ → Session → Type 0
-NoneBefore what places from upto s = (j : ℕ) → from ≤ j → j < upto → IsSought what places (after j s) → ⊥
+abbrev pub count : Option Depth → Option ℕ
+count best = option_map (λ (d : Depth). d.made) best
 
 module _ {K : Type 0} (taken : K → Option (List ℕ)) (exact : Type 0) (told : Option (List (List ℕ))) (what : Sought) (places : List CodePlace) (from most made : ℕ) (s : Session) (old now : Machine) (paper paper' : K)
-    (g : Going taken exact told made s old now paper paper') (tells : exact) (order : IsInOrderButPlaces s) (keeps : Keeps old now) (none : NoneBefore what places from made s) where
+    (g : Going taken exact told made s old now paper paper') (tells : exact) (order : IsInOrderButPlaces s) (keeps : Keeps old now) (best : Option Depth) (passes : PassesBy what places from 0 made s None best) where
+  none : (j : ℕ) → from ≤ j → j < made → IsSought what places (after j s) → ⊥
+  none j up low = passes.none j up (omega arith) low
+
+  before : (j : ℕ) → j < made → (i : ℕ) → i ≤ j → old.tasks.halt ≢ Some (old.tasks.made + i)
+  before j low i up = g.below i (omega (arith, low, up))
+
   -- it is at such a count
   pub found_least : made < most → from ≤ made → now.tasks.halt ≢ Some now.tasks.made → IsSought what places g.session → FindsLeast what places (IsSearched from most old.tasks) s (Some made)
   found_least few later due is = (
-    record { later = later; made = record { few = few; before_halt = before } },
-    subst (IsSought what places) (sym (g.came tells).session) is,
-    λ k searched sought. elim (cases_lt k made) [
-      | inl less ↦ absurd (none k searched.later less sought)
+    record { later = later; made = record { few = few; before_halt = here } },
+    holds_sought what places (IsSearched from most old.tasks) s made there,
+    λ k searched held. elim (cases_lt k made) [
+      | inl less ↦ absurd (none k searched.later less (sought_held what places (IsSearched from most old.tasks) s k (sought_other what places (after made s) there) held))
       | inr up ↦ up
     ],
   ) where
-    before : (j : ℕ) → j ≤ made → old.tasks.halt ≢ Some (old.tasks.made + j)
-    before j low e = by (below j made (omega (arith, low))) where
+    there : IsSought what places (after made s)
+    there = subst (IsSought what places) (sym (g.came tells).session) is
+
+    here : (j : ℕ) → j ≤ made → old.tasks.halt ≢ Some (old.tasks.made + j)
+    here j low e = by (below j made (omega (arith, low))) where
       by : (j < made) ⊎ (j ≡ made) → ⊥
       by (inl less) = g.below j less e
       by (inr same) = due (halt_kept old now keeps ∙ e ∙ ap (λ (n : ℕ). Some n) (omega (arith, same, g.made)))
 
+  -- no task makes an operator at a later count that is looked at
+  abbrev AllPassed : Type 0
+  AllPassed = (k : ℕ) (m : SessionJob) (t : Task) → IsSearched from most old.tasks k → IsNext (after k s) m t → k < made
+
+  deepest_of : made ≤ most → AllPassed → (b : Option Depth) → DeepestSoFar from made s b → FindsLeast sought.Deepest places (IsSearched from most old.tasks) s (count b)
+  deepest_of few all None x = λ k searched held. x k held.member held.task searched.later (all k held.member held.task searched held.next) held.next
+  deepest_of few all (Some d) x =
+      let searched : IsSearched from most old.tasks d.made = record { later = x.later; made = record { few = omega (arith, few, x.before); before_halt = before d.made x.before } } in (
+        searched,
+        record { member = x.member; task = x.task; next = x.next; highest = λ k m t looked n. subst (λ (i : ℕ). height t.frames ≤ i) x.high (x.highest k m t looked.later (all k m t looked n) n) },
+        λ k looked held. elim (cases_lt k d.made) [
+          | inl less ↦
+              let low = x.first k held.member held.task looked.later less held.next in
+              let up = held.highest d.made x.member x.task searched x.next in
+              absurd (omega (arith, low, up, x.high))
+          | inr up ↦ up
+        ],
+      )
+
+  other_of : AllPassed → what ≢ sought.Deepest → FindsLeast what places (IsSearched from most old.tasks) s None
+  other_of all other k searched held =
+      let is = sought_held what places (IsSearched from most old.tasks) s k other held in
+      let (m, t, n) = sought_next what places (after k s) (stays_ordered k s order) is in
+      none k searched.later (all k m t searched n) is
+
+  found_all : made ≤ most → AllPassed → FindsLeast what places (IsSearched from most old.tasks) s (count best)
+  found_all few all = by what refl where
+    apart : what ≢ sought.Deepest → FindsLeast what places (IsSearched from most old.tasks) s (count best)
+    apart other = subst (λ (b : Option Depth). FindsLeast what places (IsSearched from most old.tasks) s (count b)) (sym ((passes.noted (none_noted what from s)).other other)) (other_of all other)
+
+    by : (w : Sought) → what ≡ w → FindsLeast what places (IsSearched from most old.tasks) s (count best)
+    by sought.Place is = apart (λ e. let z : sought.Place ≡ sought.Deepest = sym is ∙ e in let no : ⊥ = cc in no)
+    by sought.Switch is = apart (λ e. let z : sought.Switch ≡ sought.Deepest = sym is ∙ e in let no : ⊥ = cc in no)
+    by (sought.Within job number upto) is = apart (λ e. let z : sought.Within job number upto ≡ sought.Deepest = sym is ∙ e in let no : ⊥ = cc in no)
+    by sought.Deepest is = subst (λ (w : Sought). FindsLeast w places (IsSearched from most old.tasks) s (count best)) (sym is) (deepest_of few all best ((passes.noted (none_noted what from s)).deepest is))
+
   -- all counts were looked at
-  pub found_none : most ≤ made → FindsLeast what places (IsSearched from most old.tasks) s None
-  found_none all k searched = none k searched.later (omega (arith, all, searched.made.few))
+  pub found_none : made ≤ most → most ≤ made → FindsLeast what places (IsSearched from most old.tasks) s (count best)
+  found_none few all = found_all few (λ k m t searched n. omega (arith, all, searched.made.few))
 
   -- the run goes no further
-  pub found_end : (p : Progress) → Pauses now.tasks now.tasks.halt (Some p) → FindsLeast what places (IsSearched from most old.tasks) s None
-  found_end progress.Ended rows k searched is = elim (cases_lt k made) [
-    | inl less ↦ none k searched.later less is
-    | inr up ↦
+  pub found_end : made ≤ most → (p : Progress) → Pauses now.tasks now.tasks.halt (Some p) → FindsLeast what places (IsSearched from most old.tasks) s (count best)
+  found_end few p rows = found_all few (λ k m t searched n. elim (cases_lt k made) [ inl less ↦ less | inr up ↦ absurd (ends p rows k m t searched n up) ]) where
+    ends : (q : Progress) → Pauses now.tasks now.tasks.halt (Some q) → (k : ℕ) (m : SessionJob) (t : Task) → IsSearched from most old.tasks k → IsNext (after k s) m t → made ≤ k → ⊥
+    ends progress.Ended rows k m t searched n up =
         let over : live_after made s ≡ 0 = subst (λ (z : Session). live_tasks z.jobs ≡ 0) (sym (g.came tells).session) (rests_now told now g.session g.stands rows).none in
-        over_sought what places (after k s) (stays_ordered k s order) (over-stays made k s over up) is
-  ]
-  found_end progress.Halted h k searched is = elim (cases_lt k made) [
-    | inl less ↦ none k searched.later less is
-    | inr up ↦ searched.made.before_halt made up (sym (halt_kept old now keeps) ∙ h.1 ∙ ap (λ (n : ℕ). Some n) g.made)
-  ]
-  found_end progress.More h k searched is = absurd h
+        no_next (after k s) m t n (over-stays made k s over up)
+    ends progress.Halted h k m t searched n up = searched.made.before_halt made up (sym (halt_kept old now keeps) ∙ h.1 ∙ ap (λ (n : ℕ). Some n) g.made)
+    ends progress.More h k m t searched n up = h
 
   -- it stops before a step, at a count that was looked at
-  module _ (said : Option (List (List ℕ))) (count : ℕ) (stop : Stop) (new : Machine) (paper'' : K) (x : Slices taken said exact count most s (Err stop) old new paper paper'') (same : new.tasks.made ≡ now.tasks.made) (other : from ≤ made → IsSought what places g.session → ⊥) where
+  module _ (said : Option (List (List ℕ))) (size : ℕ) (stop : Stop) (new : Machine) (paper'' : K) (x : Slices taken said exact size most s (Err stop) old new paper paper'') (same : new.tasks.made ≡ now.tasks.made) (other : from ≤ made → IsSought what places g.session → ⊥) where
     pub none_up_to : (k : ℕ) → k ≤ x.steps → IsSearched from most old.tasks k → IsSought what places (after k s) → ⊥
     none_up_to k low searched is = by (below k made (omega (arith, low, x.made, same, g.made))) where
       by : (k < made) ⊎ (k ≡ made) → ⊥
@@ -106,23 +144,6 @@ open_here taken exact said told made s old now paper paper' g says countable = b
   by : (rows : List TaskRow) → now.tasks.rows.items ≡ rows → IsOpen told now
   by [] e = open_again taken said told exact 0 made s (Ok progress.Ended) old now paper paper' says countable (going-ended taken exact said 0 made made s old now paper paper' g (omega arith) e)
   by (row ∷ rows) e = record { stage = inl (going-lives taken exact said 0 made made s old now paper paper' g told says (λ none. absurd (let z : ⊥ = cc in z))); countable = countable }
-
--- nor of the session to which it came
-pub none_here : (what : Sought) (places : List CodePlace) (from made : ℕ) (s first : Session) → after made s ≡ first → NoneBefore what places from made s → (from ≤ made → IsSought what places first → ⊥) → NoneBefore what places from (made + 1) s
-none_here what places from made s first came none other j up low = by (below j made low) where
-  by : (j < made) ⊎ (j ≡ made) → IsSought what places (after j s) → ⊥
-  by (inl less) = none j up less
-  by (inr at) = λ is. (let later : from ≤ made = omega (arith, at, up) in other later (subst (IsSought what places) (ap (λ (i : ℕ). after i s) at ∙ came) is))
-
--- nor of the next ones
-pub none_further : (what : Sought) (places : List CodePlace) (from made more : ℕ) (s first : Session) → after made s ≡ first → NoneBefore what places from made s → ((j : ℕ) → from ≤ made + j → j < more → IsSought what places (after j first) → ⊥) → NoneBefore what places from (made + more) s
-none_further what places from made more s first came none further j up low = elim (cases_lt j made) [
-  | inl less ↦ none j up less
-  | inr over ↦
-      let same : j ≡ made + (j - made) = omega (arith, over) in
-      let there : after j s ≡ after (j - made) first = ap (λ (i : ℕ). after i s) same ∙ after-add made (j - made) s ∙ ap (after (j - made)) came in
-      λ is. further (j - made) (omega (arith, over, up)) (omega (arith, over, low)) (subst (IsSought what places) there is)
-]
 
 pub leaves_here : {D K : Type 0} (holds : D → Option (List (List ℕ))) (size calls faults : D → ℕ) (taken : K → Option (List ℕ)) (exact : Type 0) (said : Option (List (List ℕ))) (made : ℕ) (s : Session) (found : Option ℕ) (old now : Machine) (d e : D) (paper paper' : K)
     → Going taken exact said made s old now paper paper' → Says said (holds e) → AreCountable old.tasks.jobs → Keeps old now → DeviceAfterCalls holds size calls faults d e → SearchLeaves holds size calls faults (Ok found) old now d e

@@ -1,12 +1,11 @@
 -- Operators of a turn after others of it.
-use Rattle.std.proofs.Common.{◌≡◌, ◌≤◌, ◌<◌, ◌⊎◌, ℕ, ◌+◌, ◌-◌, List, length, Option, Some, inl, inr, sym, ap, ◌∙◌, subst, arith}
+use Rattle.std.proofs.Common.{◌≡◌, ◌≤◌, ◌<◌, ℕ, ◌+◌, ◌-◌, List, length, Option, Some, inl, inr, sym, ap, ◌∙◌, subst, arith}
 use Rattle.std.proofs.lemmas.Bool.{cases_lt}
 use Rattle.b67_model.specs.Common.{after, lines, Session}
 use Rattle.b67_session_lines.proofs.Statuses.{after-add}
 use Rattle.b67_task_tables.specs.declared.tables.Machine.{Machine}
 use Rattle.b67_task_tables.proofs.Keeping.{halt_kept}
 use Rattle.b67_session.specs.Slices.{NextFits, Keeps}
-use Rattle.b67_session.proofs.Fitting.{below}
 use Rattle.b67_session.specs.Steps.{GoesOnInTurn}
 
 module _ (told : Option (List (List ℕ))) (steps more : ℕ) (first : Session) (old mid new : Machine) (keeps : Keeps old mid) (x : GoesOnInTurn told steps first old mid) (y : GoesOnInTurn told more x.session mid new) where
@@ -37,10 +36,3 @@ module _ (told : Option (List (List ℕ))) (steps more : ℕ) (first : Session) 
           y.below (j - steps) (omega (arith, low, up)) (halt_kept old mid keeps ∙ at ∙ ap (λ (n : ℕ). Some n) (omega (arith, x.made, up)))
     ];
   }
-
--- what holds of none of the sessions before, and not of the one in between, holds of none up to it
-pub none_then : (P : Session → Type 0) (steps : ℕ) (first s : Session) → after steps first ≡ s → ((j : ℕ) → j < steps → P (after j first) → ⊥) → (P s → ⊥) → (j : ℕ) → j < steps + 1 → P (after j first) → ⊥
-none_then P steps first s came none other j low = by (below j steps low) where
-  by : (j < steps) ⊎ (j ≡ steps) → P (after j first) → ⊥
-  by (inl less) = none j less
-  by (inr same) = λ p. other (subst P (ap (λ (i : ℕ). after i first) same ∙ came) p)

@@ -56,5 +56,7 @@ pub mod SameTask
 pub mod InTurns
 pub mod Among
 pub mod Standing
+pub mod Heights
+pub mod Noted
 pub mod FoundLeast
 pub mod Onward

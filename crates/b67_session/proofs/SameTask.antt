@@ -1,7 +1,6 @@
 -- Where a session's turn is so many operators longer after as many steps, one task has made them.
-use Rattle.std.proofs.Common.{◌≡◌, ◌≤◌, ◌<◌, ◌+◌, ◌⊎◌, inl, inr, ℕ, zero, suc, Bool, true, false, List, Option, Some, None, refl, sym, ap, ◌∙◌, subst, arith}
+use Rattle.std.proofs.Common.{◌≡◌, ◌≤◌, ◌<◌, ◌+◌, ◌⊎◌, inl, inr, ℕ, zero, suc, Bool, true, false, List, Option, Some, None, refl, sym, ap, ◌∙◌, arith}
 use Rattle.std.proofs.lemmas.Option.{none-some, same_Some}
-use Rattle.b67_lemmas.specs.Lists.{Has}
 use Rattle.b67_model.specs.Keyed.{keyed}
 use Rattle.b67_law_sessions.specs.Turns.{IsNext}
 use Rattle.b67_model.specs.Common.{SessionJob, Task, Who, Session, Choice, choice, StepResult, next, moment_for, after, after_from, number_of, afresh, switched, next_after, choice_by}
@@ -12,7 +11,10 @@ use Rattle.b67_session.specs.declared.seeking.Sought.TheVariants as sought
 use Rattle.b67_task_tables.specs.declared.tables.Machine.{Machine}
 use Rattle.b67_session.specs.Slices.{StandsAt}
 use Rattle.b67_session.specs.Steps.{GoesOnInTurn}
-use Rattle.b67_session.specs.Search.{stands_at, IsSought}
+use Rattle.b67_session.specs.Search.{IsSought}
+use Rattle.b67_layout.specs.Common.{Placement, IsRunning}
+use Rattle.b67_task_switch.specs.Lasting.{TurnLasts}
+use Rattle.b67_session.proofs.Next.{found, task_found}
 
 -- a chosen task begins a turn, or it is the last one and goes on with its own
 abbrev IsChosenSo : Session → Choice → Type 0
@@ -97,12 +99,31 @@ turn_is told k s old new h x counted =
 pub turn_some : (s : Session) (m : StepResult) → next s ≡ Some m → 1 ≤ m.session.turn
 turn_some s m e = let x = one_more s m e in let is = x.turn in omega (arith, is)
 
--- the last task makes one operator more in its turn, and stands at none of these places
-pub place_not : (told : Option (List (List ℕ))) (places : List CodePlace) (made : ℕ) (s : Session) (old mid new : Machine) → StandsAt told old s → (x : GoesOnInTurn told made s old mid) → mid.tasks.turn ≡ old.tasks.turn + made → 1 ≤ s.turn
-    → {k : ℕ} → GoesOnInTurn told k x.session mid new → new.tasks.turn ≡ mid.tasks.turn + k → k ≡ 1
-    → ((said : Option (List (List ℕ))) (z : Session) (m : SessionJob) (t : Task) (n : IsNext z m t) → StandsAt said mid z → n.chosen.who ≡ z.last → Has places (stands_at m t) → ⊥)
-    → IsSought sought.Place places x.session → ⊥
-place_not told places made s old mid new h x counted some {k} y more one off (m, t, n, has) =
-    let begun : x.session.turn ≡ s.turn + made = sym x.stands.stands.tables.counts.turn ∙ counted ∙ ap (λ (i : ℕ). i + made) h.stands.tables.counts.turn in
-    let longer : (after 1 x.session).turn ≡ x.session.turn + 1 = subst (λ (i : ℕ). (after i x.session).turn ≡ x.session.turn + i) one (turn_is told k x.session mid new x.stands y more) in
-    off told x.session m t n x.stands (last_goes_on x.session (omega (arith, begun, some)) longer n.chosen n.is) has
+-- the last task makes the next operator, and its registers are in use
+pub record GoesOnNext (plan : Placement) (s : Session) : Type 0 where
+  pub member : SessionJob
+  pub task : Task
+  pub next : IsNext s member task
+  pub last : next.chosen.who ≡ s.last
+  pub running : IsRunning plan s.jobs member task
+
+-- so it does where one step makes its turn one longer
+pub going_next : (plan : Placement) (s : Session) → 1 ≤ s.turn → (after 1 s).turn ≡ s.turn + 1 → TurnLasts plan s 1 → GoesOnNext plan s
+going_next plan s some longer w = by (choice s) refl where
+  by : (o : Option Choice) → choice s ≡ o → GoesOnNext plan s
+  by None is = of_step (next s) refl longer where
+    of_step : (o : Option StepResult) → next s ≡ o → (after_from 1 s o).turn ≡ s.turn + 1 → GoesOnNext plan s
+    of_step None e longer = absurd (omega (arith, longer))
+    of_step (Some m) e longer = absurd (none-some (one_more s m e).chosen (sym is ∙ (one_more s m e).is))
+  by (Some c) is =
+      let last : c.who ≡ s.last = last_goes_on s some longer c is in
+      let member : keyed number_of c.who.job s.jobs ≡ Some w.who = ap (λ (z : Who). keyed number_of z.job s.jobs) last ∙ w.lasts.member in
+      let task : keyed (λ (u : Task). u.number) c.who.task w.who.progress.job.tasks ≡ Some w.task = ap (λ (z : Who). keyed (λ (u : Task). u.number) z.task w.who.progress.job.tasks) last ∙ w.lasts.task in
+      let n : IsNext s w.who w.task = record { chosen = c; is = is; member = member; task = task } in
+      record {
+        member = w.who;
+        task = w.task;
+        next = n;
+        last = last;
+        running = record { member = found s w.who w.task n; task = task_found s w.who w.task n; slot = w.runs };
+      }

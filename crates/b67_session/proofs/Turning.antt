@@ -1,5 +1,5 @@
 -- An operator more of a turn that goes on.
-use Rattle.std.proofs.Common.{◌≡◌, ◌≢◌, ℕ, suc, ◌+◌, ◌-◌, ◌<◌, ◌≤◌, Bool, true, false, List, [], ◌∷◌, ◌++◌, length, map, Option, Some, None, Ok, Err, refl, sym, ap, ◌∙◌, subst, arith, inl, inr, eqb, slice_get, append-nil}
+use Rattle.std.proofs.Common.{◌≡◌, ◌≢◌, ℕ, suc, ◌+◌, ◌-◌, ◌<◌, ◌≤◌, ◌⊎◌, Bool, true, false, List, [], ◌∷◌, ◌++◌, length, map, Option, Some, None, Ok, Err, refl, sym, ap, ◌∙◌, subst, arith, inl, inr, eqb, slice_get, append-nil}
 use Rattle.std.specs.Prelude.{◌&&◌}
 use Rattle.std.specs.List.{AllByRecursion}
 use Rattle.std.proofs.lemmas.Bool.{cases_Bool, ne_eqb}
@@ -425,6 +425,28 @@ pub some_runs : (k : Machine) → RunsTask k → RunsSome k.cpu
 some_runs k r = record { storage = r.storage; plan = r.plan; session = r.session; member = r.member; task = r.task; ordered = r.ordered; stands = r.stands.session; running = r.running }
 
 -- ---- the turn
+
+-- a turn that lasts longer lasts for one operator
+pub turn_of_one : (plan : Placement) (s : Session) (room : ℕ) → 1 ≤ room → TurnLasts plan s room → TurnLasts plan s 1
+turn_of_one plan s room some w = record {
+  who = w.who;
+  task = w.task;
+  lasts = record {
+    member = w.lasts.member;
+    task = w.lasts.task;
+    ready = w.lasts.ready;
+    rules = record { switches = λ v has. earlier v (w.lasts.rules.switches v has); on = still w.lasts.rules.on };
+    below = omega (arith, w.lasts.below, some);
+  };
+  runs = w.runs;
+} where
+  earlier : (v : Switch) → (v.count < s.made) ⊎ (s.made + room ≤ v.count) → (v.count < s.made) ⊎ (s.made + 1 ≤ v.count)
+  earlier v (inl past) = inl past
+  earlier v (inr later) = inr (omega (arith, later, some))
+
+  still : ((v : Switch) × Has s.switches v × (s.made + room ≤ v.count)) ⊎ (s.turn + room ≤ s.quantum) → ((v : Switch) × Has s.switches v × (s.made + 1 ≤ v.count)) ⊎ (s.turn + 1 ≤ s.quantum)
+  still (inl (v, has, later)) = inl (v, has, omega (arith, later, some))
+  still (inr low) = inr (omega (arith, low, some))
 
 -- the operators fit the counts of the tables before them
 pub turn_fits : (plan : Placement) (s : Session) (tasks : Tasks) (room made : ℕ) → IsInOrderButPlaces s → TasksShow plan s tasks → TurnLasts plan s room → made ≤ room → TurnHasRoom tasks made

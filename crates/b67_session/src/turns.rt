@@ -169,6 +169,7 @@ pub(crate) fn go_on_with_turn(machine: &mut Machine, most: u64, why: &mut Step) 
     requires unprinted { machine.old.tasks.printed ≡ 0 }
     requires done { why.old ≡ Done }
     ensures counts { CountsTurn most result machine.old machine.new why.old why.new }
+    ensures lasts { (said : Option (List (List ℕ))) (s : Session) (h : StandsAt said machine.old s) → 1 ≤ result → TurnLasts h.plan s 1 }
     ensures stops { why.new ≢ Done → StopsHere machine.new.cpu why.new }
     ensures row { (said : Option (List (List ℕ))) (s : Session) → StandsAt said machine.old s → GoesOnInTurn said result s machine.old machine.new }
     ensures keeps { Keeps machine.old machine.new }

@@ -1,4 +1,4 @@
-use Rattle.std.proofs.Common.{◌≡◌, ◌≢◌, ◌≤◌, ℕ, ◌+◌, List, Option, Some, None, Ok, Err, refl, sym, ap, ◌∙◌, subst, arith}
+use Rattle.std.proofs.Common.{◌≡◌, ◌≢◌, ◌≤◌, ℕ, ◌+◌, ◌-◌, List, Option, Some, None, Ok, Err, refl, sym, ap, ◌∙◌, subst, arith}
 use Rattle.b67_io.specs.Free.{tally_told, tally_faults}
 use Rattle.b67_model.specs.Common.{Session, after}
 use Rattle.b67_layout_storage.specs.Machine.{Says, content_after}
@@ -9,14 +9,15 @@ use Rattle.b67_session.specs.AttemptPassed.{CallCauses}
 use Rattle.b67_session.specs.AttemptStops.{Stop}
 use Rattle.b67_session.specs.AttemptStops as stops
 use Rattle.b67_session.specs.declared.slices.Progress.{Progress}
-use Rattle.b67_session.specs.Search.{StopsUnfound}
+use Rattle.b67_session.specs.Search.{IsSearched, FindsLeast, StopsUnfound}
 use Rattle.b67_session.specs.Slices.{StandsAt, Keeps, Slices}
 use Rattle.b67_session.proofs.Again.{open_again}
 use Rattle.b67_session.proofs.Completing.{goes_through, no_fault}
 use Rattle.b67_session.proofs.Going.{Going, going-begins, going-lives, going-turn, stop_causes}
 use Rattle.b67_session.proofs.Pausing.{says_retold}
 use Rattle.b67_session.proofs.Onward.{went_on, stopped, turn_begun, none_made}
-use Rattle.b67_session.proofs.FoundLeast.{found_least, found_none, found_end, none_up_to, leaves_here, none_here, none_further}
+use Rattle.b67_session.proofs.Noted.{none_noted, none_counted, passes_none, passes_one, passes_then}
+use Rattle.b67_session.proofs.FoundLeast.{found_least, found_none, found_end, none_up_to, leaves_here}
 use Rattle.b67_session.proofs.finding.find.Given.{Over}
 use Rattle.b67_session.proofs.finding.find.Goals.{After-step}
 use Rattle.b67_session.proofs.finding.find.Goals as goal
@@ -65,11 +66,17 @@ turn-init g c = record {
   going = λ said s says h.
       let P : Option (List (List ℕ)) → Type 0 = λ d. Going tally_told (said ≢ None) d 0 s c.args.machine.now c.args.machine.now c.new-paper.result c.new-paper.result in
       subst P (sym (retold-same said (g.B.Backing.holds c.args.backing.now) says)) (going-begins tally_told (said ≢ None) said s c.args.machine.now c.new-paper.result h);
-  none = λ said s tells says h j up low. absurd (omega (arith, low));
+  passes = λ said s tells says h. passes_none c.args.what c.args.places.now c.args.from 0 s None;
 }
 
 pub is_found-requires : goal.is_found-requires
 is_found-requires g c =
+    let l = c.requires.begins.stands in
+    let x = c.turn.invariant.going l.said l.session l.says l.stands in
+    record { stands = record { said = content_after l.said (g.B.Backing.holds c.turn.backing); session = x.session; stands = x.stands } }
+
+pub note_chosen-best-requires : goal.note_chosen-best-requires
+note_chosen-best-requires g c =
     let l = c.requires.begins.stands in
     let x = c.turn.invariant.going l.said l.session l.says l.stands in
     record { stands = record { said = content_after l.said (g.B.Backing.holds c.turn.backing); session = x.session; stands = x.stands } }
@@ -87,16 +94,16 @@ step-requires-clause-due g c =
 pub step-requires-clause-sized : goal.step-requires-clause-sized
 step-requires-clause-sized g c = omega (arith, c.turn.invariant.device.size, c.turn.invariant.keeps.sectors, c.requires.sized)
 
-pub go_on_past-requires-clause-stands : goal.go_on_past-requires-clause-stands
-go_on_past-requires-clause-stands g c =
-    let a = (goal.at.go_on_past-requires-clause-stands g c).After-step in
+pub go_on_past-made-requires-clause-stands : goal.go_on_past-made-requires-clause-stands
+go_on_past-made-requires-clause-stands g c =
+    let a = (goal.at.go_on_past-made-requires-clause-stands g c).After-step in
     let l = c.requires.begins.stands in
     let one = one_more g a c.in_default.ensures.1 l.said l.session l.says l.stands c.in-Ok.is in
     record { said = content_after l.said (g.B.Backing.holds c.step.new.backing); session = one.session; stands = one.stands }
 
-pub go_on_past-requires-clause-unprinted : goal.go_on_past-requires-clause-unprinted
-go_on_past-requires-clause-unprinted g c =
-    let a = (goal.at.go_on_past-requires-clause-unprinted g c).After-step in
+pub go_on_past-made-requires-clause-unprinted : goal.go_on_past-made-requires-clause-unprinted
+go_on_past-made-requires-clause-unprinted g c =
+    let a = (goal.at.go_on_past-made-requires-clause-unprinted g c).After-step in
     let l = c.requires.begins.stands in
     (one_more g a c.in_default.ensures.1 l.said l.session l.says l.stands c.in-Ok.is).texts.some (omega arith)
 
@@ -104,49 +111,58 @@ pub turn-preserved : goal.turn-preserved
 turn-preserved g c =
     let a = (goal.at.turn-preserved g c).After-step in
     let due = c.in_default.ensures.1 in
-    let more = c.go_on_past.result in
-    let few = c.go_on_past.ensures.few in
-    let total : c.turn.made + 1 + more ≡ c.turn.made + 1 + more = refl in
+    let counts = c.go_on_past-made.ensures.few in
+    let more = c.go_on_past-made.result - (c.turn.made + 1) in
+    let total : c.go_on_past-made.result ≡ c.turn.made + 1 + more = omega (arith, counts.on) in
     record {
-      few = omega (arith, few);
-      why = c.go_on_past.ensures.stops;
+      few = counts.few (omega arith);
+      why = c.go_on_past-made.ensures.stops;
       device = Served-then g.B.Backing.holds g.B.Backing.size g.B.Backing.calls g.B.Backing.faults c.args.backing.now c.turn.backing c.step.new.backing c.turn.invariant.device c.step.ensures.leaves.served;
-      keeps = keeps_then c.args.machine.now c.step.new.machine c.go_on_past.new.machine (keeps g a) c.go_on_past.ensures.keeps;
+      keeps = keeps_then c.args.machine.now c.step.new.machine c.go_on_past-made.new.machine (keeps g a) c.go_on_past-made.ensures.keeps;
       going = λ said s says h.
           let one = one_more g a due said s says h c.in-Ok.is in
-          going-turn tally_told (said ≢ None) (content_after said (g.B.Backing.holds c.step.new.backing)) (c.turn.made + 1) more (c.turn.made + 1 + more) s c.args.machine.now c.step.new.machine c.go_on_past.new.machine c.new-paper.result c.step.new.paper
-          one (keeps g a) (omega arith) (c.go_on_past.ensures.row (content_after said (g.B.Backing.holds c.step.new.backing)) one.session one.stands) total;
-      none = λ said s tells says h.
+          going-turn tally_told (said ≢ None) (content_after said (g.B.Backing.holds c.step.new.backing)) (c.turn.made + 1) more c.go_on_past-made.result s c.args.machine.now c.step.new.machine c.go_on_past-made.new.machine c.new-paper.result c.step.new.paper
+          one (keeps g a) (omega arith) (c.go_on_past-made.ensures.row (content_after said (g.B.Backing.holds c.step.new.backing)) one.session one.stands) total;
+      passes = λ said s tells says h.
           let x = c.turn.invariant.going said s says h in
           let one = one_more g a due said s says h c.in-Ok.is in
           let there = (one.came tells).session in
-          none_further c.args.what c.args.places.now c.args.from (c.turn.made + 1) more s one.session there
-          (none_here c.args.what c.args.places.now c.args.from c.turn.made s x.session (x.came tells).session (c.turn.invariant.none said s tells says h)
-          (c.is_found.ensures.fails (content_after said (g.B.Backing.holds c.turn.backing)) x.session x.stands c.if-is_found.false))
-          (λ i up. c.go_on_past.ensures.none (content_after said (g.B.Backing.holds c.step.new.backing)) one.session one.stands
-          (subst (λ (z : Session). 1 ≤ z.turn) there (some_turn g a due said s says h c.in-Ok.is tells)) i (omega (arith, up, c.saturating_sub-before.ensures)));
+          let came = (x.came tells).session in
+          passes_then c.args.what c.args.places.now c.args.from 0 (c.turn.made + 1) c.go_on_past-made.result s None c.note_chosen-best.result c.go_on_past-made.new.best
+          (passes_then c.args.what c.args.places.now c.args.from 0 c.turn.made (c.turn.made + 1) s None c.turn.best c.note_chosen-best.result (c.turn.invariant.passes said s tells says h)
+          (passes_one c.args.what c.args.places.now c.args.from c.turn.made s x.session c.turn.best c.note_chosen-best.result came
+          (c.is_found.ensures.fails (content_after said (g.B.Backing.holds c.turn.backing)) x.session x.stands c.if-is_found.false)
+          (c.note_chosen-best.ensures (content_after said (g.B.Backing.holds c.turn.backing)) s x.session x.stands came)))
+          (c.go_on_past-made.ensures.passes (content_after said (g.B.Backing.holds c.step.new.backing)) s one.session one.stands
+          (subst (λ (z : Session). 1 ≤ z.turn) there (some_turn g a due said s says h c.in-Ok.is tells)) there);
     }
 
 pub returns-in-Some-clause-least : goal.returns-in-Some-clause-least
 returns-in-Some-clause-least g c = λ said s tells says h.
-    found_end tally_told (said ≢ None) (content_after said (g.B.Backing.holds c.turn.backing)) c.args.what c.args.places.now c.args.from c.args.most c.turn.made s c.args.machine.now c.turn.machine c.new-paper.result c.turn.paper
-    (c.turn.invariant.going said s says h) tells h.ordered c.turn.invariant.keeps (c.turn.invariant.none said s tells says h) c.in-Some._progress c.in-Some.ensures
+    subst (FindsLeast c.args.what c.args.places.now (IsSearched c.args.from c.args.most c.args.machine.now.tasks) s) (sym c.count_of.ensures)
+    (found_end tally_told (said ≢ None) (content_after said (g.B.Backing.holds c.turn.backing)) c.args.what c.args.places.now c.args.from c.args.most c.turn.made s c.args.machine.now c.turn.machine c.new-paper.result c.turn.paper
+    (c.turn.invariant.going said s says h) tells h.ordered c.turn.invariant.keeps c.turn.best (c.turn.invariant.passes said s tells says h) c.turn.invariant.few c.in-Some._progress c.in-Some.ensures)
+
+pub returns-in-Some-clause-stands : goal.returns-in-Some-clause-stands
+returns-in-Some-clause-stands g c = λ said s n tells says h other e.
+    let none : c.turn.best ≡ None = ((c.turn.invariant.passes said s tells says h).noted (none_noted c.args.what c.args.from s)).other other in
+    absurd (none_counted c.turn.best c.count_of.result n none c.count_of.ensures (let is : c.count_of.result ≡ Some n = cc in is))
 
 pub returns-in-Some-clause-leaves : goal.returns-in-Some-clause-leaves
 returns-in-Some-clause-leaves g c =
     let l = c.requires.begins.stands in
-    leaves_here g.B.Backing.holds g.B.Backing.size g.B.Backing.calls g.B.Backing.faults tally_told (l.said ≢ None) (content_after l.said (g.B.Backing.holds c.turn.backing)) c.turn.made l.session None c.args.machine.now c.turn.machine
+    leaves_here g.B.Backing.holds g.B.Backing.size g.B.Backing.calls g.B.Backing.faults tally_told (l.said ≢ None) (content_after l.said (g.B.Backing.holds c.turn.backing)) c.turn.made l.session c.count_of.result c.args.machine.now c.turn.machine
     c.args.backing.now c.turn.backing c.new-paper.result c.turn.paper (c.turn.invariant.going l.said l.session l.says l.stands) (says_retold l.said (g.B.Backing.holds c.turn.backing)) c.requires.begins.countable c.turn.invariant.keeps c.turn.invariant.device
 
 pub returns-then-is_found-clause-least : goal.returns-then-is_found-clause-least
 returns-then-is_found-clause-least g c = λ said s tells says h.
     let x = c.turn.invariant.going said s says h in
     found_least tally_told (said ≢ None) (content_after said (g.B.Backing.holds c.turn.backing)) c.args.what c.args.places.now c.args.from c.args.most c.turn.made s c.args.machine.now c.turn.machine c.new-paper.result c.turn.paper
-    x tells h.ordered c.turn.invariant.keeps (c.turn.invariant.none said s tells says h) (omega arith) (c.is_found.ensures.later c.if-is_found.true) c.in_default.ensures.1
+    x tells h.ordered c.turn.invariant.keeps c.turn.best (c.turn.invariant.passes said s tells says h) (omega arith) (c.is_found.ensures.later c.if-is_found.true) c.in_default.ensures.1
     (c.is_found.ensures.holds (content_after said (g.B.Backing.holds c.turn.backing)) x.session x.stands c.if-is_found.true)
 
 pub returns-then-is_found-clause-stands : goal.returns-then-is_found-clause-stands
-returns-then-is_found-clause-stands g c = λ said s n tells says h e.
+returns-then-is_found-clause-stands g c = λ said s n tells says h other e.
     let x = c.turn.invariant.going said s says h in
     let same : c.turn.made ≡ n = cc in
     subst (λ (z : Session). StandsAt (content_after said (g.B.Backing.holds c.turn.backing)) c.turn.machine z) (sym (x.came tells).session ∙ ap (λ (k : ℕ). after k s) same) x.stands
@@ -159,13 +175,19 @@ returns-then-is_found-clause-leaves g c =
 
 pub returns-clause-least : goal.returns-clause-least
 returns-clause-least g c = λ said s tells says h.
-    found_none tally_told (said ≢ None) (content_after said (g.B.Backing.holds c.turn.backing)) c.args.what c.args.places.now c.args.from c.args.most c.turn.made s c.args.machine.now c.turn.machine c.new-paper.result c.turn.paper
-    (c.turn.invariant.going said s says h) tells h.ordered c.turn.invariant.keeps (c.turn.invariant.none said s tells says h) (omega arith)
+    subst (FindsLeast c.args.what c.args.places.now (IsSearched c.args.from c.args.most c.args.machine.now.tasks) s) (sym c.count_of-2.ensures)
+    (found_none tally_told (said ≢ None) (content_after said (g.B.Backing.holds c.turn.backing)) c.args.what c.args.places.now c.args.from c.args.most c.turn.made s c.args.machine.now c.turn.machine c.new-paper.result c.turn.paper
+    (c.turn.invariant.going said s says h) tells h.ordered c.turn.invariant.keeps c.turn.best (c.turn.invariant.passes said s tells says h) c.turn.invariant.few (omega arith))
+
+pub returns-clause-stands : goal.returns-clause-stands
+returns-clause-stands g c = λ said s n tells says h other e.
+    let none : c.turn.best ≡ None = ((c.turn.invariant.passes said s tells says h).noted (none_noted c.args.what c.args.from s)).other other in
+    absurd (none_counted c.turn.best c.count_of-2.result n none c.count_of-2.ensures (let is : c.count_of-2.result ≡ Some n = cc in is))
 
 pub returns-clause-leaves : goal.returns-clause-leaves
 returns-clause-leaves g c =
     let l = c.requires.begins.stands in
-    leaves_here g.B.Backing.holds g.B.Backing.size g.B.Backing.calls g.B.Backing.faults tally_told (l.said ≢ None) (content_after l.said (g.B.Backing.holds c.turn.backing)) c.turn.made l.session None c.args.machine.now c.turn.machine
+    leaves_here g.B.Backing.holds g.B.Backing.size g.B.Backing.calls g.B.Backing.faults tally_told (l.said ≢ None) (content_after l.said (g.B.Backing.holds c.turn.backing)) c.turn.made l.session c.count_of-2.result c.args.machine.now c.turn.machine
     c.args.backing.now c.turn.backing c.new-paper.result c.turn.paper (c.turn.invariant.going l.said l.session l.says l.stands) (says_retold l.said (g.B.Backing.holds c.turn.backing)) c.requires.begins.countable c.turn.invariant.keeps c.turn.invariant.device
 
 pub returns-in-Err-clause-stops : goal.returns-in-Err-clause-stops
@@ -182,7 +204,7 @@ returns-in-Err-clause-stops g c = λ said s stop tells says h e.
       paper' = c.step.new.paper;
       slices = slices;
       none = none_up_to tally_told (said ≢ None) now c.args.what c.args.places.now c.args.from c.args.most c.turn.made s c.args.machine.now c.turn.machine c.new-paper.result c.turn.paper x tells h.ordered c.turn.invariant.keeps
-          (c.turn.invariant.none said s tells says h) then (g.B.Backing.size c.args.backing.now) c.in-Err.stop c.step.new.machine c.step.new.paper slices
+          c.turn.best (c.turn.invariant.passes said s tells says h) then (g.B.Backing.size c.args.backing.now) c.in-Err.stop c.step.new.machine c.step.new.paper slices
           (same_made g a due said s says h c.in-Err.stop c.in-Err.is (fine g a c.in-Err.stop c.in-Err.is))
           (c.is_found.ensures.fails now x.session x.stands c.if-is_found.false);
     })

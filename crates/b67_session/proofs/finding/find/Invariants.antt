@@ -5,8 +5,8 @@ use Rattle.b67_layout_storage.specs.Machine.{Says, DeviceAfterCalls, content_aft
 use Rattle.b67_stack.specs.declared.Step.TheVariants.{Done}
 use Rattle.b67_exec.specs.Near.{StopsHere}
 use Rattle.b67_session.specs.Slices.{StandsAt, Keeps}
+use Rattle.b67_session.specs.Search.{PassesBy}
 use Rattle.b67_session.proofs.Going.{Going}
-use Rattle.b67_session.proofs.FoundLeast.{NoneBefore}
 use Rattle.b67_session.proofs.finding.find.Given as goal
 
 abbrev pub invariant-turn : goal.invariant-turn
@@ -17,8 +17,8 @@ invariant-turn g l = record {
   keeps : Keeps l.initial.machine l.machine;
   going : (told : Option (List (List ℕ))) (s : Session) → Says told (g.B.Backing.holds l.initial.backing) → StandsAt told l.initial.machine s
       → Going tally_told (told ≢ None) (content_after told (g.B.Backing.holds l.backing)) l.made s l.initial.machine l.machine l.initial.paper l.paper;
-  none : (told : Option (List (List ℕ))) (s : Session) → told ≢ None → Says told (g.B.Backing.holds l.initial.backing) → StandsAt told l.initial.machine s
-      → NoneBefore l.what l.places l.from l.made s;
+  passes : (told : Option (List (List ℕ))) (s : Session) → told ≢ None → Says told (g.B.Backing.holds l.initial.backing) → StandsAt told l.initial.machine s
+      → PassesBy l.what l.places l.from 0 l.made s None l.best;
 }
 
 abbrev pub decreases-turn : goal.decreases-turn

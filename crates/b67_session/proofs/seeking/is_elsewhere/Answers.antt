@@ -1,18 +1,22 @@
-use Rattle.std.proofs.Common.{sym, ap, ◌∙◌, subst, arith}
+use Rattle.std.proofs.Common.{subst}
 use Rattle.std.proofs.lemmas.Bool.{not-true}
-use Rattle.b67_lemmas.specs.Lists.{Has}
-use Rattle.b67_lemmas.proofs.Places.{get_within}
-use Rattle.b67_task_tables.specs.declared.tables.TaskRow.{TaskRow}
-use Rattle.b67_task_switch.proofs.Turns.{seen_row}
-use Rattle.b67_session.proofs.Standing.{code_place, elsewhere}
+use Rattle.b67_session.specs.declared.seeking.Sought.{Sought}
+use Rattle.b67_session.specs.Search.{IsSought}
+use Rattle.b67_session.proofs.Standing.{place_elsewhere, no_switch, within_elsewhere}
 use Rattle.b67_session.proofs.seeking.is_elsewhere.Goals as goal
 
-pub returns : goal.returns
-returns c = λ e said s m t n h last has.
-    let k = c.args.machine.now in
-    let inside = c.len.ensures.value in
-    let (r, at) = get_within k.tasks.rows.items k.tasks.running (omega (arith, inside, c.if-running-len.false)) in
-    let seen = seen_row k.tasks.rows.items c.deref.result.now k.tasks.running r _ c.deref.ensures.0 at in
-    let there = elsewhere said k s m t n h r at (sym (ap (λ (z : TaskRow). z.job) seen) ∙ c.if-row-tasks.false) (sym (ap (λ (z : TaskRow). z.number) seen) ∙ c.if-row-tasks-2.false) last in
+pub returns-in-Place : goal.returns-in-Place
+returns-in-Place c = λ e said s m t n h last runs is.
     c.is_among.ensures.fails (not-true c.is_among.result e)
-    (subst (Has c.args.places.now) (sym (ap (λ (z : TaskRow). code_place z.job k.cpu.regs.segment k.cpu.regs.place) seen ∙ there)) has)
+    (place_elsewhere said c.args.machine.now s m t n h last runs c.args.places.now (subst (λ (what : Sought). IsSought what c.args.places.now s) c.in-Place.is is))
+
+pub returns-in-Switch : goal.returns-in-Switch
+returns-in-Switch c = λ e said s m t n h last runs is. no_switch said c.args.machine.now s m t n h last runs c.args.places.now (subst (λ (what : Sought). IsSought what c.args.places.now s) c.in-Switch.is is)
+
+pub returns-in-Within : goal.returns-in-Within
+returns-in-Within c = λ e said s m t n h last runs is.
+    let w = within_elsewhere said c.args.machine.now s m t n h last runs c.args.places.now c.in-Within.job c.in-Within.number c.in-Within.height (subst (λ (what : Sought). IsSought what c.args.places.now s) c.in-Within.is is) in
+    c.is_last_within.ensures (not-true c.is_last_within.result e) w.0 w.1 w.2
+
+pub returns-in-Deepest : goal.returns-in-Deepest
+returns-in-Deepest c = λ e said s m t n h last runs is. subst (λ (what : Sought). IsSought what c.args.places.now s) c.in-Deepest.is is

@@ -4,7 +4,7 @@ use Rattle.b67_task_tables.specs.Tables.{given_of}
 use Rattle.b67_task_tables.proofs.Keeping.{rows_put, given_put}
 use Rattle.b67_task_switch.specs.Counted.{TurnHasRoom, row_more}
 use Rattle.b67_session.proofs.Begins.{why_here}
-use Rattle.b67_session.proofs.Turning.{turn_begins, turn_fits, turn_goes_on, turn_rests, turn_runs}
+use Rattle.b67_session.proofs.Turning.{turn_begins, turn_fits, turn_goes_on, turn_of_one, turn_rests, turn_runs}
 use Rattle.b67_session.proofs.turns.go_on_with_turn.Goals as goal
 
 pub returns-then-room-eq0-clause-row : goal.returns-then-room-eq0-clause-row
@@ -80,3 +80,11 @@ returns-clause-counts c =
       turn = ap (λ (z : Tasks). z.turn) c.count_turn.ensures.rest ∙ ap (λ (z : Tasks). z.turn + c.make_in_turn-made.result) c.make_in_turn-made.ensures.tables;
       all = λ e. c.make_in_turn-made.ensures.why.all (omega (arith, e, few, made));
     }
+
+pub returns-then-room-eq0-clause-lasts : goal.returns-then-room-eq0-clause-lasts
+returns-then-room-eq0-clause-lasts c = λ said s h some. absurd (omega (arith, some))
+
+pub returns-clause-lasts : goal.returns-clause-lasts
+returns-clause-lasts c = λ said s h some.
+    let few = c.make_in_turn-made.ensures.few in
+    turn_of_one h.plan s c.turn_room-room.result (omega (arith, some, few)) (c.turn_room-room.ensures.lasts h.plan s h.ordered h.stands.tables (omega (arith, some, few)))

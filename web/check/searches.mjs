@@ -1,0 +1,69 @@
+// The page's module: states from marks and searches by one run, against the same from the start and state by state: node searches.mjs PAGE
+// DECKS, called by scripts/check-web.sh.
+//
+// Of each deck that is run: at some counts the whole image, its sectors and its lines, by `step` and by `image`; and each kind of search from
+// some moments, by `find` and by a look at each state. Prints each difference, and at last `N the same, M different`.
+import fs from 'node:fs';
+import path from 'node:path';
+import {isDeepStrictEqual} from 'node:util';
+import {Machine} from '../machine.js';
+import {Marks} from '../marks.js';
+import {Program} from '../program.js';
+import {Search} from '../search.js';
+import {moduleOf} from './module.mjs';
+
+const [page, folder, ...only] = process.argv.slice(2);
+const [LONG, SEARCHED, STEPPED] = [100000, 500, 40]; // operators of a long run, and of one that is searched; counts that are stepped to
+let same = 0, different = 0;
+
+function wants(holds, what) {
+  if (holds) return void same++;
+  different++;
+  console.log(what);
+}
+
+// The counts of a run at which it is looked at: spread over it, back and forth.
+function countsOf(end) {
+  const spread = Array.from({length: STEPPED}, (_, k) => 1 + Math.floor(end * ((k * 7) % STEPPED) / STEPPED));
+  return [...new Set([...spread, end - 1, end, end + 5])].filter(count => count > 0);
+}
+
+function steps(name, marked, plain, end) {
+  for (const count of countsOf(end)) {
+    const one = marked.at(count), other = plain.at(count);
+    wants(['status', 'image', 'sectors', 'lines'].every(it => isDeepStrictEqual(one[it], other[it])), `${name}: at ${count} a state from a mark is another one`);
+  }
+}
+
+// The breakpoints that are tried: a card that is made often, and two.
+function stopsOf(search, end) {
+  const cards = [1, end >> 1, end].map(count => search.brief(Math.max(1, count)).card);
+  return [[cards[1]], [cards[0], cards[2]], ['no card']];
+}
+
+function searches(name, one, other, end) {
+  const asked = [...stopsOf(other, end).map(stops => ['stopped', stops]), ['task', []], ['over', []], ['out', []], ['deepest', []]];
+  for (const [kind, what] of asked) for (const from of [0, end >> 2, end >> 1, end - 1]) for (const way of kind === 'deepest' ? [1] : [1, -1]) {
+    const [found, wanted] = [one, other].map(search => search.find(kind, from, way, what));
+    wants(found === wanted, `${name}: ${kind} ${what} from ${from}, way ${way}, leads to ${found}, state by state to ${wanted}`);
+  }
+}
+
+const program = new Program(moduleOf(page));
+if (!program.finds || !program.steps) {
+  console.log('the page has a module without b67_web_find and b67_web_step');
+  process.exit(2);
+}
+const bare = Object.assign(Object.create(program), {finds: false, steps: false});
+for (const name of fs.readdirSync(folder).sort()) {
+  const args = path.join(folder, name, 'args'), words = fs.existsSync(args) ? fs.readFileSync(args, 'latin1').split('\n') : [];
+  if (words[0] !== 'run' || only.length && !only.includes(name)) continue;
+  const text = fs.readFileSync(path.join(folder, name, 'stdin'), 'latin1'), core = Number(words[2]);
+  const [marked, plain] = [program, bare].map(it => new Machine(it, text, core, false));
+  const end = plain.endWithin(LONG) ?? LONG;
+  marked.marks = new Marks(Math.max(2, end >> 4), 1);
+  steps(name, marked, plain, end);
+  if (end <= SEARCHED) searches(name, new Search(marked, () => {}), new Search(plain, () => {}), end);
+}
+console.log(`${same} the same, ${different} different`);
+process.exitCode = different ? 1 : 0;
