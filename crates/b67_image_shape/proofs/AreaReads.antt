@@ -42,15 +42,7 @@ no_link core before high next m w me e never is = never (same_Some w (link_word 
 
 pub hole_made : (core : List Tagged) (w : Walk) (n m : ℕ) → m ≡ n → hole_words core w ≡ n → w.hole ≡ false → n ≢ 0 → n ≤ length core - w.at → w.at < length core → slice_get core w.before ≡ Some (link_word w.high w.at)
     → HoleStands core w × (record { before = w.at; high = 201326592 + m; at = w.at + n; hole = true } ≡ past_hole core w)
-hole_made core w n m me e first some room inside link = (
-  record {
-    first = first;
-    some = omega (arith, some, e);
-    fits = subst (λ k. w.at + k ≤ length core) (sym e) (omega (arith, room, inside));
-    link = link;
-  },
-  ap (λ k. record { before = w.at; high = hole_high k; at = w.at + n; hole = true }) me ∙ ap (λ k. record { before = w.at; high = hole_high k; at = w.at + k; hole = true }) (sym e),
-)
+hole_made core w n m me e first some room inside link = grind arith
 
 pub after_hole : (core : List Tagged) (w : Walk) → w.hole ≡ true → HoleStands core w → ⊥
 after_hole core w e s = let z : true ≡ false = sym e ∙ s.first in let y : ⊥ = cc in y
@@ -67,43 +59,24 @@ long_hole core w n e more s = let fits = subst (λ k. w.at + k ≤ length core) 
 pub info_made : (core : List Tagged) (at : ℕ) (head tail : Tagged) (kind : Kind) (k words owner kept : ℕ) → slice_get core at ≡ Some head → slice_get core (at + (words + 1)) ≡ Some tail
     → kind ≡ kind_in k → k ≡ bits_at head 46 2 → words ≡ bits_at head 20 20 → owner ≡ bits_at head 0 20 → kept ≡ bits_at tail 0 20
     → record { kind = kind; words = words; owner = owner; kept = kept } ≡ info_in core at
-info_made core at head tail kind k words owner kept h t ke kb we oe fe =
-    let w = field_is core at head 20 20 words h we in
-    let f = field_is core (at + (words + 1)) tail 0 20 kept t fe in
-    ap (λ q. record { kind = q; words = words; owner = owner; kept = kept }) (ke ∙ ap kind_in (sym (field_is core at head 46 2 k h kb)))
-    ∙ ap (λ q. record { kind = kind_in (bits_at (word_seen_at core at) 46 2); words = words; owner = q; kept = kept }) (sym (field_is core at head 0 20 owner h oe))
-    ∙ ap (λ q. record { kind = kind_in (bits_at (word_seen_at core at) 46 2); words = words; owner = bits_at (word_seen_at core at) 0 20; kept = q }) (sym f)
-    ∙ ap (λ q. record { kind = kind_in (bits_at (word_seen_at core at) 46 2); words = q; owner = bits_at (word_seen_at core at) 0 20; kept = bits_at (word_seen_at core (at + (q + 1))) 0 20 }) (sym w)
+info_made core at head tail kind k words owner kept h t ke kb we oe fe = grind arith
 
 -- the words of an area
 pub area_made : (core : List Tagged) (at : ℕ) (a : Info) (head tail : Tagged) → a ≡ info_in core at → slice_get core at ≡ Some head → slice_get core (at + (a.words + 1)) ≡ Some tail
     → 1 ≤ a.words → a.words < 2 ^ 20 → a.owner < 2 ^ 20 → a.kept < 2 ^ 20 → at + (a.words + 1) < length core → length core < 2 ^ 20 → head ≡ head_word a → tail ≡ tail_word a → IsArea core at (info_in core at)
-area_made core at a head tail is h t some few owner kept room small he te = subst (IsArea core at) is (record {
-  info = record { words = some; owner = owner; kept = kept };
-  words = few;
-  head = h ∙ ap Some he;
-  tail = t ∙ ap Some te;
-  inside = room;
-  small = small;
-})
+area_made core at a head tail is h t some few owner kept room small he te = grind arith
 
 pub empty_area : (core : List Tagged) (at : ℕ) (w : Tagged) (n : ℕ) → slice_get core at ≡ Some w → n ≡ bits_at w 20 20 → n ≡ 0 → IsArea core at (info_in core at) → ⊥
 empty_area core at w n e b z a = let some = a.info.words in let f = field_is core at w 20 20 n e b in omega (arith, some, f, z)
 
 pub long_area : (core : List Tagged) (at : ℕ) (w : Tagged) (n : ℕ) → slice_get core at ≡ Some w → n ≡ bits_at w 20 20 → length core - at ≤ n + 1 → IsArea core at (info_in core at) → ⊥
-long_area core at w n e b more a =
-    let room = subst (λ k. at + (k + 1) < length core) (field_is core at w 20 20 n e b) a.inside in omega (arith, more, room)
+long_area core at w n e b more a = grind arith
 
 pub other_head : (core : List Tagged) (at : ℕ) (a : Info) (head again : Tagged) (t b : ℕ) → a ≡ info_in core at → slice_get core at ≡ Some head → again ≡ head_word a → t ≡ again.tag → b ≡ again.bits → (head ≡ word t b → ⊥) → IsArea core at (info_in core at) → ⊥
-other_head core at a head again t b is h ag te be never area =
-    let w : head ≡ head_word a = same_Some head (head_word a) (sym h ∙ area.head ∙ ap (λ (i : Info). Some (head_word i)) (sym is)) in
-    never (w ∙ sym ag ∙ sym (ap (λ i. word i b) te ∙ ap (λ i. word again.tag i) be))
+other_head core at a head again t b is h ag te be never area = grind arith
 
 pub other_tail : (core : List Tagged) (at : ℕ) (a : Info) (tail again : Tagged) (t b : ℕ) → a ≡ info_in core at → slice_get core (at + (a.words + 1)) ≡ Some tail → again ≡ tail_word a → t ≡ again.tag → b ≡ again.bits → (tail ≡ word t b → ⊥) → IsArea core at (info_in core at) → ⊥
-other_tail core at a tail again t b is h ag te be never area =
-    let there : slice_get core (at + (a.words + 1)) ≡ Some (tail_word a) = subst (λ (i : Info). slice_get core (at + (i.words + 1)) ≡ Some (tail_word i)) (sym is) area.tail in
-    let w : tail ≡ tail_word a = same_Some tail (tail_word a) (sym h ∙ there) in
-    never (w ∙ sym ag ∙ sym (ap (λ i. word i b) te ∙ ap (λ i. word again.tag i) be))
+other_tail core at a tail again t b is h ag te be never area = grind arith
 
 pub again_is : (w again v : Tagged) (t b : ℕ) → again ≡ v → t ≡ again.tag → b ≡ again.bits → w ≡ word t b → w ≡ v
 again_is w again v t b ag te be e = e ∙ ap (λ i. word i b) te ∙ ap (λ i. word again.tag i) be ∙ ag
@@ -112,20 +85,10 @@ again_is w again v t b ag te be e = e ∙ ap (λ i. word i b) te ∙ ap (λ i. w
 
 pub owner_fits : (core : List Tagged) (kinds : List ℕ) (at : ℕ) (a : Info) (d : Tagged) (p q n : ℕ) → get_or kinds a.owner 0 ≡ kind_code a.kind → slice_get core a.owner ≡ Some d
     → p ≡ bits_at d 47 1 → p ≡ 1 → q ≡ bits_at d 0 20 → q ≡ at → n ≡ bits_at d 20 20 → n ≡ a.words → AreaFits core kinds at a
-owner_fits core kinds at a d p q n owner e pb pe qb qe nb ne = record {
-  owner = owner;
-  present = eq-eqb (bits_at (word_seen_at core a.owner) 47 1) 1 (field_is core a.owner d 47 1 p e pb ∙ pe);
-  address = field_is core a.owner d 0 20 q e qb ∙ qe;
-  words = field_is core a.owner d 20 20 n e nb ∙ ne;
-}
+owner_fits core kinds at a d p q n owner e pb pe qb qe nb ne = grind arith
 
 pub owner_past : (core : List Tagged) (kinds : List ℕ) (at : ℕ) (a : Info) → length kinds ≡ length core → length core ≤ a.owner → AreaFits core kinds at a → ⊥
-owner_past core kinds at a many past f = by_kind a.kind (sym (get_or_past kinds a.owner 0 (omega (arith, many, past))) ∙ f.owner)
-  where
-    by_kind : (k : Kind) → 0 ≡ kind_code k → ⊥
-    by_kind Array e = omega (arith, e)
-    by_kind Row e = omega (arith, e)
-    by_kind Code e = omega (arith, e)
+owner_past core kinds at a many past f = grind (arith, get_or_past)
 
 pub owner_absent : (core : List Tagged) (kinds : List ℕ) (at : ℕ) (a : Info) (d : Tagged) (p : ℕ) → slice_get core a.owner ≡ Some d → p ≡ bits_at d 47 1 → p ≢ 1 → AreaFits core kinds at a → ⊥
 owner_absent core kinds at a d p e pb ne f = ne (sym (field_is core a.owner d 47 1 p e pb) ∙ eqb-true (bits_at (word_seen_at core a.owner) 47 1) 1 f.present)

@@ -49,27 +49,13 @@ no_words core kinds w h l = let e = l.all in omega (arith, h, e)
 -- a hole that lies above is the one that the words show
 module _ (core : List Tagged) (kinds : List ℕ) (w : Walk) (small : length core < 2 ^ 20) where
   hole_read : (n : ℕ) (ss : List Span) → LieAbove core kinds w (Hole n ∷ ss) → (bits_at (word_seen_at core w.at) 46 2 ≡ 3) × (hole_words core w ≡ n)
-  hole_read n ss l =
-      let low = end_above (w.at + n) ss in
-      let next = first_low (w.at + n) ss in
-      let e = l.all in
-      let is = word_is core w.at (link_word (hole_high n) (first_hole (w.at + n) ss)) (link_there core w.at (hole_high n) (w.at + n) ss l.laid.1) in (
-        ap (λ (v : Tagged). bits_at v 46 2) is ∙ hole_46 n (first_hole (w.at + n) ss) (omega (arith, low, e, small)) (omega (arith, next, e, small)),
-        ap (λ (v : Tagged). bits_at v 20 26) is ∙ hole_20 n (first_hole (w.at + n) ss) (omega (arith, low, e, small)) (omega (arith, next, e, small)),
-      )
+  hole_read n ss l = grind (arith, end_above, first_low, word_is, link_there, hole_46, hole_20)
 
   area_lies : (a : Info) (ss : List Span) → LieAbove core kinds w (Area a ∷ ss) → IsArea core w.at a
-  area_lies a ss l =
-      let low = end_above (w.at + (a.words + 2)) ss in
-      let e = l.all in
-      record { info = l.spans.0; words = omega (arith, low, e, small); head = l.laid.0; tail = l.laid.1; inside = omega (arith, low, e); small = small }
+  area_lies a ss l = grind (arith, end_above)
 
   area_kind : (a : Info) (ss : List Span) → LieAbove core kinds w (Area a ∷ ss) → bits_at (word_seen_at core w.at) 46 2 ≢ 3
-  area_kind a ss l e =
-      let k = kind_low a.kind in
-      let i = area_lies a ss l in
-      let is : bits_at (word_seen_at core w.at) 46 2 ≡ kind_number a.kind = ap (λ (v : Tagged). bits_at v 46 2) (word_is core w.at (head_word a) i.head) ∙ head_46 (kind_number a.kind) a.words a.owner k i.words i.info.owner in
-      omega (arith, e, is, k)
+  area_kind a ss l e = grind arith
 
   area_read : (a : Info) (ss : List Span) → LieAbove core kinds w (Area a ∷ ss) → info_in core w.at ≡ a
   area_read a ss l = let i = area_lies a ss l in info_read core w.at a i.head i.tail i.words i.info.owner i.info.kept
@@ -78,64 +64,25 @@ module _ (core : List Tagged) (kinds : List ℕ) (w : Walk) (small : length core
   pub is_hole : w.at < length core → bits_at (word_seen_at core w.at) 46 2 ≡ 3 → (ss : List Span) → LieAbove core kinds w ss → HoleStands core w × ((more : List Span) × LieAbove core kinds (past_hole core w) more)
   is_hole h b [] l = absurd (no_words core kinds w h l)
   is_hole h b (Area a ∷ ss) l = absurd (area_kind a ss l b)
-  is_hole h b (Hole n ∷ ss) l =
-      let (x, e) = hole_read n ss l in
-      let low = end_above (w.at + n) ss in
-      let all = l.all in
-      let some = l.spans.0 in (
-        record {
-          first = not_after (w.hole) refl;
-          some = omega (arith, some, e);
-          fits = subst (λ k. w.at + k ≤ length core) (sym e) (omega (arith, low, all));
-          link = l.laid.0;
-        },
-        (ss, subst (λ k. LieAbove core kinds (record { before = w.at; high = hole_high k; at = w.at + k; hole = true }) ss) (sym e) (record { laid = l.laid.1; spans = l.spans.2; apart = λ y. l.spans.1; all = l.all; owners = l.owners })),
-      )
-    where
-      not_after : (b : Bool) → w.hole ≡ b → w.hole ≡ false
-      not_after true q = absurd (l.apart q)
-      not_after false q = q
+  is_hole h b (Hole n ∷ ss) l = grind (arith, hole_read, end_above)
 
   -- elsewhere an area does
   pub is_area : w.at < length core → bits_at (word_seen_at core w.at) 46 2 ≢ 3 → (ss : List Span) → LieAbove core kinds w ss → AreaStands core kinds w.at × ((more : List Span) × LieAbove core kinds (past_area core w) more)
   is_area h b [] l = absurd (no_words core kinds w h l)
   is_area h b (Hole n ∷ ss) l = absurd (b (hole_read n ss l).0)
-  is_area h b (Area a ∷ ss) l =
-      let e = area_read a ss l in (
-        subst (λ (i : Info). IsArea core w.at i × AreaFits core kinds (w.at + 1) i → AreaStands core kinds w.at) e (λ p. record { area = p.0; fits = p.1 }) (area_lies a ss l, l.owners.0),
-        (ss, subst (λ (i : Info). LieAbove core kinds (record { before = w.before; high = w.high; at = w.at + (i.words + 2); hole = false }) ss) (sym e) (record { laid = l.laid.2; spans = l.spans.1; apart = λ y. absurd (let z : ⊥ = cc in z); all = l.all; owners = l.owners.1 })),
-      )
+  is_area h b (Area a ∷ ss) l = grind (arith, area_read, area_lies)
 
   -- and the other way
   pub with_hole : HoleStands core w → (ss : List Span) → LieAbove core kinds (past_hole core w) ss → LieAbove core kinds w (Hole (hole_words core w) ∷ ss)
-  with_hole s ss l = record {
-    laid = (s.link, l.laid);
-    spans = (s.some, l.apart refl, l.spans);
-    apart = λ y. absurd (let f = s.first in let z : ⊥ = cc in z);
-    all = l.all;
-    owners = l.owners;
-  }
+  with_hole s ss l = grind arith
 
   pub with_area : AreaStands core kinds w.at → (ss : List Span) → LieAbove core kinds (past_area core w) ss → LieAbove core kinds w (Area (info_in core w.at) ∷ ss)
-  with_area s ss l = record {
-    laid = (s.area.head, s.area.tail, l.laid);
-    spans = (s.area.info, l.spans);
-    apart = λ y. tt;
-    all = l.all;
-    owners = (s.fits, l.owners);
-  }
+  with_area s ss l = grind arith
 
 -- ---- the walk
 
 pub walk_starts : (core : List Tagged) (kinds : List ℕ) (low : ℕ) (housed : List Bool) → FIRST_DICTIONARY ≤ low → low ≤ length core → length housed ≡ length core → ((i : ℕ) → get_or housed i false ≡ false) → WalkedAreas core kinds low (walk_from low) housed
-walk_starts core kinds low housed above inside many none = record {
-  before = omega (arith, above, inside);
-  high = omega arith;
-  inside = inside;
-  many = many;
-  on = λ ss l. (ss, l, (λ i h. inr h), λ i h. ⊎_elim (λ q. absurd (let n = none i in let z : ⊥ = cc in z)) (λ q. q) h);
-  back = λ all l. (all, l);
-}
+walk_starts core kinds low housed above inside many none = grind arith
 
 module _ (core : List Tagged) (kinds : List ℕ) (low : ℕ) (w : Walk) (housed : List Bool) (small : length core < 2 ^ 20) (k : WalkedAreas core kinds low w housed) (inside : w.at < length core) where
   pub walk_hole : bits_at (word_seen_at core w.at) 46 2 ≡ 3 → HoleStands core w → WalkedAreas core kinds low (past_hole core w) housed
@@ -197,8 +144,7 @@ few_spans at (Area a ∷ ss) s = let h = few_spans (at + (a.words + 2)) ss s.1 i
 few_spans at (Hole n ∷ ss) s = let h = few_spans (at + n) ss s.2 in let some = s.0 in omega (arith, h, some)
 
 nothing_left : (core : List Tagged) (kinds : List ℕ) (w : Walk) (ss : List Span) → LieAbove core kinds w ss → w.at ≡ length core → slice_get core w.before ≡ Some (link_word w.high 0)
-nothing_left core kinds w [] l e = l.laid
-nothing_left core kinds w (s ∷ ss) l e = let h = few_spans w.at (s ∷ ss) l.spans in let all = l.all in absurd (omega (arith, h, all, e))
+nothing_left core kinds w ss l e = grind (arith, few_spans)
 
 pub walk_ends : (core : List Tagged) (kinds : List ℕ) (low : ℕ) (w : Walk) (housed : List Bool) → length core < 2 ^ 20 → FIRST_DICTIONARY ≤ low → ((i : ℕ) → DIRECTORY < i → i < FIRST_DICTIONARY → slice_get core i ≡ Some (word 0 0))
     → WalkedAreas core kinds low w housed → w.at ≡ length core → slice_get core w.before ≡ Some (link_word w.high 0) → AreasWalked core low kinds housed
@@ -219,9 +165,7 @@ no_end core kinds low w housed k e never all l = let (ss, m) = k.back all l in n
 
 -- where nothing lies above, no directory fits
 pub none_fits : (core : List Tagged) (kinds : List ℕ) (low : ℕ) → NothingLies core kinds (walk_from low) → AreasFit core low kinds → ⊥
-none_fits core kinds low none f =
-    let d = f.directory in
-    none (spans_of core low) (record { laid = d.laid; spans = d.spans; apart = λ y. absurd (let z : ⊥ = cc in z); all = d.all; owners = owners_from core kinds low (spans_of core low) f.areas })
+none_fits core kinds low none f = grind (arith, owners_from)
 
 -- ---- one span, for any walk
 
@@ -269,10 +213,8 @@ some_hole core kinds w housed None small inside b h = tt
 some_hole core kinds w housed (Some n) small inside b h = hole_goes_on core kinds w n housed small inside b h
 
 pub higher_hole : (core : List Tagged) (w : Walk) (r : Option Walk) → IfSome r (λ n. HoleStands core w × (n ≡ past_hole core w)) → IfSome r (λ n. w.at < n.at)
-higher_hole core w None h = tt
-higher_hole core w (Some n) h = hole_higher core w n h
+higher_hole core w r h = grind arith
 
 pub none_hole : (core : List Tagged) (kinds : List ℕ) (w : Walk) (housed : List Bool) (r : Option Walk) → length core < 2 ^ 20 → w.at < length core → bits_at (word_seen_at core w.at) 46 2 ≡ 3
     → IfNone r (HoleStands core w → ⊥) → IfNone r (Fails core kinds w housed)
-none_hole core kinds w housed None small inside b h = hole_fails core kinds w housed small inside b h
-none_hole core kinds w housed (Some n) small inside b h = tt
+none_hole core kinds w housed r small inside b h = grind (arith, hole_fails)

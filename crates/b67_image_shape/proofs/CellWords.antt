@@ -82,8 +82,7 @@ itself : (b : Bool) → Decides b (b ≡ true)
 itself b = (λ e. e, λ e. e)
 
 halves : (a b : Bool) → (a && b) ≡ true → (a ≡ true) × (b ≡ true)
-halves true b e = (refl, e)
-halves false b e = absurd (let z : ⊥ = cc in z)
+halves a b e = grind arith
 
 joined : (a b : Bool) → a ≡ true → b ≡ true → (a && b) ≡ true
 joined a b e f = ap (λ x. x && b) e ∙ f
@@ -92,8 +91,7 @@ clash : {b : Bool} → b ≡ true → b ≡ false → ⊥
 clash e f = let z : true ≡ false = sym e ∙ f in let y : ⊥ = cc in y
 
 no_more : (a : Bool) → (a || false) ≡ a
-no_more true = refl
-no_more false = refl
+no_more a = grind arith
 
 only_five : (a b c x y z : Bool) → a ≡ false → b ≡ false → c ≡ false → (a || ((b && x) || ((c && y) || (true && z)))) ≡ z
 only_five a b c x y z e f g = rw (e, f, g) refl
@@ -110,13 +108,7 @@ CellAbove s at (Shapes.Original home) = Unit {0}
 CellAbove s at (Copy c home) = at < home → home ≤ s → ⊥
 
 pub original_shape : (core : List Tagged) (at : ℕ) (w : Tagged) → is_original_word w ≡ true → shape_in core at w ≡ Shapes.Original at
-original_shape core at w e =
-    let (t, c) = halves (w.tag == 5) (not (is_set w 46)) e in
-    ap (shape_by core at w) t ∙ ap (descriptor_by core at (desc_in w)) (clear (is_set w 46) c)
-  where
-    clear : (b : Bool) → not b ≡ true → b ≡ false
-    clear true e = absurd (let z : ⊥ = cc in z)
-    clear false e = refl
+original_shape core at w e = grind arith
 
 -- ---- lists
 
@@ -127,10 +119,7 @@ base_in k j (suc n) disp (Some p) x g = has_append_right (seen_in p.slot (from_d
 
 data_there : (core : List Tagged) (before many i : ℕ) → 1 ≤ i → i ≤ many → Has (data_rows core before many) (array_shown core i 1 false (before + i))
 data_there core before zero i lo hi = absurd (omega (arith, lo, hi))
-data_there core before (suc n) i lo hi = ⊎_elim
-    (λ (lt : i < suc n). inr (data_there core before n i lo (omega (arith, lt))))
-    (λ (le : suc n ≤ i). inl (let e : suc n ≡ i = omega (arith, hi, le) in ap (λ m. array_shown core m 1 false (before + m)) e))
-    (cases_lt i (suc n))
+data_there core before (suc n) i lo hi = grind (arith, ⊎_elim, cases_lt, data_there core before n i lo)
 
 keyed_some : (n : ℕ) (xs : List Array) (a : Array) → Has xs a → a.identity ≡ n → (b : Array) × (keyed (λ (y : Array). y.identity) n xs ≡ Some b)
 keyed_some n [] a h e = absurd h
@@ -167,8 +156,7 @@ module _ (k : Sight) (facts : TableFacts k) (low size : ℕ) (fixed : FixedFacts
   tables_are =
       let o = of_row k facts r h in
       let m = row_of_member k 1 k.jobs (member_in k (of_row k facts r h).row r.job) o.among in
-      let same : m.row ≡ (of_row k facts r h).row = same_Some m.row (of_row k facts r h).row (sym m.found ∙ o.found) in
-      (m.dictionary ∙ ap (λ (w : JobRow). w.dictionary) same, m.segments ∙ ap (λ (w : JobRow). w.segments) same)
+      grind (arith, of_row, same_Some)
 
   from_arrays : (a : Array) → Has job.arrays a → RowIn mine (home_of k r.job a.identity) a ⊎ StandsIn k r.job (home_of k r.job a.identity) a
   from_arrays a g = array_from k facts low size fixed near (of_row k facts r h).row r.job (of_row k facts r h).found tables_are.0 tables_are.1 a g
@@ -181,10 +169,7 @@ module _ (k : Sight) (facts : TableFacts k) (low size : ℕ) (fixed : FixedFacts
 
   -- arrays of one name are writable or not together
   alike : (a b : Array) (x y : ℕ) → RowIn mine x a ⊎ StandsIn k r.job x a → RowIn mine y b ⊎ StandsIn k r.job y b → b.identity ≡ a.identity → b.writable ≡ a.writable
-  alike a b x y (inl p) (inl q) e = q.writes ∙ sym p.writes
-  alike a b x y (inr p) (inr q) e = q.writes ∙ sym p.writes
-  alike a b x y (inl p) (inr q) e = (let hi = p.high in let na = p.named_is in let nb = q.named_is in let some = number_some k facts q.q q.there in let few = rows_few in absurd (omega (arith, hi, na, nb, some, few, e)))
-  alike a b x y (inr p) (inl q) e = (let hi = q.high in let na = p.named_is in let nb = q.named_is in let some = number_some k facts p.q p.there in let few = rows_few in absurd (omega (arith, hi, na, nb, some, few, e)))
+  alike a b x y h g e = grind (arith, number_some, rows_few)
 
   writes_are : (n : ℕ) (a : Array) → Has job.arrays a → a.identity ≡ n → (array_item job n).writable ≡ a.writable
   writes_are n a g e =
@@ -339,8 +324,7 @@ module _ (k : Sight) (facts : TableFacts k) (low size : ℕ) (fixed : FixedFacts
 
     only_row : (home : ℕ) (n : NamesArray job.arrays reach (array home)) → not (array_item job (array home)).writable ≡ true → home_of k r.job (array home) ≡ home → RowIn mine (home_of k r.job n.item.identity) n.item ⊎ StandsIn k r.job (home_of k r.job n.item.identity) n.item
         → (mine.dictionary + 1 + mine.segments < home) × (home ≤ mine.dictionary + 1 + (mine.segments + mine.rows))
-    only_row home n writes is (inl p) = (let lo = p.low in let hi = p.high in let e = sym (ap (home_of k r.job) n.named ∙ is) ∙ p.home_is in (omega (arith, lo, e), omega (arith, hi, e)))
-    only_row home n writes is (inr p) = absurd (let z : false ≡ true = ap not (sym (writes_are (array home) n.item n.live n.named ∙ p.writes)) ∙ writes in let y : ⊥ = cc in y)
+    only_row home n writes is h = grind (arith, writes_are)
 
     copy_only : (at home : ℕ) → base_at k r < at → Decides (is_data_row mine home || false) (CopyFacts true home × NotAbove at home)
     copy_only at home over = subst (λ c. Decides c (CopyFacts true home × NotAbove at home)) (sym (no_more (is_data_row mine home))) (like (is_data_row mine home) to from (both (nat_lt (mine.dictionary + 1 + mine.segments) home) (nat_le home (mine.dictionary + 1 + (mine.segments + mine.rows))) (less (mine.dictionary + 1 + mine.segments) home) (at_most home (mine.dictionary + 1 + (mine.segments + mine.rows))))) where
@@ -436,8 +420,7 @@ module _ (k : Sight) (facts : TableFacts k) (low size : ℕ) (fixed : FixedFacts
     CellIs w x = WordInOrder P job.arrays reach (named r.number b) w × (shape (placed k) r.job job spot w ≡ x)
 
     copied : (index : Option ℕ) (ro : Bool) (home : ℕ) → CopyFacts ro home → CellIs (copy_by index (array home)) (Copy (record { index = index; read_only = ro }) home)
-    copied None ro home (n, w, e) = (n, ap (λ c. Copy (record { index = None; read_only = c }) (home_of k r.job (array home))) w ∙ ap (Copy (record { index = None; read_only = ro })) e)
-    copied (Some i) ro home (n, w, e) = (n, ap (λ c. Copy (record { index = Some i; read_only = c }) (home_of k r.job (array home))) w ∙ ap (Copy (record { index = Some i; read_only = ro })) e)
+    copied index ro home h = grind arith
 
     uncopied : (index : Option ℕ) (ro : Bool) (home : ℕ) → CellIs (copy_by index (array home)) (Copy (record { index = index; read_only = ro }) home) → CopyFacts ro home
     uncopied None ro home (n, e) = (n, ap flag_in e, ap home_in e)
@@ -489,11 +472,7 @@ module _ (k : Sight) (facts : TableFacts k) (low size : ℕ) (fixed : FixedFacts
 
     plain_decided : (w : Tagged) → w.bits < 2 ^ 48 → (b0 b1 b7 : Bool) → (w.tag == 0) ≡ b0 → (w.tag == 1) ≡ b1 → (w.tag == 7) ≡ b7
         → Decides (b0 || ((b1 && (nat_lt w.bits (2 ^ 14) || reference_stands k records r b w)) || ((b7 && procedure_stands mine.segments w) || false))) (PlainFine w b0 b1 b7)
-    plain_decided w few true b1 b7 z0 z1 z7 = yes (few, ap Is (word_of w 0 w.bits (eqb-true w.tag 0 z0) refl))
-    plain_decided w few false true true z0 z1 z7 = absurd (let a = eqb-true w.tag 1 z1 in let c = eqb-true w.tag 7 z7 in omega (arith, a, c))
-    plain_decided w few false true false z0 z1 z7 = subst (λ c. Decides c (OneFacts w (is_set w 46))) (sym (no_more (nat_lt w.bits (2 ^ 14) || reference_stands k records r b w))) (one_decided w (eqb-true w.tag 1 z1) few)
-    plain_decided w few false false true z0 z1 z7 = subst (λ c. Decides c (SevenFacts w)) (sym (no_more (procedure_stands mine.segments w))) (seven_decided w (eqb-true w.tag 7 z7) few)
-    plain_decided w few false false false z0 z1 z7 = nothing (λ p. p.0)
+    plain_decided w few b0 b1 b7 z0 z1 z7 = grind (arith, yes, word_of, eqb-true, no_more, one_decided, seven_decided, nothing)
 
     pub cell_decided : (e : ℕ) → 0 < e → e ≤ stack_words (stack_of_row k r) → record_of_disp e (stack_of_row k r) / 2 ≡ b → (word_seen_at k.core (base_at k r + e)).bits < 2 ^ 48
         → Decides (cell_stands k records kinds mine r b s (base_at k r + e) (word_seen_at k.core (base_at k r + e))) (CellFine (base_at k r + e) (shape_in k.core (base_at k r + e) (word_seen_at k.core (base_at k r + e))))

@@ -86,10 +86,7 @@ module _ (core : List Tagged) (base number : ℕ) (array : ℕ → ℕ) where
     pub inside : (i : ℕ) → i < many → from + i ≤ s
 
   cells_of : (f s : ℕ) → CellsOf f s (record_seen core f s)
-  cells_of f s = by (mscw_in (word_seen_at core f)).entered where
-    by : (e : Bool) → CellsOf f s (activation_by core f s (mscw_in (word_seen_at core f)) e)
-    by true = record { from = f + 2; many = s - (f + 1); cells = refl; above = omega arith; inside = λ i h. omega (arith, h) }
-    by false = record { from = f + 1; many = s - f; cells = refl; above = omega arith; inside = λ i h. omega (arith, h) }
+  cells_of f s = grind arith
 
   abbrev Q : ℕ → ℕ → ℕ → List Activation → Type 0
   Q n f s acts = (a : Array) → Has (arrays_of core number array acts) a → OfRecords acts a
@@ -118,20 +115,7 @@ module _ (core : List Tagged) (base number : ℕ) (array : ℕ → ℕ) where
       le_top n i e h = omega (arith, e, h)
 
   deeper_of : (f s : ℕ) (below : List Activation) → StandsHere core base f s below → (a : Array) → OfRecords below a → OfRecords (record_seen core f s ∷ below) a
-  deeper_of f s below st a o =
-      let low = o.low in
-      let top = st.top in
-      let same = low_record o.d (record_seen core f s) below low in
-      record {
-        d = o.d;
-        some = o.some;
-        low = up (stack_words (record_seen core f s ∷ below)) o.d low top;
-        is = o.is ∙ ap (λ n. array_shown core (array (base + o.d)) (named number (n / 2)) true (base + o.d)) (sym same);
-        original = o.original;
-      }
-    where
-      up : (n d : ℕ) → d ≤ stack_words below → base + n ≡ s → d ≤ n
-      up n d low top = (let under = st.under in let high = st.high in omega (arith, low, top, under, high))
+  deeper_of f s below st a o = grind arith
 
   bottom_of : (n f s : ℕ) → s < length core → back_at core f ≡ 0 → StandsHere core base f s [] → f ≡ base + 1 → Q (suc n) f s (record_seen core f s ∷ [])
   bottom_of n f s inside e st at a h = elim (has_append_cases (arrays_in core (named number (0 + 1)) array (record_seen core f s).cells) [] a h) [ inl g ↦ here_of f s [] st a g | inr g ↦ absurd g ]
@@ -175,18 +159,7 @@ module _ (k : Sight) (facts : TableFacts k) (low size : ℕ) (fixed : FixedFacts
   in_rows : (row : JobRow) (j : ℕ) → slice_get k.jobs (j - 1) ≡ Some row → dictionary_from k.jobs 1 j ≡ row.dictionary → segments_of k.jobs 1 j ≡ row.segments → (a : Array) → Has (data_rows k.core (row.dictionary + 1 + row.segments) row.rows) a → RowIn row (home_of k j a.identity) a
   in_rows row j found dict segs a g =
       let q = row_array k.core (row.dictionary + 1 + row.segments) row.rows a g in
-      let few = (dictionary_lies k.core k.regs.stacks 160 k.jobs (j - 1) row fixed.dictionaries found).few in
-      let hi = q.high in
-      let name : a.identity ≡ q.i = ap (λ (b : Array). b.identity) q.is in
-      record {
-        n = q.i;
-        low = q.low;
-        high = q.high;
-        home_is = ap (home_of k j) name ∙ home_row k facts j q.i (omega (arith, hi, few)) ∙ (let z : dictionary_from k.jobs 1 j + 1 + segments_of k.jobs 1 j + q.i ≡ row.dictionary + 1 + row.segments + q.i = omega (arith, dict, segs) in z);
-        named_is = name;
-        owner = ap (λ (b : Array). b.owner) q.is;
-        writes = ap (λ (b : Array). b.writable) q.is;
-      }
+      grind (arith, dictionary_lies, home_is, home_row)
 
   in_stack : (row : JobRow) (j : ℕ) (a : Array) (r : TaskRow) → Has (rows_of k.tasks j) r → Has (arrays_of k.core r.number (array_homed k.regs k.tasks row) (stack_of_row k r)) a → StandsIn k j (home_of k j a.identity) a
   in_stack row j a r hr ha =
@@ -197,23 +170,7 @@ module _ (k : Sight) (facts : TableFacts k) (low size : ℕ) (fixed : FixedFacts
       let inside = w.inside in
       let o = walk_induct k.core (base_at k r) r.slot w.segments (Q k.core (base_at k r) r.number (array_homed k.regs k.tasks row)) (bottom_of k.core (base_at k r) r.number (array_homed k.regs k.tasks row)) (more_of k.core (base_at k r) r.number (array_homed k.regs k.tasks row))
       k.regs.stack_size (level_in k r) (top_in k r).f (top_in k r).s (omega (arith, top, inside)) w.walk a ha in
-      let words = o.low in
-      let room = words_low r f.0 in
-      let big = fixed.stack_high in
-      let name : a.identity ≡ named r.number o.d = ap (λ (b : Array). b.identity) o.is ∙ name_is k facts r f.0 row o.d (omega (arith, words, room)) in
-      record {
-        q = r;
-        there = f.0;
-        job = job;
-        d = o.d;
-        some = o.some;
-        low = o.low;
-        home_is = ap (home_of k j) name ∙ ap (λ i. home_of k i (named r.number o.d)) (sym job) ∙ home_is k facts r f.0 o.d (omega (arith, words, room, big));
-        named_is = name;
-        owner = ap (λ (b : Array). b.owner) o.is;
-        writes = ap (λ (b : Array). b.writable) o.is;
-        original = o.original;
-      }
+      grind (arith, words_low, name_is, home_is)
 
   -- each array of a job is one or the other
   pub array_from : (row : JobRow) (j : ℕ) → slice_get k.jobs (j - 1) ≡ Some row → dictionary_from k.jobs 1 j ≡ row.dictionary → segments_of k.jobs 1 j ≡ row.segments → (a : Array) → Has (job_seen k row j).arrays a → RowIn row (home_of k j a.identity) a ⊎ StandsIn k j (home_of k j a.identity) a
@@ -226,25 +183,14 @@ module _ (k : Sight) (facts : TableFacts k) (low size : ℕ) (fixed : FixedFacts
 
   held_in : (h : ℕ) (rs : List TaskRow) (q : TaskRow) → row_holding k h rs ≡ Some q → Has rs q × (base_at k q ≤ h) × (h < base_at k q + k.regs.stack_size)
   held_in h [] q e = absurd (let z : ⊥ = cc in z)
-  held_in h (r ∷ more) q e = by (held_in h more q) (nat_le (base_at k r) h) (nat_lt h (base_at k r + k.regs.stack_size)) refl refl e where
-    by : (row_holding k h more ≡ Some q → Has more q × (base_at k q ≤ h) × (h < base_at k q + k.regs.stack_size)) → (x y : Bool) → nat_le (base_at k r) h ≡ x → nat_lt h (base_at k r + k.regs.stack_size) ≡ y → (if x && y then Some r else row_holding k h more) ≡ Some q
-        → Has (r ∷ more) q × (base_at k q ≤ h) × (h < base_at k q + k.regs.stack_size)
-    by rec true true x y e =
-        let same : r ≡ q = same_Some r q e in
-        (inl same, subst (λ (p : TaskRow). base_at k p ≤ h) same (leb-true (base_at k r) h x), subst (λ (p : TaskRow). h < base_at k p + k.regs.stack_size) same (ltb-true h (base_at k r + k.regs.stack_size) y))
-    by rec true false x y e = (let (there, lo, hi) = rec e in (inr there, lo, hi))
-    by rec false y0 x y e = (let (there, lo, hi) = rec e in (inr there, lo, hi))
+  held_in h (r ∷ more) q e = grind (arith, same_Some, leb-true, ltb-true, held_in h more q)
 
   pub held : (h : ℕ) (q : TaskRow) → row_holding k h k.tasks ≡ Some q → Has k.tasks q × (base_at k q ≤ h) × (h < base_at k q + k.regs.stack_size)
   held h q e = held_in h k.tasks q e
 
   -- two slots that have one address are one
   pub one_slot : (r q : TaskRow) → Has k.tasks r → Has k.tasks q → (h : ℕ) → base_at k r ≤ h → h < base_at k r + k.regs.stack_size → base_at k q ≤ h → h < base_at k q + k.regs.stack_size → r ≡ q
-  one_slot r q hr hq h a b c d = elim (apart_cases k.tasks facts.apart r q hr hq) [ inl s ↦ s | inr p ↦ absurd (far (cases_lt r.slot q.slot) (cases_lt q.slot r.slot) p.0) ] where
-    far : (r.slot < q.slot) ⊎ (q.slot ≤ r.slot) → (q.slot < r.slot) ⊎ (r.slot ≤ q.slot) → r.slot ≢ q.slot → ⊥
-    far (inl lt) o ne = (let z = slots_apart k facts low size fixed near r q lt in omega (arith, z, b, c))
-    far (inr le) (inl lt) ne = (let z = slots_apart k facts low size fixed near q r lt in omega (arith, z, a, d))
-    far (inr le) (inr up) ne = ne (omega (arith, le, up))
+  one_slot r q hr hq h a b c d = grind (arith, apart_cases, cases_lt, slots_apart)
 
   holds_in : (q : TaskRow) → Has k.tasks q → (h : ℕ) → base_at k q ≤ h → h < base_at k q + k.regs.stack_size → (rs : List TaskRow) → ((r : TaskRow) → Has rs r → Has k.tasks r) → Has rs q → row_holding k h rs ≡ Some q
   holds_in q hq h lo hi [] live g = absurd g
@@ -296,10 +242,7 @@ module _ (k : Sight) (facts : TableFacts k) (low size : ℕ) (fixed : FixedFacts
           let is = s.home_is in
           let (there, lo, hi) = held h q holding in
           let same : s.q ≡ q = one_slot s.q q s.there there h (omega (arith, is, home)) (omega (arith, is, home, words, room)) lo hi in
-          let of_job : i ≡ j = sym s.job ∙ ap (λ (p : TaskRow). p.job) same ∙ job in
-          let of_row : other ≡ row = same_Some other row (sym at ∙ ap (λ n. slice_get k.jobs (n - 1)) of_job ∙ found) in
-          let mine = subst (λ (w : JobRow). Has (job_seen k w j).arrays a) of_row (subst (λ n. Has (job_seen k other n).arrays a) of_job ha) in
-          record { item = a; live = mine; stands = subst (λ n. StandsIn k j n a) home (subst (λ n. StandsIn k n (home_of k i a.identity) a) of_job s); home = ap (λ n. home_of k n a.identity) (sym of_job) ∙ home }
+          grind (arith, same_Some)
 
       code_kind : (plan : Placement) (i n : ℕ) (ss : List Segment) (t : PagedObject) → Has (code_objects plan i n ss) t → t.kind ≡ kind.Code
       code_kind plan i n [] t g = absurd g

@@ -70,17 +70,11 @@ environment_in stack.Marked = record { stack = 0; disp = 0 }
 environment_in (stack.Entered level environment back) = environment
 
 some_pass : {A : Type 0} (test : A → Bool) (xs : List A) (x : A) → Has xs x → test x ≡ true → how_many test xs ≡ 0 → ⊥
-some_pass test xs x h t none =
-    let w = total_has (λ y. if test y then 1 else 0) xs x h in
-    let one : ◌≡◌ {A = ℕ} (if test x then 1 else 0) 1 = ap (λ (b : Bool). if b then 1 else 0) t in
-    omega (arith, w, one, none)
+some_pass test xs x h t none = grind (arith, total_has)
 
 each_in : {A : Type 0} (test : A → Bool) (P : A → Type 0) (xs : List A) → ((x : A) → Has xs x → Decides (test x) (P x)) → Decides (list_all test xs) ((x : A) → Has xs x → P x)
 each_in test P [] d = yes (λ x h. absurd h)
-each_in {A} test P (y ∷ ys) d = like (test y && list_all test ys) to (λ f. (f y (inl refl), λ x h. f x (inr h))) (both (test y) (list_all test ys) (d y (inl refl)) (each_in test P ys (λ x h. d x (inr h)))) where
-  to : P y × ((x : A) → Has ys x → P x) → (x : A) → Has (y ∷ ys) x → P x
-  to p x (inl e) = subst P e p.0
-  to p x (inr h) = p.1 x h
+each_in {A} test P (y ∷ ys) d = grind (arith, like, both, each_in test P ys)
 
 abbrev home_in : Shape → ℕ
 home_in (Is w) = 0
@@ -106,14 +100,7 @@ module _ (core : List Tagged) (P : Starts) (plan : Placement) (j : ℕ) (job : J
   Cells from n = CellsInOrder P job.arrays reach owner (map (word_seen frame array) (cells_in core from n)) × (map (shape plan j job spot) (map (word_seen frame array) (cells_in core from n)) ≡ cells_in core from n)
 
   original_at : (a home : ℕ) → At a ≡ Shapes.Original home → home ≡ a
-  original_at a home e = by ((word_seen_at core a).tag == 5) e where
-    deep : (c : Bool) → descriptor_by core a (desc_in (word_seen_at core a)) c ≡ Shapes.Original home → home ≡ a
-    deep true e = absurd (let z : ⊥ = cc in z)
-    deep false e = sym (ap home_in e)
-
-    by : (t : Bool) → shape_by core a (word_seen_at core a) t ≡ Shapes.Original home → home ≡ a
-    by true e = deep (desc_in (word_seen_at core a)).copy e
-    by false e = absurd (let z : ⊥ = cc in z)
+  original_at a home e = grind arith
 
   -- where cells stand
   cell_back : (from n : ℕ) (x : Shape) → Has (cells_in core from n) x → (i : ℕ) × (i < n) × (At (from + i) ≡ x)
@@ -128,61 +115,33 @@ module _ (core : List Tagged) (P : Starts) (plan : Placement) (j : ℕ) (job : J
   -- ---- copies stand above their originals
 
   plain_copy : (w : Tagged) (b0 b1 b7 : Bool) (name : ℕ) → is_copy_of name (plain_by w frame b0 b1 b7) ≡ false
-  plain_copy w true b1 b7 name = refl
-  plain_copy w false true b7 name = refers (is_set w 46) where
-    refers : (i : Bool) → is_copy_of name (reference_by w frame i) ≡ false
-    refers true = refl
-    refers false = refl
-  plain_copy w false false true name = refl
-  plain_copy w false false false name = refl
+  plain_copy w b0 b1 b7 name = grind arith
 
   plain_none : (w : Tagged) (b0 b1 b7 : Bool) (below : List Word) → NoCopyUnder (plain_by w frame b0 b1 b7) below
-  plain_none w true b1 b7 below = tt
-  plain_none w false true b7 below = refers (is_set w 46) where
-    refers : (i : Bool) → NoCopyUnder (reference_by w frame i) below
-    refers true = tt
-    refers false = tt
-  plain_none w false false true below = tt
-  plain_none w false false false below = tt
+  plain_none w b0 b1 b7 below = grind arith
 
   copy_none : (index : Option ℕ) (name : ℕ) (below : List Word) → NoCopyUnder (copy_by index name) below
-  copy_none None name below = tt
-  copy_none (Some i) name below = tt
+  copy_none index name below = grind arith
 
   copy_itself : (index : Option ℕ) (name : ℕ) → is_copy_of name (copy_by index name) ≡ true
-  copy_itself None name = eq-eqb name name refl
-  copy_itself (Some i) name = eq-eqb name name refl
+  copy_itself index name = grind arith
 
   copy_home : (index : Option ℕ) (c : Shapes.Copied) (name home : ℕ) → shape plan j job spot (copy_by index name) ≡ Copy c home → plan.home j name ≡ home
-  copy_home None c name home e = ap home_in e
-  copy_home (Some i) c name home e = ap home_in e
+  copy_home index c name home e = grind arith
 
   copy_names : (index : Option ℕ) (other name : ℕ) → is_copy_of name (copy_by index other) ≡ true → other ≡ name
-  copy_names None other name e = eqb-true other name e
-  copy_names (Some i) other name e = eqb-true other name e
+  copy_names index other name e = grind arith
 
   not_copy : (a h : ℕ) (x : Shape) → Same x → Above a x → plan.home j (array h) ≡ h → a < h → h ≤ s → is_copy_of (array h) (word_seen frame array x) ≡ false
-  not_copy a h (Is w) is above home lo hi = plain_copy w (w.tag == 0) (w.tag == 1) (w.tag == 7) (array h)
-  not_copy a h (Shapes.Original other) is above home lo hi = refl
-  not_copy a h (Copy c other) is above home lo hi = elim (cases_Bool (is_copy_of (array h) (copy_by c.index (array other)))) [
-    | inr f ↦ f
-    | inl t ↦
-        let e : other ≡ h = sym (copy_home c.index c (array other) other is.1) ∙ ap (plan.home j) (copy_names c.index (array other) (array h) t) ∙ home in
-        absurd (above (omega (arith, e, lo)) (omega (arith, e, hi)))
-  ]
+  not_copy a h x is above home lo hi = grind arith
 
   none_under : (from n h : ℕ) → ((i : ℕ) → i < n → Fine (from + i)) → plan.home j (array h) ≡ h → from + n ≤ h → h ≤ s → how_many (is_copy_of (array h)) (map (word_seen frame array) (cells_in core from n)) ≡ 0
-  none_under from n h fine home lo hi = none_pass (is_copy_of (array h)) (map (word_seen frame array) (cells_in core from n)) (λ y g.
-      let b = has_map_back (word_seen frame array) (cells_in core from n) y g in
-      let (i, lt, e) = cell_back from n b.item b.among in
-      ap (is_copy_of (array h)) (sym b.is ∙ ap (word_seen frame array) (sym e)) ∙ not_copy (from + i) h (At (from + i)) (fine i lt).0 (fine i lt).1 home (omega (arith, lt, lo)) hi)
+  none_under from n h fine home lo hi = grind (arith, none_pass, has_map_back, cell_back, not_copy)
 
   no_copy : (from n a : ℕ) (x : Shape) → At a ≡ x → Same x → from + n ≤ a → a ≤ s → ((i : ℕ) → i < n → Fine (from + i)) → NoCopyUnder (word_seen frame array x) (map (word_seen frame array) (cells_in core from n))
   no_copy from n a (Is w) e is lo hi fine = plain_none w (w.tag == 0) (w.tag == 1) (w.tag == 7) (map (word_seen frame array) (cells_in core from n))
   no_copy from n a (Copy c home) e is lo hi fine = copy_none c.index (array home) (map (word_seen frame array) (cells_in core from n))
-  no_copy from n a (Shapes.Original home) e is lo hi fine =
-      let at : home ≡ a = original_at a home e in
-      none_under from n home fine (ap home_in is.1) (omega (arith, at, lo)) (omega (arith, at, hi))
+  no_copy from n a (Shapes.Original home) e is lo hi fine = grind (arith, original_at, none_under)
 
   above_all : (from n : ℕ) → ((i : ℕ) → i < n → from + i ≤ s) → ((i : ℕ) → i < n → Fine (from + i)) → CopiesAbove (map (word_seen frame array) (cells_in core from n))
   above_all from zero low fine = tt
@@ -241,23 +200,16 @@ module _ (core : List Tagged) (base slot : ℕ) (frame : StackPlace → ℕ) whe
   Levels n f s acts = (x : Seen) → Has (seen_in slot acts) x → is_entered_head x.1 ≡ true → level_of_standing (standing_of frame x.1) ≡ bits_at (word_seen_at core (base + x.0.disp)) 14 5
 
   level_here : (f s : ℕ) (e : Bool) → is_entered_head (activation_by core f s (mscw_in (word_seen_at core f)) e).head ≡ true → level_of_standing (standing_of frame (activation_by core f s (mscw_in (word_seen_at core f)) e).head) ≡ bits_at (word_seen_at core f) 14 5
-  level_here f s true t = refl
-  level_here f s false t = absurd (let z : ⊥ = cc in z)
+  level_here f s e t = grind arith
 
   levels_top : (f s : ℕ) (below : List Activation) → StandsHere core base f s below → (x : Seen) → (record { stack = slot; disp = stack_words below + 1 }, (record_seen core f s).head) ≡ x → is_entered_head x.1 ≡ true → level_of_standing (standing_of frame x.1) ≡ bits_at (word_seen_at core (base + x.0.disp)) 14 5
-  levels_top f s below st x e t =
-      let under = st.under in
-      let at : f ≡ base + (stack_words below + 1) = omega (arith, under) in
-      ap (λ (y : Seen). level_of_standing (standing_of frame y.1)) (sym e) ∙ level_here f s (mscw_in (word_seen_at core f)).entered (ap (λ (y : Seen). is_entered_head y.1) e ∙ t)
-      ∙ ap (λ n. bits_at (word_seen_at core n) 14 5) (at ∙ ap (λ (y : Seen). base + y.0.disp) e)
+  levels_top f s below st x e t = grind arith
 
   levels_bottom : (n f s : ℕ) → s < length core → back_at core f ≡ 0 → StandsHere core base f s [] → f ≡ base + 1 → Levels (suc n) f s (record_seen core f s ∷ [])
-  levels_bottom n f s inside back st at x (inl e) t = levels_top f s [] st x e t
-  levels_bottom n f s inside back st at x (inr g) t = absurd g
+  levels_bottom n f s inside back st at x h t = grind arith
 
   levels_more : (n f s d : ℕ) → s < length core → back_at core f ≡ suc d → StandsHere core base f s (stack_seen core n (f - suc d) (f - 1)) → base + suc d < f → Levels n (f - suc d) (f - 1) (stack_seen core n (f - suc d) (f - 1)) → Levels (suc n) f s (record_seen core f s ∷ stack_seen core n (f - suc d) (f - 1))
-  levels_more n f s d inside back st far rec x (inl e) t = levels_top f s (stack_seen core n (f - suc d) (f - 1)) st x e t
-  levels_more n f s d inside back st far rec x (inr g) t = rec x g t
+  levels_more n f s d inside back st far rec x h t = grind arith
 
 -- ---- one task
 
@@ -389,11 +341,7 @@ module _ (k : Sight) (facts : TableFacts k) (low size : ℕ) (fixed : FixedFacts
       pub within : stack_words acts ≤ stack_words (stack_of_row k r)
 
     part_below : (a : Activation) (below : List Activation) → Part (a ∷ below) → Part below
-    part_below a below p = (let more = mark_inside a below in let within = p.within in record {
-      agree = λ d le. p.agree d (omega (arith, le, more)) ∙ low_record d a below le;
-      lift = λ x g. p.lift x (inr g);
-      within = omega (arith, within, more);
-    })
+    part_below a below p = grind arith
 
     module _ (a : Activation) (below : List Activation) (p : Part (a ∷ below)) (f s : ℕ) (high : f ≤ s) (at_mark : suc (base_at k r) + stack_words below ≡ f) (top : base_at k r + stack_words (a ∷ below) ≡ s) where
       mark_low : stack_words below + 1 < k.regs.stack_size
@@ -403,8 +351,7 @@ module _ (k : Sight) (facts : TableFacts k) (low size : ℕ) (fixed : FixedFacts
       marks_agree d le = (let more = mark_inside a below in p.agree d (omega (arith, le, more)))
 
       marks_high : (x : Seen) → Has (seen_in r.slot (a ∷ below)) x → x.0.disp ≤ stack_words below + 1
-      marks_high x (inl e) = (let d : stack_words below + 1 ≡ x.0.disp = ap (λ (y : Seen). y.0.disp) e in omega (arith, d))
-      marks_high x (inr g) = (let d = seen_low r.slot below x g in omega (arith, d))
+      marks_high x h = grind (arith, seen_low)
 
       abbrev FineAt : ℕ → Type 0
       FineAt i = Fine k.core P (placed k) r.job job (reach (a ∷ below)) (named r.number (stack_words below + 1)) frame array (spot (a ∷ below)) s i
@@ -492,12 +439,7 @@ module _ (k : Sight) (facts : TableFacts k) (low size : ℕ) (fixed : FixedFacts
     Q n f s acts = Part acts → Decides (records_stand k records kinds mine r (base_at k r) n f s) (StackIs acts)
 
     join : (a : Activation) (below : List Activation) → RecordFacts a below × StackIs below → StackIs (a ∷ below)
-    join a below (((cells, stands), (head_is, cells_are)), (more, same)) = (
-      (cells, stands, more),
-      ap (λ (x : Head). activation x (map (shape (placed k) r.job job (spot (a ∷ below))) (map (word_seen frame array) a.cells)) ∷ activations (placed k) r.job job r.slot around (frames below)) head_is
-          ∙ ap (λ (x : List Shape). activation a.head x ∷ activations (placed k) r.job job r.slot around (frames below)) cells_are
-          ∙ ap (λ (xs : List Activation). a ∷ xs) same,
-    )
+    join a below (((cells, stands), (head_is, cells_are)), (more, same)) = grind arith
 
     split : (a : Activation) (below : List Activation) → StackIs (a ∷ below) → RecordFacts a below × StackIs below
     split a below ((cells, stands, more), same) = (((cells, stands), (ap (λ (xs : List Activation). (first_record xs).head) same, ap (λ (xs : List Activation). (first_record xs).cells) same)), (more, ap records_below same))

@@ -20,15 +20,11 @@ chain_later n c cs ks ne = cond-false (c == n) _ _ (ne_eqb c n ne)
 chain_absent : (n : ℕ) (ks : List (List ℕ)) → AreSome ks → uses n ks ≡ 0 → chain_of n ks ≡ []
 chain_absent n [] some z = refl
 chain_absent n ([] ∷ ks) some z = absurd some
-chain_absent n ((c ∷ cs) ∷ ks) some z =
-    chain_later n c cs ks (λ e. let here : one n c ≡ 1 = rw e (one-same n) in omega (arith, here, z)) ∙ chain_absent n ks some (omega (arith, z))
+chain_absent n ((c ∷ cs) ∷ ks) some z = grind (arith, chain_later, one-same, chain_absent n ks some)
 
 -- one that begins a chain stands in it
 chain_uses : (n : ℕ) (ks : List (List ℕ)) → AreSome ks → 0 < length (chain_of n ks) → 1 ≤ uses n ks
-chain_uses n ks some h = ⊎_elim
-    (λ lt. let none : length (chain_of n ks) ≡ 0 = ap length (chain_absent n ks some (omega (arith, lt))) in absurd (omega (arith, h, none)))
-    (λ le. le)
-    (cases_lt (uses n ks) 1)
+chain_uses n ks some h = grind (arith, ⊎_elim, chain_absent, cases_lt)
 
 -- one that follows another sector begins none
 chain_followed : (n p : ℕ) (ks : List (List ℕ)) → AreSome ks → ((m : ℕ) → uses m ks ≤ 1) → n ≢ 0 → link_of p ks ≡ n → p ≢ n → (chain_of n ks ≡ []) × (1 ≤ uses n ks)
@@ -88,26 +84,18 @@ run_is : (links : List ℕ) (n c : ℕ) (cs : List ℕ) → Runs links c cs → 
 run_is links zero c [] r t = refl
 run_is links zero c (d ∷ cs) r t = absurd (r.1 (sym r.0 ∙ eqb-true (sector_link links c) c t))
 run_is links (suc n) c [] r t = absurd (let no : run_test links (suc n) c ≡ false = cond-true (sector_link links c == c) _ _ (eq-eqb (sector_link links c) c r) in let z : ⊥ = cc in z)
-run_is links (suc n) c (d ∷ cs) r t =
-    let next : run_test links (suc n) c ≡ run_test links n (sector_link links c) =
-    cond-false (sector_link links c == c) _ _ (ne_eqb (sector_link links c) c (λ e. r.1 (sym r.0 ∙ e))) ∙ cond-false (sector_link links c == 0) _ _ (ne_eqb (sector_link links c) 0 (λ e. r.2 (sym r.0 ∙ e))) in
-    ap suc (run_is links n d cs r.3 (sym (ap (run_test links n) r.0) ∙ sym next ∙ t))
+run_is links (suc n) c (d ∷ cs) r t = grind (arith, cond-false, ne_eqb, run_is links n d cs r.3)
 
 is_run : (links : List ℕ) (c : ℕ) (cs : List ℕ) → Runs links c cs → run_test links (length cs) c ≡ true
 is_run links c [] r = eq-eqb (sector_link links c) c r
-is_run links c (d ∷ cs) r =
-    cond-false (sector_link links c == c) _ _ (ne_eqb (sector_link links c) c (λ e. r.1 (sym r.0 ∙ e))) ∙ cond-false (sector_link links c == 0) _ _ (ne_eqb (sector_link links c) 0 (λ e. r.2 (sym r.0 ∙ e)))
-    ∙ ap (run_test links (length cs)) r.0 ∙ is_run links d cs r.3
+is_run links c (d ∷ cs) r = grind (arith, cond-false, ne_eqb, is_run links d cs r.3)
 
 -- ---- by the links
 
 module _ (links : List ℕ) (ks : List (List ℕ)) (a : AreLinksOf links ks) where
   -- a sector whose link among the chains is another one is followed
   follows : (p n : ℕ) → link_of p ks ≡ n → p ≢ n → n ≢ 0 → Follows links p n
-  follows p n is other some =
-      let there : 1 ≤ uses p ks = ⊎_elim (λ lt. absurd (some (sym is ∙ link-absent p ks (omega arith)))) (λ le. le) (cases_lt (uses p ks) 1) in
-      let (low, high) = a.inside p there in
-      record { low = low; high = high; link = link_is links ks a p low high ∙ is; other = λ e. other (sym e); some = some }
+  follows p n is other some = grind (arith, ⊎_elim, link-absent, cases_lt, link_is)
 
   head_begun : (n : ℕ) → IsChainHead links n → Begun n ks
   head_begun n h =
@@ -116,10 +104,7 @@ module _ (links : List ℕ) (ks : List (List ℕ)) (a : AreLinksOf links ks) whe
       begun n ks a.some a.apart pos (used links ks a n h.low h.high h.linked) (λ p is other. h.unled p (follows p n is other pos))
 
   head_runs : (n : ℕ) (b : Begun n ks) → Runs links n b.cs
-  head_runs n b = chain_runs links n b.cs
-      (λ m. omega (arith, b.within m, a.apart m))
-      (⊎_elim (λ lt. omega arith) (λ le. absurd (let (l, h) = a.inside 0 (omega (arith, b.within 0, le)) in omega (arith, l))) (cases_lt (times 0 (n ∷ b.cs)) 1))
-      (λ m t. let (l, h) = a.inside m (omega (arith, b.within m, t)) in link_is links ks a m l h ∙ b.links m t)
+  head_runs n b = grind (arith, chain_runs, ⊎_elim, cases_lt, link_is)
 
   -- the chain of a head has a sector
   pub head_some : (n : ℕ) → IsChainHead links n → 0 < length (chain_of n ks)

@@ -27,11 +27,7 @@ pub run_stops : (links : List ℕ) (first behind turn at : ℕ) → RunsOn links
 run_stops links first behind turn at r low ne z = sym (r.same ∙ turn_is links behind turn at low ∙ cond-false (sector_link links at == at) _ _ (ne_eqb (sector_link links at) at ne) ∙ cond-true (sector_link links at == 0) _ _ (eq-eqb (sector_link links at) 0 z))
 
 pub run_on : (links : List ℕ) (first behind turn at : ℕ) → AreInside links → RunsOn links first behind turn at → turn < behind → sector_link links at ≢ at → sector_link links at ≢ 0 → RunsOn links first behind (turn + 1) (sector_link links at)
-run_on links first behind turn at inside r low ne some = record {
-  low = omega (arith, some);
-  high = inside (at - 1);
-  same = r.same ∙ turn_is links behind turn at low ∙ cond-false (sector_link links at == at) _ _ (ne_eqb (sector_link links at) at ne) ∙ cond-false (sector_link links at == 0) _ _ (ne_eqb (sector_link links at) 0 some);
-}
+run_on links first behind turn at inside r low ne some = grind (arith, turn_is, cond-false, ne_eqb)
 
 pub run_done : (links : List ℕ) (first behind turn at : ℕ) → RunsOn links first behind turn at → behind ≤ turn → (sector_link links at == at) ≡ run_test links behind first
 run_done links first behind turn at r h = let none : behind - turn ≡ 0 = omega (arith, h) in sym (r.same ∙ ap (λ n. run_test links n at) none)
@@ -39,12 +35,7 @@ run_done links first behind turn at r h = let none : behind - turn ≡ 0 = omega
 -- ---- heads
 
 pub head_is : (links : List ℕ) (led : List Bool) (n : ℕ) → AreLed links led → n ≢ 0 → n ≤ length links → sector_link links n ≢ 0 → get_or led n false ≡ false → IsChainHead links n
-head_is links led n a some high linked free = record {
-  low = omega (arith, some);
-  high = high;
-  linked = linked;
-  unled = λ p f. omega (arith, a.marked p n f, mark-false led n free);
-}
+head_is links led n a some high linked free = grind arith
 
 pub no_head : (links : List ℕ) (led : List Bool) (n : ℕ) → AreLed links led → get_or led n false ≡ true → IsChainHead links n → ⊥
 no_head links led n a e h = let (p, f) = a.only n (mark-true led n e) in h.unled p f
@@ -53,11 +44,7 @@ pub chain_of_run : (links : List ℕ) (n many : ℕ) → 1 ≤ many → IsChainH
 chain_of_run links n many some h e = record { head = h; behind = many - 1; many_is = omega (arith, some); runs = sym e }
 
 pub run_of_chain : (links : List ℕ) (n many : ℕ) → 1 ≤ many → false ≡ run_test links (many - 1) n → IsSectorChain links n many → ⊥
-run_of_chain links n many some e c =
-    let m = c.many_is in
-    let same : c.behind ≡ many - 1 = omega (arith, some, m) in
-    let no : false ≡ true = e ∙ sym (ap (λ b. run_test links b n) same) ∙ c.runs in
-    let z : ⊥ = cc in z
+run_of_chain links n many some e c = grind arith
 
 -- ---- claims
 

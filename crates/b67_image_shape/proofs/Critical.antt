@@ -35,53 +35,31 @@ max_one a b = elim (cases_lt a b) [ inl h ↦ inr (omega (arith, h)) | inr h ↦
 
 pub greatest_above : (rs : List TaskRow) (n : ℕ) (q : TaskRow) → Has rs q → q.parent ≡ n → q.critical ≤ greatest rs n
 greatest_above [] n q h e = absurd h
-greatest_above (r ∷ more) n q (inl s) e =
-    let yes = eq-eqb r.parent n (ap (λ (z : TaskRow). z.parent) s ∙ e) in
-    subst (λ (b : Bool). q.critical ≤ (if b then max r.critical (greatest more n) else greatest more n)) (sym yes) (subst (λ (z : TaskRow). z.critical ≤ max r.critical (greatest more n)) s (max_left r.critical (greatest more n)))
-greatest_above (r ∷ more) n q (inr h) e = by (r.parent == n) (greatest_above more n q h e) where
-  by : (b : Bool) → q.critical ≤ greatest more n → q.critical ≤ (if b then max r.critical (greatest more n) else greatest more n)
-  by true low = (let high = max_right r.critical (greatest more n) in omega (arith, low, high))
-  by false low = low
+greatest_above (r ∷ more) n q (inl s) e = grind arith
+greatest_above (r ∷ more) n q (inr h) e = grind (arith, max_right, greatest_above more n q h e)
 
 -- a row with the greatest displacement, if that isn't 0
 abbrev pub HasGreatest : List TaskRow → ℕ → ℕ → Type 0
 HasGreatest rs n g = (g ≡ 0) ⊎ ((q : TaskRow) × Has rs q × (q.parent ≡ n) × (q.critical ≡ g))
 
 wider : (r : TaskRow) (rs : List TaskRow) (n g : ℕ) → HasGreatest rs n g → HasGreatest (r ∷ rs) n g
-wider r rs n g (inl z) = inl z
-wider r rs n g (inr (q, h, e, c)) = inr (q, inr h, e, c)
+wider r rs n g h = grind arith
 
 pub greatest_one : (rs : List TaskRow) (n : ℕ) → HasGreatest rs n (greatest rs n)
 greatest_one [] n = inl refl
-greatest_one (r ∷ more) n = elim (cases_Bool (r.parent == n)) [
-  | inl t ↦ subst (λ (b : Bool). HasGreatest (r ∷ more) n (if b then max r.critical (greatest more n) else greatest more n)) (sym t) (elim (max_one r.critical (greatest more n)) [
-    | inl m ↦ inr (r, inl refl, eqb-true r.parent n t, sym m)
-    | inr m ↦ subst (HasGreatest (r ∷ more) n) (sym m) (wider r more n (greatest more n) (greatest_one more n))
-  ])
-  | inr t ↦ subst (λ (b : Bool). HasGreatest (r ∷ more) n (if b then max r.critical (greatest more n) else greatest more n)) (sym t) (wider r more n (greatest more n) (greatest_one more n))
-]
+greatest_one (r ∷ more) n = grind (arith, cases_Bool, max_one, eqb-true, wider, greatest_one more n)
 
 -- ---- frames that are read
 
 module _ (number : ℕ) (frame : StackPlace → ℕ) (array : ℕ → ℕ) where
   pub high_is : (acts : List Activation) → height (frames_of number frame array acts) ≡ stack_words acts + 1
   high_is [] = refl
-  high_is (a ∷ below) =
-      let under = high_is below in
-      let long = length-map a.cells (word_seen frame array) in
-      by a.head under long where
-        by : (h : Head) → height (frames_of number frame array below) ≡ stack_words below + 1 → length (map (word_seen frame array) a.cells) ≡ length a.cells
-            → height (frames_of number frame array below) + words_of (record { identity = named number (stack_words below + 1); standing = standing_of frame h; cells = map (word_seen frame array) a.cells }) ≡ stack_words below + (head_size h + length a.cells) + 1
-        by stack.Marked under long = omega (arith, under, long)
-        by (stack.Entered level environment back) under long = omega (arith, under, long)
+  high_is (a ∷ below) = grind (arith, length-map, high_is below)
 
   -- the frame of a name: its displacement
   pub place_of_name : (acts : List Activation) (i : ℕ) → Has (identities (frames_of number frame array acts)) i → (d : ℕ) × (i ≡ named number d) × (0 < d) × (d ≤ stack_words acts)
   place_of_name [] i h = absurd h
-  place_of_name (a ∷ below) i (inl e) = (stack_words below + 1, sym e, omega arith, by a.head) where
-    by : (h : Head) → stack_words below + 1 ≤ stack_words below + (head_size h + length a.cells)
-    by stack.Marked = omega arith
-    by (stack.Entered level environment back) = omega arith
+  place_of_name (a ∷ below) i (inl e) = grind arith
   place_of_name (a ∷ below) i (inr h) = let (d, e, some, low) = place_of_name below i h in (d, e, some, omega (arith, low))
 
 name_same : (m n c d : ℕ) → named m c ≡ named n d → c < 2 ^ 14 → d < 2 ^ 14 → (m ≡ n) × (c ≡ d)
@@ -131,9 +109,7 @@ module _ (k : Sight) (facts : TableFacts k) (stacks : EachTask k (StackFacts k))
         let b = subst (BornBy q) found born in
         let o = of_row k facts q hq in
         let rows : o.row ≡ (of_row k facts r hr).row = same_Some o.row (of_row k facts r hr).row (sym o.found ∙ ap (λ j. slice_get k.jobs (j - 1)) (sym b.0) ∙ (of_row k facts r hr).found) in
-        let live : Has job.tasks (task_in k (of_row k facts r hr).row r.job q) = subst (λ j. Has (job_seen k (of_row k facts r hr).row j).tasks (task_in k (of_row k facts r hr).row j q)) (sym b.0) (subst (λ (w : JobRow). Has (job_seen k w q.job).tasks (task_in k w q.job q)) rows o.live) in
-        any_some (λ (u : Task). u.critical == named r.number q.critical) job.tasks (task_in k (of_row k facts r hr).row r.job q) live
-        (eq-eqb (critical_by k.tasks q.critical (row_in_slot k.tasks q.parent)) (named r.number q.critical) (ap (critical_by k.tasks q.critical) found))
+        grind (arith, of_row, any_some, eq-eqb)
 
     -- and only then
     child_of : (d : ℕ) → 0 < d → d < 2 ^ 14 → is_critical job (named r.number d) ≡ true → (q : TaskRow) × Has k.tasks q × (q.parent ≡ r.slot) × (q.critical ≡ d)
@@ -160,11 +136,7 @@ module _ (k : Sight) (facts : TableFacts k) (stacks : EachTask k (StackFacts k))
 
     above : (acts : List Activation) (q : TaskRow) → Has k.tasks q → q.parent ≡ r.slot → Has (identities (frames acts)) (named r.number q.critical) → q.critical ≤ critical_mark job (frames acts)
     above [] q hq e h = absurd h
-    above (a ∷ below) q hq e (inl s) =
-        let d : stack_words below + 1 ≡ q.critical = omega (arith, s) in
-        let yes : is_critical job (named r.number (stack_words below + 1)) ≡ true = ap (λ c. is_critical job (named r.number c)) d ∙ is_one q hq e in
-        let high = high_is r.number fr ar below in
-        subst (λ (b : Bool). q.critical ≤ (if b then height (frames below) else critical_mark job (frames below))) (sym yes) (omega (arith, d, high))
+    above (a ∷ below) q hq e (inl s) = grind (arith, is_one, high_is)
     above (a ∷ below) q hq e (inr h) = by (is_critical job (named r.number (stack_words below + 1))) (above below q hq e h) where
       by : (b : Bool) → q.critical ≤ critical_mark job (frames below) → q.critical ≤ (if b then height (frames below) else critical_mark job (frames below))
       by true rest =
@@ -205,10 +177,4 @@ module _ (k : Sight) (facts : TableFacts k) (stacks : EachTask k (StackFacts k))
 
 -- a slot in which no task lives has no children
 pub greatest_free : (k : Sight) (facts : TableFacts k) (n : ℕ) → n < 120 → row_in_slot k.tasks n ≡ None → greatest k.tasks n ≡ 0
-greatest_free k facts n low none = by (greatest_one k.tasks n) where
-  by : HasGreatest k.tasks n (greatest k.tasks n) → greatest k.tasks n ≡ 0
-  by (inl z) = z
-  by (inr (q, hq, e, c)) =
-      let born = subst (BornBy q) (ap (row_in_slot k.tasks) e ∙ none) (row_fact k facts q hq).born in
-      let p = born.1.0 in
-      absurd (omega (arith, low, e, p))
+greatest_free k facts n low none = grind (arith, greatest_one, row_fact)

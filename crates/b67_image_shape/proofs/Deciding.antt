@@ -10,6 +10,7 @@ use Rattle.b67_layout.specs.Rows.{JobRow}
 use Rattle.b67_image_shape.specs.Deciding.{Decides}
 use Rattle.b67_image_shape.specs.TableFacts.{EachJob}
 use Rattle.b67_image_shape.specs.TableTests.{jobs_pass}
+use Rattle.std.proofs.Common.{arith}
 
 pub same_number : (a b : ℕ) → Decides (a == b) (a ≡ b)
 same_number a b = (eqb-true a b, eq-eqb a b)
@@ -31,12 +32,10 @@ like x f g d = Decides-like x f g d
 
 -- the last test of several is the answer
 pub on_true : {P Q : Type 0} (b : Bool) → (P → Q) → OnTrue b P → OnTrue b Q
-on_true true f h = f h
-on_true false f h = tt
+on_true b f h = grind arith
 
 pub on_false : {P Q : Type 0} (b : Bool) → (P → Q) → OnFalse b P → OnFalse b Q
-on_false true f h = tt
-on_false false f h = f h
+on_false b f h = grind arith
 
 pub yes : {P : Type 0} → P → Decides true P
 yes p = (λ e. p, λ q. refl)
@@ -46,8 +45,7 @@ nothing n = (λ e. absurd (let z : ⊥ = cc in z), λ p. absurd (n p))
 
 -- if one holds, the other does
 pub if_so : {P Q : Type 0} (x y : Bool) → Decides x P → Decides y Q → Decides (not x || y) (P → Q)
-if_so true y d e = (λ t p. e.0 t, λ f. e.1 (f (d.0 refl)))
-if_so false y d e = (λ t p. absurd (let z : ⊥ = (let no : false ≡ true = d.1 p in cc) in z), λ f. refl)
+if_so x y d e = grind arith
 
 pub each : {A : Type 0} (test : A → Bool) (P : A → Type 0) → ((x : A) → Decides (test x) (P x)) → (xs : List A) → Decides (list_all test xs) (AllByRecursion P xs)
 each test P d [] = (λ e. tt, λ h. refl)
@@ -55,14 +53,7 @@ each test P d (x ∷ xs) = both (test x) (list_all test xs) (d x) (each test P d
 
 pub some : {A : Type 0} (test : A → Bool) (P : A → Type 0) → ((x : A) → Decides (test x) (P x)) → (xs : List A) → Decides (list_any test xs) ((x : A) × Has xs x × P x)
 some test P d [] = (λ e. absurd (let z : ⊥ = cc in z), λ (x, h, p). absurd h)
-some {A} test P d (x ∷ xs) = like (test x || list_any test xs) to from (Decides-or (test x) (list_any test xs) (d x) (some test P d xs)) where
-  to : P x ⊎ ((y : A) × Has xs y × P y) → (y : A) × Has (x ∷ xs) y × P y
-  to (inl p) = (x, inl refl, p)
-  to (inr (y, h, p)) = (y, inr h, p)
-
-  from : (y : A) × Has (x ∷ xs) y × P y → P x ⊎ ((y : A) × Has xs y × P y)
-  from (y, inl e, p) = inl (subst P (sym e) p)
-  from (y, inr h, p) = inr (y, h, p)
+some {A} test P d (x ∷ xs) = grind (arith, like, Decides-or, some test P d xs)
 
 pub each_job : (test : ℕ → JobRow → Bool) (P : ℕ → JobRow → Type 0) → ((j : ℕ) (row : JobRow) → Decides (test j row) (P j row)) → (j : ℕ) (rows : List JobRow) → Decides (jobs_pass test j rows) (EachJob P j rows)
 each_job test P d j [] = (λ e. tt, λ h. refl)

@@ -37,18 +37,7 @@ pub record ButDisplay (k : Machine) : Type 0 where
   pub chains : ChainFacts k
 
 pub with_display : (k : Machine) → ButDisplay k → ShowsRunning k → ShownItems k
-with_display k i d = record {
-  tables = i.tables;
-  fixed = i.fixed;
-  stacks = i.stacks;
-  reach = i.reach;
-  cells = i.cells;
-  display = d;
-  critical = i.critical;
-  objects = i.objects;
-  areas = i.areas;
-  chains = i.chains;
-}
+with_display k i d = grind arith
 
 holds : (k : Machine) (i : ButDisplay k) → SessionHolds (storage_with (sight_of k) k.areas.low i.chains.shelf) k.cpu.core k.cpu.regs k.cpu.critical (placed (sight_of k)) (shown (sight_of k))
 holds k i =

@@ -19,12 +19,7 @@ module _ (k : Sight) (facts : TableFacts k) (P : JobRow → ℕ → TaskRow → 
       subst (λ j. P row j r) ej (subst (λ (w : JobRow). P w r.job r) same (f r h)))
 
   pub task_at : EachTask k P → (r : TaskRow) (h : Has k.tasks r) → P (of_row k facts r h).row r.job r
-  task_at each r h =
-      let o = of_row k facts r h in
-      let some = (row_fact k facts r h).from_one in
-      let at : 1 + (r.job - 1) ≡ r.job = omega (arith, some) in
-      let there = each_at (λ job row. (r : TaskRow) → Has k.tasks r → r.job ≡ job → P row job r) 1 k.jobs (r.job - 1) o.row each o.found in
-      subst (λ j. P o.row j r) at (there r h (sym at))
+  task_at each r h = grind (arith, of_row, row_fact, each_at)
 
 -- what holds of each row's job and task holds of each job and task
 pub by_row : (k : Sight) (facts : TableFacts k) (P : SessionJob → Task → Type 0) → ((r : TaskRow) (h : Has k.tasks r) → P (member_in k (of_row k facts r h).row r.job) (task_in k (of_row k facts r h).row r.job r))
@@ -32,7 +27,4 @@ pub by_row : (k : Sight) (facts : TableFacts k) (P : SessionJob → Task → Typ
 by_row k facts P f m t hm ht =
     let b = row_back k facts m t hm ht in
     let o = of_row k facts b.r b.there in
-    let same : o.row ≡ b.row = same_Some o.row b.row (sym o.found ∙ ap (λ j. slice_get k.jobs (j - 1)) b.job ∙ b.found) in
-    let member : member_in k o.row b.r.job ≡ m = ap (λ (w : JobRow). member_in k w b.r.job) same ∙ ap (member_in k b.row) b.job ∙ b.member in
-    let task : task_in k o.row b.r.job b.r ≡ t = ap (λ (w : JobRow). task_in k w b.r.job b.r) same ∙ ap (λ j. task_in k b.row j b.r) b.job ∙ b.is in
-    subst (P m) task (subst (λ (y : SessionJob). P y (task_in k o.row b.r.job b.r)) member (f b.r b.there))
+    grind (arith, same_Some)

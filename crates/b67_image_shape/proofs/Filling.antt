@@ -26,10 +26,7 @@ module _ (core : List Tagged) (base turns turn f s : ℕ) (xs : List ℕ) (mark 
 
   turn_is : (w : Tagged) → w ≡ word_seen_at core f → turn < turns → records_down core base (turns - turn) f s xs ≡ fill_under (bits_at w 0 14) deeper (filled_range (code_by base f w) f (s + 1 - f) xs)
   unfolding records_down
-  turn_is w is low =
-      let next : turns - turn ≡ suc (turns - (turn + 1)) = omega arith in
-      ap (λ n. records_down core base n f s xs) next
-      ∙ ap (λ (v : Tagged). fill_under (bits_at v 0 14) deeper (filled_range (code_by base f v) f (s + 1 - f) xs)) (sym is)
+  turn_is w is low = grind arith
 
   pub fill_bottom : (w : Tagged) (ys : List ℕ) → IsFillingAt core base turns turn f s xs mark high old → turn < turns → w ≡ word_seen_at core f → bits_at w 0 14 ≡ 0 → ys ≡ filled_range (code_by base f w) f (s + 1 - f) xs → ys ≡ records_down core base turns mark high old
   fill_bottom w ys i low is back new =
@@ -61,28 +58,8 @@ filled_long value from (suc n) xs = filled_long value from n (slice_set xs (from
 
 pub filled_out : (value from n : ℕ) (xs : List ℕ) (i : ℕ) → (i < from) ⊎ (from + n ≤ i) → get_or (filled_range value from n xs) i 0 ≡ get_or xs i 0
 filled_out value from zero xs i h = refl
-filled_out value from (suc n) xs i h =
-    filled_out value from n (slice_set xs (from + n) value) i (less h) ∙ get_or-set_other xs (from + n) i value 0 (apart h)
-  where
-    less : (i < from) ⊎ (from + suc n ≤ i) → (i < from) ⊎ (from + n ≤ i)
-    less (inl h) = inl h
-    less (inr h) = inr (omega (arith, h))
-
-    apart : (i < from) ⊎ (from + suc n ≤ i) → i ≢ from + n
-    apart (inl h) e = omega (arith, h, e)
-    apart (inr h) e = omega (arith, h, e)
+filled_out value from (suc n) xs i h = grind (arith, slice_set, get_or-set_other, filled_out value from n (slice_set xs (from + n) value) i)
 
 pub filled_in : (value from n : ℕ) (xs : List ℕ) (i : ℕ) → from ≤ i → i < from + n → i < length xs → get_or (filled_range value from n xs) i 0 ≡ value
 filled_in value from zero xs i low high inside = absurd (omega (arith, low, high))
-filled_in value from (suc n) xs i low high inside = ⊎_elim
-    (λ (e : i ≡ from + n).
-    let past : from + n ≤ i = omega (arith, e) in
-    filled_out value from n (slice_set xs (from + n) value) i (inr past)
-    ∙ ap (λ m. get_or (slice_set xs (from + n) value) m 0) e ∙ get_or-set_same xs (from + n) value 0 (omega (arith, inside, e)))
-    (λ (ne : i ≢ from + n).
-    let long = length-set xs (from + n) value in
-    filled_in value from n (slice_set xs (from + n) value) i low (below ne) (omega (arith, inside, long)))
-    (cases_eq i (from + n))
-  where
-    below : i ≢ from + n → i < from + n
-    below ne = ⊎_elim (λ lt. lt) (λ le. absurd (ne (omega (arith, le, high)))) (cases_lt i (from + n))
+filled_in value from (suc n) xs i low high inside = grind (arith, ⊎_elim, filled_out, slice_set, get_or, get_or-set_same, length-set, cases_eq, cases_lt, filled_in value from n (slice_set xs (from + n) value) i low)

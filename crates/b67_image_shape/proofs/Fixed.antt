@@ -17,12 +17,10 @@ use Rattle.b67_image_shape.proofs.Fits.{same_is, is_same}
 use Rattle.b67_model.specs.declared.limits.TheConstants.{MOST_PARTS}
 
 pub found_number_is : (o : Option ℕ) (n : ℕ) → Decides (found_number o n) (o ≡ Some n)
-found_number_is None n = nothing (λ e. let z : ⊥ = cc in z)
-found_number_is (Some m) n = like (m == n) (ap Some) (same_Some m n) (same_number m n)
+found_number_is o n = grind arith
 
 pub found_word_is : (o : Option Tagged) (w : Tagged) → Decides (found_word o w) (o ≡ Some w)
-found_word_is None w = nothing (λ e. let z : ⊥ = cc in z)
-found_word_is (Some v) w = (λ e. ap Some (same_is v w e), λ e. is_same v w (same_Some v w e))
+found_word_is o w = grind arith
 
 pub word_there : (core : List Tagged) (at : ℕ) (w : Tagged) → Decides (word_is core at w) (slice_get core at ≡ Some w)
 word_there core at w = found_word_is (slice_get core at) w
@@ -63,12 +61,10 @@ dictionaries core stacks at (row ∷ more) = both (dictionary_test core at row) 
 -- ---- slots
 
 free : (core : List Tagged) (base : ℕ) (o : Option TaskRow) → Decides (free_test core base o) (FreeSlot core base o)
-free core base None = word_there core base (word 0 0)
-free core base (Some r) = yes tt
+free core base o = grind arith
 
 room : (size : ℕ) (rows : List JobRow) → Decides (room_test size rows) (SlotsHaveRoom size rows)
-room size [] = yes tt
-room size (row ∷ more) = at_most 64 size
+room size rows = grind arith
 
 pub fixed_decided : FixedWordsAreTested
 fixed_decided k low size =

@@ -55,9 +55,7 @@ module _ (k : Sight) (x : Storage) (critical : List ℕ) (ordered : IsInOrderBut
 
   links : (r : TaskRow) (m : SessionJob) → Has (shown k).jobs m → (t : Task) (ps : List ℕ) → BirthInOrder m.progress.job t ps → r.parent ≡ parent_slot (placed k) m.constants.number ps → r.job ≡ m.constants.number
       → vector_word (placed k) m.constants.number ps ≡ vector_of k.tasks (Some r)
-  links r m hm t [] b ep ej =
-      let none = ap (row_in_slot k.tasks) ep ∙ no_row k x critical ordered holds tables in
-      ap (λ j. word 3 (2 ^ 46 + 1023 * 2 ^ 36 + j * 2 ^ 16)) (sym ej) ∙ ap (λ (o : Option TaskRow). word 3 (2 ^ 46 + link_to o * 2 ^ 36 + r.job * 2 ^ 16)) (sym none)
+  links r m hm t [] b ep ej = grind (arith, no_row)
   links r m hm t (p ∷ above) b ep ej =
       let found = keyed_has (λ (v : Task). v.number) p m.progress.job.tasks b.parent b.found in
       let (q, hq, shq) = tables.each m b.parent hm found.0 in
@@ -83,16 +81,4 @@ module _ (k : Sight) (x : Storage) (critical : List ℕ) (ordered : IsInOrderBut
   free n low None e = (subst (RepresentsSlot k.core k.regs (machine_view (placed k) (shown k).jobs) n) (free_at n e) (holds.memory.slots.slots n low)).1
 
   pub fixed_of : (low size : ℕ) → low ≡ x.low → size ≡ length k.core → FixedFacts k low size
-  fixed_of low size el es =
-      let inside = holds.memory.inside in
-      record {
-        stack_low = room k.jobs (λ y h. h);
-        stack_high = holds.memory.slots.laid.room;
-        begins = el ∙ holds.memory.slots.laid.low;
-        inside = omega (arith, inside, el);
-        all = es;
-        mcp = holds.mcp;
-        dictionaries = follow 1 160 k.jobs (λ y h. h) tables.jobs holds.fits.dictionaries;
-        slots = λ n low. slots n low (row_in_slot k.tasks n) refl;
-        free = λ n low. free n low (row_in_slot k.tasks n) refl;
-      }
+  fixed_of low size el es = grind (arith, room, follow, slots, free)

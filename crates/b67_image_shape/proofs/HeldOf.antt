@@ -42,15 +42,7 @@ pub record HasTail (core : List Tagged) (to x : ℕ) (a : Info) : Type 0 where
 pub has_tail : (core : List Tagged) (b h at : ℕ) (ss : List Span) (x : ℕ) (a : Info) → Laid core b h at ss → AreSpans ss → area_at at ss x ≡ Some a → HasTail core (end at ss) x a
 has_tail core b h at [] x a l s e = absurd (let z : ⊥ = cc in z)
 has_tail core b h at (Hole n ∷ ss) x a l s e = has_tail core at _ (at + n) ss x a l.1 s.2 e
-has_tail core b h at (Area i ∷ ss) x a l s e = elim (eqb_tells (at + 1) x) [
-  | inl q ↦
-      let same : i ≡ a = same_Some i a (subst (λ (t : Bool). (if t then Some i else area_at (at + (i.words + 2)) ss x) ≡ Some a) q.0 e) in
-      let up = end_above (at + (i.words + 2)) ss in
-      let e2 = q.1 in
-      let place : at + (i.words + 1) ≡ x + i.words = omega (arith, e2) in
-      subst (HasTail core (end (at + (i.words + 2)) ss) x) same (record { tail = ap (slice_get core) (sym place) ∙ l.1; info = s.0; below = omega (arith, up, e2) })
-  | inr q ↦ has_tail core b h (at + (i.words + 2)) ss x a l.2 s.1 (subst (λ (t : Bool). (if t then Some i else area_at (at + (i.words + 2)) ss x) ≡ Some a) q.0 e)
-]
+has_tail core b h at (Area i ∷ ss) x a l s e = grind (arith, eqb_tells, same_Some, end_above, has_tail core b h (at + (i.words + 2)) ss x a l.2 s.1)
 
 tail_kept : (w f : ℕ) → w < 2 ^ 20 → f < 2 ^ 20 → (w * 2 ^ 20 + f) / 2 ^ 0 % 2 ^ 20 ≡ f
 tail_kept w f wh fh = omega arith
@@ -64,13 +56,7 @@ pub record Says (w : Tagged) (present : Bool) (n address : ℕ) : Type 0 where
   pub address_is : bits_at w 0 20 ≡ address
 
 home_says : (kd : Kind) (n : ℕ) (h : Location) → n < 2 ^ 20 → address_or h.area h.chain < 2 ^ 20 → Says (home_word_of kd n h) (is_present h.area) n (address_or h.area h.chain)
-home_says kind.Array n h small low =
-    let d = desc_read (home_desc false n h) small low in
-    record { present_is = ap (λ (q : DataDesc). q.present) d; length_is = ap (λ (q : DataDesc). q.length) d; address_is = ap (λ (q : DataDesc). q.address) d }
-home_says kind.Row n h small low =
-    let d = desc_read (home_desc true n h) small low in
-    record { present_is = ap (λ (q : DataDesc). q.present) d; length_is = ap (λ (q : DataDesc). q.length) d; address_is = ap (λ (q : DataDesc). q.address) d }
-home_says kind.Code n h small low = let s = seg_read (is_present h.area) n (address_or h.area h.chain) small low in record { present_is = s.0; length_is = s.1; address_is = s.2 }
+home_says kd n h small low = grind arith
 
 module _ (x : Storage) (core : List Tagged) (r : Regs) (p : MachineView) (stands : Represents x core r p) where
   -- the area of a present object, with its tail
@@ -87,11 +73,7 @@ module _ (x : Storage) (core : List Tagged) (r : Regs) (p : MachineView) (stands
     by (Some at) e h = let (u, hu, home, tail) = area_tail t at e in let low = tail.below in let small = stands.directory.small in omega (arith, low, small)
 
   says : (t : PagedObject) → Has p.objects t → Says (word_seen_at core t.home) (is_present (x.held t.home).area) (length t.numbers) (address_or (x.held t.home).area (x.held t.home).chain)
-  says t there =
-      let q = stands.slots.laid.lengths t there in
-      subst (λ (w : Tagged). Says w (is_present (x.held t.home).area) (length t.numbers) (address_or (x.held t.home).area (x.held t.home).chain))
-      (sym (word_is core t.home (home_word t (x.held t.home)) (stands.objects t there).home))
-      (home_says t.kind (length t.numbers) (x.held t.home) (omega (arith, q)) (address_small t there))
+  says t there = grind (arith, word_is, home_says, address_small)
 
   -- it is held as its descriptor and its area's tail say
   pub location_is : (t : PagedObject) → Has p.objects t → ((location_in core t.home).area ≡ (x.held t.home).area) × ((location_in core t.home).chain ≡ (x.held t.home).chain)

@@ -42,13 +42,8 @@ dictionary_fact core stacks at (r ∷ more) (suc i) row d e = dictionary_fact co
 -- the dictionary of a job, by the place of its row
 pub dictionary_at : (n : ℕ) (rows : List JobRow) (i : ℕ) (row : JobRow) → slice_get rows i ≡ Some row → dictionary_from rows n (n + i) ≡ row.dictionary
 dictionary_at n [] i row e = absurd (let z : ⊥ = cc in z)
-dictionary_at n (r ∷ more) zero row e =
-    let same : r ≡ row = cc in
-    let at : n + 0 ≡ n = omega arith in
-    ap (λ (b : Bool). if b then r.dictionary else dictionary_from more (n + 1) (n + 0)) (eq-eqb (n + 0) n at) ∙ ap (λ (w : JobRow). w.dictionary) same
-dictionary_at n (r ∷ more) (suc i) row e =
-    let at : n + suc i ≡ n + 1 + i = omega arith in
-    ap (λ (b : Bool). if b then r.dictionary else dictionary_from more (n + 1) (n + suc i)) (ne_eqb (n + suc i) n (λ z. omega (arith, z))) ∙ ap (dictionary_from more (n + 1)) at ∙ dictionary_at (n + 1) more i row e
+dictionary_at n (r ∷ more) zero row e = grind arith
+dictionary_at n (r ∷ more) (suc i) row e = grind (arith, ne_eqb, dictionary_at (n + 1) more i row e)
 
 -- what each row's dictionary is, from a number on
 abbrev Dictionaries : Sight → ℕ → List JobRow → Type 0
@@ -93,11 +88,7 @@ module _ (k : Sight) (facts : TableFacts k) (low size : ℕ) (fixed : FixedFacts
 
   -- a row's parent: none, or the task in a slot
   parent : (r : TaskRow) (h : Has k.tasks r) → (o : Option TaskRow) → row_in_slot k.tasks r.parent ≡ o → BornBy r o → (r.parent ≡ parent_slot (placed k) r.job (parents_by k.tasks 15 o)) × (vector_word (placed k) r.job (parents_by k.tasks 15 o) ≡ word 3 (2 ^ 46 + link_to o * 2 ^ 36 + r.job * 2 ^ 16))
-  parent r h None e b = (b.1.0, refl)
-  parent r h (Some p) e b =
-      let f = keyed_has (λ (q : TaskRow). q.slot) r.parent k.tasks p e in
-      let slot : slot_of (placed k) r.job p.number ≡ p.slot = ap (λ j. slot_of (placed k) j p.number) (sym b.0) ∙ slot_is k facts p f.0 in
-      (sym f.1 ∙ sym slot, ap (λ n. word 3 (2 ^ 46 + n * 2 ^ 36 + r.job * 2 ^ 16)) slot)
+  parent r h o e b = grind (arith, keyed_has, slot_is)
 
   -- ---- where a task goes on
 
@@ -105,15 +96,13 @@ module _ (k : Sight) (facts : TableFacts k) (low size : ℕ) (fixed : FixedFacts
   runs r h e =
       let top : top_in k r ≡ top_by k r (base_at k r) true = ap (top_by k r (base_at k r)) (eq-eqb r.slot k.regs.slot e) in
       let some = (task_at k facts (StackFacts k) stacks r h).place.from_one in
-      let is = ap (λ (t : Top). t.segment) top in
-      (omega (arith, some, is), sym (ap (λ (t : Top). t.place) top))
+      grind arith
 
   waits : (r : TaskRow) (h : Has k.tasks r) → r.slot ≢ k.regs.slot → (r.segment ≡ (task_in k (of_row k facts r h).row r.job r).segment + 1) × (r.place ≡ (task_in k (of_row k facts r h).row r.job r).place)
   waits r h ne =
       let top : top_in k r ≡ top_by k r (base_at k r) false = ap (top_by k r (base_at k r)) (ne_eqb r.slot k.regs.slot ne) in
       let some = (task_at k facts (StackFacts k) stacks r h).place.from_one in
-      let is = ap (λ (t : Top). t.segment) top in
-      (omega (arith, some, is), sym (ap (λ (t : Top). t.place) top))
+      grind arith
 
   -- ---- tables
 
@@ -156,17 +145,12 @@ module _ (k : Sight) (facts : TableFacts k) (low size : ℕ) (fixed : FixedFacts
   dictionary_there m hm =
       let r = row_of_member k 1 k.jobs m hm in
       let d = dictionary_fact k.core k.regs.stacks 160 k.jobs (m.constants.number - 1) r.row fixed.dictionaries r.found in
-      let long : r.row.segments + r.row.rows ≡ length m.constants.dictionary.cells = (let w = words_long r.row.rows r.row.segments in let c = ap (λ (y : SessionJob). length y.constants.dictionary.cells) r.is in omega (arith, w, c)) in
-      record { mark = ap (slice_get k.core) r.dictionary ∙ d.mark; entries = ap (λ a. slice_get k.core (a + 1)) r.dictionary ∙ d.entries ∙ ap (λ n. Some (word 0 n)) long }
+      grind (arith, words_long)
 
   home_there : (m : SessionJob) → Has (shown k).jobs m → RowHomes (placed k) m
   home_there m hm n some high =
       let r = row_of_member k 1 k.jobs m hm in
-      let l = (dictionary_lies k.core k.regs.stacks 160 k.jobs (m.constants.number - 1) r.row fixed.dictionaries r.found).few in
-      let w = words_long r.row.rows r.row.segments in
-      let c = ap (λ (y : SessionJob). length y.constants.dictionary.cells) r.is in
-      let s : segments_of k.jobs 1 m.constants.number ≡ length m.constants.segments = r.segments ∙ sym (segments_long k.core (r.row.dictionary + 2) r.row.segments) ∙ ap (λ (y : SessionJob). length y.constants.segments) r.is in
-      home_row k facts m.constants.number n (omega (arith, high, l, w, c)) ∙ ap (λ q. dictionary_from k.jobs 1 m.constants.number + 1 + q + n) s
+      grind (arith, dictionary_lies, words_long, segments_long, home_row)
 
   none_at : (n : ℕ) → ((w : Slotted) → Has (placed k).rows w → w.slot ≢ n) → row_in_slot k.tasks n ≡ None
   none_at n none = find_none (λ (r : TaskRow). r.slot == n) k.tasks (λ r h. ne_eqb r.slot n (none (image r) (has_map image k.tasks r h)))

@@ -45,8 +45,7 @@ module _ (core : List Tagged) (small : WordsAreSmall core) where
   from_small at (suc n) = (word_small at, from_small (at + 1) n)
 
   contents_small : (n at : ℕ) (b : Bool) → AreSmall (contents_by core n at b)
-  contents_small n at true = from_small at n
-  contents_small n at false = zeros n
+  contents_small n at b = grind (arith, from_small, zeros)
 
   segments_small : (at n : ℕ) → AllByRecursion (λ (s : Segment). AreSmall s.code) (segments_from core at n)
   segments_small at zero = tt
@@ -57,23 +56,16 @@ module _ (core : List Tagged) (small : WordsAreSmall core) where
   in_cells owner array [] a h = absurd h
   in_cells owner array (Is w ∷ more) a h = in_cells owner array more a h
   in_cells owner array (Copy c home ∷ more) a h = in_cells owner array more a h
-  in_cells owner array (shapes.Original home ∷ more) a (inl e) =
-      let d = desc_in (word_seen_at core home) in
-      (ap (λ (z : Array). z.writable) (sym e), (ap (λ (z : Array). z.owner) (sym e), subst (λ (z : Array). AreSmall z.numbers) e (contents_small d.length d.address d.present)))
+  in_cells owner array (shapes.Original home ∷ more) a (inl e) = grind (arith, contents_small)
   in_cells owner array (shapes.Original home ∷ more) a (inr h) = in_cells owner array more a h
 
   in_acts : (number : ℕ) → 0 < number → (array : ℕ → ℕ) (acts : List Activation) (a : Array) → Has (arrays_of core number array acts) a → (a.writable ≡ true) × ((a.owner ≢ 1) × AreSmall a.numbers)
   in_acts number some array [] a h = absurd h
-  in_acts number some array (c ∷ below) a h = elim (has_append_cases (arrays_in core (named number (stack_words below + 1)) array c.cells) (arrays_of core number array below) a h) [
-    | inl z ↦ (let q = in_cells (named number (stack_words below + 1)) array c.cells a z in (q.0, ((λ e. (let o = q.1.0 in omega (arith, o, e, some))), q.1.1)))
-    | inr z ↦ in_acts number some array below a z
-  ]
+  in_acts number some array (c ∷ below) a h = grind (arith, has_append_cases, in_cells, in_acts number some array below a)
 
   in_rows : (before n : ℕ) (a : Array) → Has (data_rows core before n) a → (a.writable ≡ false) × ((a.owner ≡ 1) × AreSmall a.numbers)
   in_rows before zero a h = absurd h
-  in_rows before (suc n) a (inl e) =
-      let d = desc_in (word_seen_at core (before + suc n)) in
-      (ap (λ (z : Array). z.writable) (sym e), (ap (λ (z : Array). z.owner) (sym e), subst (λ (z : Array). AreSmall z.numbers) e (contents_small d.length d.address d.present)))
+  in_rows before (suc n) a (inl e) = grind (arith, contents_small)
   in_rows before (suc n) a (inr h) = in_rows before n a h
 
 writes_stack : (a : Array) → a.writable ≡ true → a.owner ≢ 1 → (a.writable ≡ false) ↔ (a.owner ≡ 1)
@@ -94,8 +86,7 @@ segment_of plan j n (s ∷ more) t (inl e) = (s, inl refl, ap (λ (q : PagedObje
 segment_of plan j n (s ∷ more) t (inr h) = let (q, there, kd, e) = segment_of plan j (n + 1) more t h in (q, inr there, kd, e)
 
 array_longest : (b : Bool) → longest (if b then kind.Array else kind.Row) ≡ 2 ^ 16
-array_longest true = refl
-array_longest false = refl
+array_longest b = grind arith
 
 module _ (k : Sight) (facts : TableFacts k) where
   inside : (i : ℕ) (row : JobRow) → slice_get k.jobs i ≡ Some row → (t : PagedObject) → Has (objects_of (placed k) (member_in k row (1 + i))) t → Has (view_in k).objects t

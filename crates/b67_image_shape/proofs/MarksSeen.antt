@@ -30,8 +30,7 @@ MarkAt base xs at = (x : Seen) × Has xs x × (base + x.0.disp ≡ at)
 module _ (base slot f at : ℕ) where
   under : (back : ℕ) (e : Bool) (fits more : ℕ → Bool) (rest : ℕ → List Activation) → ((d : ℕ) → fits d ≡ true → Decides (more d) (MarkAt base (seen_in slot (rest d)) at)) → under_fits base f back e fits ≡ true
       → Decides (marked_under back more) (MarkAt base (seen_in slot (below_by back rest)) at)
-  under zero e fits more rest go t = nothing (λ (x, h, is). absurd h)
-  under (suc d) e fits more rest go t = go (suc d) (both (nat_lt (base + suc d) f) (fits (suc d)) t).1
+  under back e fits more rest go t = grind arith
 
   one : (a : Activation) (below : List Activation) (more : Bool) → base + (stack_words below + 1) ≡ f → Decides more (MarkAt base (seen_in slot below) at) → Decides ((f == at) || more) (MarkAt base (seen_in slot (a ∷ below)) at)
   one a below more e d = like ((f == at) || more) to from (Decides-or (f == at) more (same_number f at) d) where
@@ -44,12 +43,10 @@ module _ (base slot f at : ℕ) where
     from (x, inr h, is) = inr (x, h, is)
 
 record_high : (core : List Tagged) (slot segments level f s : ℕ) (m : Mscw) (e : Bool) → record_fits core slot segments level f s m e ≡ true → f ≤ s
-record_high core slot segments level f s m true t = (let h = ltb-true f s (both (nat_lt f s) _ t).0 in omega (arith, h))
-record_high core slot segments level f s m false t = leb-true f s (both (nat_le f s) _ t).0
+record_high core slot segments level f s m e t = grind arith
 
 head_is : (core : List Tagged) (f s : ℕ) (e : Bool) → is_entered_head (activation_by core f s (mscw_in (word_seen_at core f)) e).head ≡ e
-head_is core f s true = refl
-head_is core f s false = refl
+head_is core f s e = grind arith
 
 module _ (core : List Tagged) (base slot segments : ℕ) where
   -- the walk finds a mark exactly if it is seen
@@ -97,10 +94,7 @@ seen_stack n (a ∷ below) x (inr h) = seen_stack n below x h
 
 pub seen_low : (n : ℕ) (acts : List Activation) (x : Seen) → Has (seen_in n acts) x → x.0.disp ≤ stack_words acts
 seen_low n [] x h = absurd h
-seen_low n (a ∷ below) x (inl e) = (let at : stack_words below + 1 ≡ x.0.disp = ap (λ (y : Seen). y.0.disp) e in by a.head at) where
-  by : (h : Head) → stack_words below + 1 ≡ x.0.disp → x.0.disp ≤ stack_words below + (stack.head_size h + length a.cells)
-  by stack.Marked at = omega (arith, at)
-  by (stack.Entered level environment back) at = omega (arith, at)
+seen_low n (a ∷ below) x (inl e) = grind arith
 seen_low n (a ∷ below) x (inr h) = (let low = seen_low n below x h in omega (arith, low))
 
 -- ---- marks from a displacement down
@@ -120,11 +114,4 @@ from_cut n disp (a ∷ below) x h = elim (eqb_tells (stack_words below + 1) disp
 
 pub from_in : (n disp : ℕ) (acts : List Activation) (x : Seen) → HasDisp n acts disp → Has (seen_in n acts) x → x.0.disp ≤ disp → Has (seen_in n (from_disp disp acts)) x
 from_in n disp [] x d h low = absurd h
-from_in n disp (a ∷ below) x d h low = elim (eqb_tells (stack_words below + 1) disp) [
-  | inl q ↦ subst (λ (b : Bool). Has (seen_in n (if b then a ∷ below else from_disp disp below)) x) (sym q.0) h
-  | inr q ↦ subst (λ (b : Bool). Has (seen_in n (if b then a ∷ below else from_disp disp below)) x) (sym q.0) (past q.1 (λ e g. from_in n disp below x e g low) d h)
-] where
-  past : stack_words below + 1 ≢ disp → (HasDisp n below disp → Has (seen_in n below) x → Has (seen_in n (from_disp disp below)) x) → HasDisp n (a ∷ below) disp → Has (seen_in n (a ∷ below)) x → Has (seen_in n (from_disp disp below)) x
-  past ne go (y, inl e, is) g = absurd (ne (ap (λ (z : Seen). z.0.disp) e ∙ is))
-  past ne go (y, inr hy, is) (inl e) = (let up = seen_low n below y hy in let at : stack_words below + 1 ≡ x.0.disp = ap (λ (z : Seen). z.0.disp) e in absurd (omega (arith, up, at, is, low)))
-  past ne go (y, inr hy, is) (inr hx) = go (y, hy, is) hx
+from_in n disp (a ∷ below) x d h low = grind (arith, eqb_tells, seen_low, from_in n disp below x)

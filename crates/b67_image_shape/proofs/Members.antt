@@ -24,36 +24,8 @@ pub record RowOfMember (k : Sight) (n : ℕ) (rows : List JobRow) (y : SessionJo
 
 pub row_of_member : (k : Sight) (n : ℕ) (rows : List JobRow) (y : SessionJob) → Has (members_from k n rows) y → RowOfMember k n rows y
 row_of_member k n [] y h = absurd h
-row_of_member k n (row ∷ more) y (inl e) =
-    let none : n - n ≡ 0 = omega arith in
-    subst (RowOfMember k n (row ∷ more)) e (record {
-      row = row;
-      there = inl refl;
-      found = ap (slice_get (row ∷ more)) none;
-      is = refl;
-      low = omega arith;
-      high = omega arith;
-      dictionary = ap (λ (b : Bool). if b then row.dictionary else dictionary_from more (n + 1) n) (eq-eqb n n refl);
-      segments = ap (λ (b : Bool). if b then row.segments else segments_of more (n + 1) n) (eq-eqb n n refl);
-      shows = λ plan s. s.0;
-    })
-row_of_member k n (row ∷ more) y (inr h) =
-    let r = row_of_member k (n + 1) more y h in
-    let low = r.low in
-    let high = r.high in
-    let next : y.constants.number - n ≡ suc (y.constants.number - (n + 1)) = omega (arith, low) in
-    let other = ne_eqb y.constants.number n (λ e. omega (arith, e, low)) in
-    record {
-      row = r.row;
-      there = inr r.there;
-      found = ap (slice_get (row ∷ more)) next ∙ r.found;
-      is = r.is;
-      low = omega (arith, low);
-      high = omega (arith, high);
-      dictionary = ap (λ (b : Bool). if b then row.dictionary else dictionary_from more (n + 1) y.constants.number) other ∙ r.dictionary;
-      segments = ap (λ (b : Bool). if b then row.segments else segments_of more (n + 1) y.constants.number) other ∙ r.segments;
-      shows = λ plan s. r.shows plan s.1;
-    }
+row_of_member k n (row ∷ more) y (inl e) = grind arith
+row_of_member k n (row ∷ more) y (inr h) = grind (arith, ne_eqb, row_of_member k (n + 1) more y h)
 
 pub member_numbered : (k : Sight) (n : ℕ) (rows : List JobRow) → NumberedFrom n (members_from k n rows)
 member_numbered k n [] = tt
@@ -72,10 +44,5 @@ row_in (q ∷ more) r differ (inr there) = rw (ne_eqb q.slot r.slot (λ e. diffe
 -- the job of a row
 pub row_there : (k : Sight) (n : ℕ) (rows : List JobRow) (i : ℕ) (row : JobRow) → slice_get rows i ≡ Some row → Has (members_from k n rows) (member_in k row (n + i))
 row_there k n [] i row e = absurd (let z : ⊥ = cc in z)
-row_there k n (r ∷ more) zero row e =
-    let same : r ≡ row = cc in
-    let at : n ≡ n + 0 = omega arith in
-    inl (ap (λ q. member_in k q n) same ∙ ap (member_in k row) at)
-row_there k n (r ∷ more) (suc i) row e =
-    let at : n + 1 + i ≡ n + suc i = omega arith in
-    inr (subst (λ j. Has (members_from k (n + 1) more) (member_in k row j)) at (row_there k (n + 1) more i row e))
+row_there k n (r ∷ more) zero row e = grind arith
+row_there k n (r ∷ more) (suc i) row e = grind (arith, row_there k (n + 1) more i row e)

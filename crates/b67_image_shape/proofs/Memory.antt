@@ -60,24 +60,13 @@ module _ (plan : Placement) (j : ℕ) (job : Job) (objects : List PagedObject) (
   IsNamed a = (c : Copied) (home : ℕ) → a ≡ Copy c home → IsArrayAt objects home
 
   named_array : (reach : List Known) (a : ℕ) → NamesArray job.arrays reach a → IsArrayAt objects (plan.home j a)
-  named_array reach a n = (array_object plan j n.item, inside n.item n.live, ap (plan.home j) n.named, plain n.item.writable) where
-    plain : (b : Bool) → (if b then kind.Array else kind.Row) ≢ kind.Code
-    plain true e = let z : ⊥ = cc in z
-    plain false e = let z : ⊥ = cc in z
+  named_array reach a n = grind arith
 
   at_home : (reach : List Known) (a : ℕ) (d c : Copied) (home : ℕ) → NamesArray job.arrays reach a → Copy d (plan.home j a) ≡ Copy c home → IsArrayAt objects home
   at_home reach a d c home n e = (let same : plan.home j a ≡ home = cc in subst (IsArrayAt objects) same (named_array reach a n))
 
   word_named : (P : Starts) (reach : List Known) (owner : ℕ) (spot : ℕ → StackPlace) (w : Word) → WordInOrder P job.arrays reach owner w → IsNamed (shape plan j job spot w)
-  word_named P reach owner spot (Operand bits) o c home e = absurd (let z : ⊥ = cc in z)
-  word_named P reach owner spot (Name couple) o c home e = absurd (let z : ⊥ = cc in z)
-  word_named P reach owner spot (Ref i f) o c home e = absurd (let z : ⊥ = cc in z)
-  word_named P reach owner spot (Row a) o c home e = at_home reach a (record { index = None; read_only = not (array job a).writable }) c home o e
-  word_named P reach owner spot (Element a i) o c home e = at_home reach a (record { index = Some i; read_only = not (array job a).writable }) c home o e
-  word_named P reach owner spot (Original a) o c home e = absurd (let z : ⊥ = cc in z)
-  word_named P reach owner spot (Proc s l p) o c home e = absurd (let z : ⊥ = cc in z)
-  word_named P reach owner spot (Intrinsic n) o c home e = absurd o
-  word_named P reach owner spot (Words.Segment n) o c home e = absurd o
+  word_named P reach owner spot w o c home e = grind arith
 
   cells_named : (P : Starts) (reach : List Known) (owner : ℕ) (spot : ℕ → StackPlace) (ws : List Word) → AllByRecursion (WordInOrder P job.arrays reach owner) ws → (c : Copied) (home : ℕ) → Has (map (shape plan j job spot) ws) (Copy c home) → IsArrayAt objects home
   cells_named P reach owner spot [] o c home h = absurd h
@@ -85,11 +74,7 @@ module _ (plan : Placement) (j : ℕ) (job : Job) (objects : List PagedObject) (
   cells_named P reach owner spot (w ∷ ws) o c home (inr h) = cells_named P reach owner spot ws o.1 c home h
 
   under_head : (k : ℕ) (h : Head) (below : List Activation) (under : List Shape) (c : Copied) (home : ℕ) → Has (headed k h below under) (Copy c home) → Has under (Copy c home)
-  under_head k stack.Marked below under c home (inl e) = absurd (let z : ⊥ = cc in z)
-  under_head k stack.Marked below under c home (inr h) = h
-  under_head k (stack.Entered level environment back) below under c home (inl e) = absurd (let z : ⊥ = cc in z)
-  under_head k (stack.Entered level environment back) below under c home (inr (inl e)) = absurd (let z : ⊥ = cc in z)
-  under_head k (stack.Entered level environment back) below under c home (inr (inr h)) = h
+  under_head k h below under c home e = grind arith
 
   pub copies_name : (P : Starts) (k : ℕ) (outer : ℕ → StackPlace) (reach : List Known) (fs : List Frame) → FramesInOrder P job.arrays reach fs → CopiesName objects (words k (activations plan j job k outer fs))
   copies_name P k outer reach [] o c home h = absurd h
@@ -125,11 +110,7 @@ module _ (k : Sight) (facts : TableFacts k) (low size : ℕ) (fixed : FixedFacts
   in_dictionary : (t : PagedObject) → InDictionary k t → (160 ≤ t.home) × (t.home < k.regs.stacks)
   in_dictionary t s =
       let l = lies t s in
-      let a = l.low in
-      let b = l.high in
-      let c = s.home in
-      let d = s.high in
-      (omega (arith, a, c), omega (arith, b, c, d))
+      grind arith
 
   pub short : (r : TaskRow) → Has k.tasks r → stack_words (stack_of_row k r) < k.regs.stack_size
   short r h = (task_at k facts (StackFacts k) stacks r h).fits.fits
@@ -140,9 +121,7 @@ module _ (k : Sight) (facts : TableFacts k) (low size : ℕ) (fixed : FixedFacts
       let h = s.high in
       let q = short s.r s.there in
       let slot = (row_fact k facts s.r s.there).slot in
-      let b = base-apart (view_in k) s.r.slot k.regs.peak slot in
-      let l = fixed.begins in
-      (omega (arith, e), omega (arith, e, h, q, b, l))
+      grind (arith, base-apart)
 
   -- ---- what the view keeps by itself
 
@@ -248,8 +227,7 @@ module _ (k : Sight) (facts : TableFacts k) (low size : ℕ) (fixed : FixedFacts
       )
 
   if_fits : (n : ℕ) (b : Bool) (st : List Activation) → IsStack k.regs.stack_size st × CopiesName (view_in k).objects (words n st) → SlotFits (view_in k) n (if b then Running st else Waiting st)
-  if_fits n true st f = f
-  if_fits n false st f = f
+  if_fits n b st f = grind arith
 
   slots_fit : (n : ℕ) (o : Option TaskRow) → row_in_slot k.tasks n ≡ o → SlotFits (view_in k) n (slot_at (placed k) (shown k).jobs n)
   slots_fit n None e = subst (SlotFits (view_in k) n) (sym (slot_free k facts n e)) tt
@@ -259,48 +237,25 @@ module _ (k : Sight) (facts : TableFacts k) (low size : ℕ) (fixed : FixedFacts
       (subst (SlotFits (view_in k) r.slot) (sym (slot_live k facts r f.0)) (if_fits r.slot (r.slot == k.regs.slot) _ (stack_fits r f.0)))
 
   pub laid : IsLaidOut low (view_in k)
-  laid = record {
-    low = fixed.begins;
-    first = dictionaries_low k.core k.regs.stacks 160 k.jobs fixed.dictionaries;
-    room = fixed.stack_high;
-    slots = λ n less. slots_fit n (row_in_slot k.tasks n) refl;
-    homes = homes;
-    codes = codes;
-    differ = differ;
-    not_base = not_base;
-    lengths = lengths;
-  }
+  laid = grind (arith, dictionaries_low, slots_fit, homes, codes, differ, not_base, lengths)
 
   -- ---- tops and words
 
   free_slot : (n : ℕ) → n < 120 → row_in_slot k.tasks n ≡ None → k.regs.slot ≢ n
-  free_slot n less none e = by (slice_get k.tasks k.counts.running) refl facts.counts.running where
-    by : (o : Option TaskRow) → slice_get k.tasks k.counts.running ≡ o → RunningRow (placed k) o k.counts.running → ⊥
-    by None f run = (let z = run.1 in omega (arith, z, e, less))
-    by (Some q) f run =
-        let hq = has_get k.tasks k.counts.running q f in
-        let found = found_row k facts q hq in
-        let no = sym (ap (row_in_slot k.tasks) (run.1 ∙ e) ∙ none) ∙ found in
-        let z : ⊥ = cc in z
+  free_slot n less none e = grind (arith, has_get, found_row)
 
   rep_if : (r : TaskRow) (st : List Activation) → TopFacts k r st → (b : Bool) → (r.slot == k.regs.slot) ≡ b → RepresentsSlot k.core k.regs (view_in k) r.slot (if b then Running st else Waiting st)
-  rep_if r st t true e = t.runs (eqb-true r.slot k.regs.slot e)
-  rep_if r st t false e = let ne : r.slot ≢ k.regs.slot = λ z. (let yes = eq-eqb r.slot k.regs.slot z in let q : ⊥ = cc in q) in ((λ z. ne (sym z)), t.waits ne)
+  rep_if r st t b e = grind arith
 
   slots_are : (n : ℕ) → n < k.regs.peak → (o : Option TaskRow) → row_in_slot k.tasks n ≡ o → RepresentsSlot k.core k.regs (view_in k) n (slot_at (placed k) (shown k).jobs n)
-  slots_are n less None e =
-      let peak = facts.peak in
-      subst (RepresentsSlot k.core k.regs (view_in k) n) (sym (slot_free k facts n e)) (free_slot n (omega (arith, less, peak)) e, subst (FreeSlot k.core (k.regs.stacks + n * k.regs.stack_size)) e (fixed.free n less))
+  slots_are n less None e = grind (arith, slot_free, free_slot)
   slots_are n less (Some r) e =
       let f = keyed_has (λ (q : TaskRow). q.slot) n k.tasks r e in
       let s = task_at k facts (StackFacts k) stacks r f.0 in
-      let c = task_at k facts (CellFacts k) cells r f.0 in
-      subst (λ i. RepresentsSlot k.core k.regs (view_in k) i (slot_at (placed k) (shown k).jobs i)) f.1
-      (subst (RepresentsSlot k.core k.regs (view_in k) r.slot) (sym (slot_live k facts r f.0)) (rep_if r _ (subst (TopFacts k r) (sym c.same) s.top) (r.slot == k.regs.slot) refl))
+      grind (arith, task_at, slot_live, rep_if)
 
   stack_if : (b : Bool) (st : List Activation) → stack_of (if b then Running st else Waiting st) ≡ st
-  stack_if true st = refl
-  stack_if false st = refl
+  stack_if b st = grind arith
 
   -- the stack in the slot of a live task is the one that was read
   pub stack_there : (r : TaskRow) → Has k.tasks r → stack_of (slot_at (placed k) (shown k).jobs r.slot) ≡ stack_of_row k r
@@ -335,34 +290,23 @@ module _ (k : Sight) (facts : TableFacts k) (low size : ℕ) (fixed : FixedFacts
     x = storage_with k low shelf
 
     small_by : (core : List Tagged) (w : Tagged) (b : Bool) → (location_by core w b).chain < 2 ^ 20
-    small_by core w true = bits_small (word_seen_at core (bits_at w 0 20 + bits_at w 20 20)).bits
-    small_by core w false = bits_small w.bits
+    small_by core w b = grind arith
 
     small : (home : ℕ) → (held_of k home).chain < 2 ^ 20
-    small home = by (list_any (is_home_of home) (view_in k).objects) where
-      by : (b : Bool) → (if b then location_in k.core home else nowhere).chain < 2 ^ 20
-      by true = small_by k.core (word_seen_at k.core home) (is_set (word_seen_at k.core home) 47)
-      by false = omega arith
+    small home = grind arith
 
     has_chain : (t : PagedObject) → HasChainSectors shelf t (held_of k t.home).chain → ObjectHasChain x t (held_of k t.home).chain
     has_chain t h = record { some = h.0; small = small t.home; sectors = h.1 }
 
     kept : (t : PagedObject) (kd : Kind) → Chained shelf t kd (held_of k t.home).chain → KeptChain x t kd (held_of k t.home).chain
-    kept t kind.Array (inl z) = inl z
-    kept t kind.Array (inr h) = inr (has_chain t h)
-    kept t kind.Row h = record { chain = has_chain t h; told = tt }
-    kept t kind.Code h = record { chain = has_chain t h; told = tt }
+    kept t kd h = grind arith
 
     absent : (t : PagedObject) (kd : Kind) → t.kind ≡ kd → AreZero t.numbers → Chained shelf t kd (held_of k t.home).chain → Content x k.core t None (held_of k t.home).chain
-    absent t kind.Array e z (inl n) = inr (n, e, z)
-    absent t kind.Array e z (inr h) = inl (record { chain = has_chain t h; told = tt })
-    absent t kind.Row e z h = inl (record { chain = has_chain t h; told = tt })
-    absent t kind.Code e z h = inl (record { chain = has_chain t h; told = tt })
+    absent t kd e z h = grind arith
 
     -- an absent object is shown with zeros
     zero_by : (core : List Tagged) (home : ℕ) (b : Bool) → (location_by core (word_seen_at core home) b).area ≡ None → AreZero (contents_by core (desc_in (word_seen_at core home)).length (desc_in (word_seen_at core home)).address b)
-    zero_by core home true e = absurd (let z : ⊥ = cc in z)
-    zero_by core home false e = zeros (desc_in (word_seen_at core home)).length
+    zero_by core home b e = grind (arith, zeros)
 
     there_held : (t : PagedObject) → Has (view_in k).objects t → held_of k t.home ≡ location_in k.core t.home
     there_held t h = ap (λ (b : Bool). if b then location_in k.core t.home else nowhere) (any_some (is_home_of t.home) (view_in k).objects t h (eq-eqb t.home t.home refl))
@@ -371,26 +315,10 @@ module _ (k : Sight) (facts : TableFacts k) (low size : ℕ) (fixed : FixedFacts
     are_zero t h e = subst AreZero (sym (from t h).numbers) (zero_by k.core t.home (is_set (word_seen_at k.core t.home) 47) (ap (λ (l : Location). l.area) (sym (there_held t h)) ∙ e))
 
     content : (t : PagedObject) → Has (view_in k).objects t → (o : Option ℕ) → (held_of k t.home).area ≡ o → Content x k.core t o (held_of k t.home).chain
-    content t h None e = absent t t.kind refl (are_zero t h e) (chained t h)
-    content t h (Some at) e = ((objects.objects t h).words at e, kept t t.kind (chained t h))
+    content t h o e = grind (arith, absent, are_zero, kept)
 
     of_held : (home at : ℕ) → (held_of k home).area ≡ Some at → (t : PagedObject) × Has (view_in k).objects t × (t.home ≡ home) × (area_at low (spans_of k.core low) at ≡ Some (info_seen k t))
-    of_held home at e = by (cases_Bool (list_any (is_home_of home) (view_in k).objects)) where
-      by : (list_any (is_home_of home) (view_in k).objects ≡ true) ⊎ (list_any (is_home_of home) (view_in k).objects ≡ false) → (t : PagedObject) × Has (view_in k).objects t × (t.home ≡ home) × (area_at low (spans_of k.core low) at ≡ Some (info_seen k t))
-      by (inl t) =
-          let (u, hu, is) = any_has (is_home_of home) (view_in k).objects t in
-          let same = eqb-true u.home home is in
-          (u, hu, same, areas.present u at hu (ap (λ i. (held_of k i).area) same ∙ e))
-      by (inr f) =
-          let none = ap (λ (b : Bool). (if b then location_in k.core home else nowhere).area) f in
-          absurd (let w = sym none ∙ e in let z : ⊥ = cc in z)
+    of_held home at e = grind (arith, cases_Bool, any_has, eqb-true)
 
     pub memory : Represents (storage_with k low shelf) k.core k.regs (view_in k)
-    memory = record {
-      slots = record { laid = laid; regs = record { stacks = refl; size = refl; peak = refl }; slots = λ n less. slots_are n less (row_in_slot k.tasks n) refl };
-      stacks = λ n less. words_lie n (row_in_slot k.tasks n) refl;
-      objects = λ t h. record { home = (objects.objects t h).home; content = content t h (held_of k t.home).area refl };
-      owned = record { of_area = areas.owned; of_held = of_held; of_chain = chain_owned; no_zero = no_zero table shelf is; one_chain = chain_once };
-      directory = areas.directory;
-      inside = fixed.inside;
-    }
+    memory = grind (arith, laid, slots_are, words_lie, content, of_held, no_zero)

@@ -39,8 +39,7 @@ names_append array (Copy c home ∷ more) ys = names_append array more ys
 names_append array (shapes.Original home ∷ more) ys = ap (λ ns. array home ∷ ns) (names_append array more ys)
 
 names_head : (array : ℕ → ℕ) (k : ℕ) (h : Head) (below : List Activation) (under : List Shape) → names_in array (headed k h below under) ≡ names_in array under
-names_head array k stack.Marked below under = refl
-names_head array k (stack.Entered level environment back) below under = refl
+names_head array k h below under = grind arith
 
 cells_named : (core : List Tagged) (owner : ℕ) (array : ℕ → ℕ) (cells : List Shape) → map (λ (a : Array). a.identity) (arrays_in core owner array cells) ≡ names_in array cells
 cells_named core owner array [] = refl
@@ -50,20 +49,14 @@ cells_named core owner array (shapes.Original home ∷ more) = ap (λ ns. array 
 
 pub arrays_named : (core : List Tagged) (slot number : ℕ) (array : ℕ → ℕ) (acts : List Activation) → map (λ (a : Array). a.identity) (arrays_of core number array acts) ≡ names_in array (words slot acts)
 arrays_named core slot number array [] = refl
-arrays_named core slot number array (a ∷ below) =
-    map-append (λ (a : Array). a.identity) (arrays_in core (named number (stack_words below + 1)) array a.cells) (arrays_of core number array below)
-    ∙ ap (λ ns. ns ++ map (λ (a : Array). a.identity) (arrays_of core number array below)) (cells_named core (named number (stack_words below + 1)) array a.cells)
-    ∙ ap (λ ns. names_in array a.cells ++ ns) (arrays_named core slot number array below ∙ sym (names_head array slot a.head below (words slot below)))
-    ∙ sym (names_append array a.cells (headed slot a.head below (words slot below)))
+arrays_named core slot number array (a ∷ below) = grind (arith, map-append, cells_named, names_head, names_append, arrays_named core slot number array below)
 
 -- they fall, where an original's name is its task's number and its displacement
 pub names_fall : (held : Locations) (core : List Tagged) (base number : ℕ) (array : ℕ → ℕ) (room : ℕ) → ((d : ℕ) → d < room → array (base + d) ≡ named number d) → (xs : List Shape) → length xs < room → LieDownward (Fits held) core (suc base) xs
     → Falls (named number (length xs + 1)) (names_in array xs) × ((n : ℕ) → Has (names_in array xs) n → named number 0 ≤ n)
 names_fall held core base number array room name [] short l = (tt, λ n h. absurd h)
-names_fall held core base number array room name (Is w ∷ more) short l =
-    let r = names_fall held core base number array room name more (omega (arith, short)) l.1 in (falls_more (named number (length more + 1)) (named number (suc (length more) + 1)) (names_in array more) (omega arith) r.0, r.1)
-names_fall held core base number array room name (Copy c home ∷ more) short l =
-    let r = names_fall held core base number array room name more (omega (arith, short)) l.1 in (falls_more (named number (length more + 1)) (named number (suc (length more) + 1)) (names_in array more) (omega arith) r.0, r.1)
+names_fall held core base number array room name (Is w ∷ more) short l = grind (arith, falls_more, names_fall held core base number array room name more)
+names_fall held core base number array room name (Copy c home ∷ more) short l = grind (arith, falls_more, names_fall held core base number array room name more)
 names_fall held core base number array room name (shapes.Original home ∷ more) short l =
     let r = names_fall held core base number array room name more (omega (arith, short)) l.1 in
     let at = l.0.2.0 in
@@ -100,25 +93,15 @@ abbrev has_name : ℕ → Array → Bool
 has_name i a = a.identity == i
 
 no_original : (i : ℕ) (frame : StackPlace → ℕ) (w : Tagged) (a b c : Bool) → is_original_of i (plain_by w frame a b c) ≡ false
-no_original i frame w true b c = refl
-no_original i frame w false true c = elim (is_set w 46) as (λ b. is_original_of i (reference_by w frame b) ≡ false) [ true ↦ refl | false ↦ refl ]
-no_original i frame w false false true = refl
-no_original i frame w false false false = refl
+no_original i frame w a b c = grind arith
 
 no_copy : (i a : ℕ) (o : Option ℕ) → is_original_of i (copy_by o a) ≡ false
-no_copy i a None = refl
-no_copy i a (Some n) = refl
+no_copy i a o = grind arith
 
 cells_count : (i : ℕ) (core : List Tagged) (owner : ℕ) (frame : StackPlace → ℕ) (array : ℕ → ℕ) (cells : List Shape) → how_many (is_original_of i) (map (word_seen frame array) cells) ≡ how_many (has_name i) (arrays_in core owner array cells)
 cells_count i core owner frame array [] = refl
-cells_count i core owner frame array (Is w ∷ more) =
-    let rest = cells_count i core owner frame array more in
-    ap (λ (b : Bool). (if b then 1 else 0) + how_many (is_original_of i) (map (word_seen frame array) more)) (no_original i frame w (w.tag == 0) (w.tag == 1) (w.tag == 7))
-    ∙ (let z : 0 + how_many (is_original_of i) (map (word_seen frame array) more) ≡ how_many (has_name i) (arrays_in core owner array more) = omega (arith, rest) in z)
-cells_count i core owner frame array (Copy c home ∷ more) =
-    let rest = cells_count i core owner frame array more in
-    ap (λ (b : Bool). (if b then 1 else 0) + how_many (is_original_of i) (map (word_seen frame array) more)) (no_copy i (array home) c.index)
-    ∙ (let z : 0 + how_many (is_original_of i) (map (word_seen frame array) more) ≡ how_many (has_name i) (arrays_in core owner array more) = omega (arith, rest) in z)
+cells_count i core owner frame array (Is w ∷ more) = grind (arith, no_original, cells_count i core owner frame array more)
+cells_count i core owner frame array (Copy c home ∷ more) = grind (arith, no_copy, cells_count i core owner frame array more)
 cells_count i core owner frame array (shapes.Original home ∷ more) = ap (λ n. (if array home == i then 1 else 0) + n) (cells_count i core owner frame array more)
 
 frames_count : (i : ℕ) (core : List Tagged) (number : ℕ) (frame : StackPlace → ℕ) (array : ℕ → ℕ) (acts : List Activation) → originals_in i (frames_of number frame array acts) ≡ how_many (has_name i) (arrays_of core number array acts)
@@ -131,11 +114,7 @@ frames_count i core number frame array (a ∷ below) =
 pub tasks_count : (i : ℕ) (k : Sight) (row : JobRow) (j : ℕ) (rs : List TaskRow) → total (λ (t : Task). originals_in i t.frames) (map (task_in k row j) rs)
     ≡ how_many (has_name i) (flat_map (λ (r : TaskRow). arrays_of k.core r.number (array_homed k.regs k.tasks row) (stack_of_row k r)) rs)
 tasks_count i k row j [] = refl
-tasks_count i k row j (r ∷ more) =
-    let here = arrays_of k.core r.number (array_homed k.regs k.tasks row) (stack_of_row k r) in
-    ap (λ n. n + total (λ (t : Task). originals_in i t.frames) (map (task_in k row j) more)) (frames_count i k.core r.number (frame_seen k.tasks j) (array_homed k.regs k.tasks row) (stack_of_row k r))
-    ∙ ap (λ n. how_many (has_name i) here + n) (tasks_count i k row j more)
-    ∙ sym (total_append (λ (b : Array). if has_name i b then 1 else 0) (arrays_of k.core r.number (array_homed k.regs k.tasks row) (stack_of_row k r)) (flat_map (λ (r : TaskRow). arrays_of k.core r.number (array_homed k.regs k.tasks row) (stack_of_row k r)) more))
+tasks_count i k row j (r ∷ more) = grind (arith, frames_count, total_append, tasks_count i k row j more)
 
 segments_count : (i n : ℕ) → how_many (is_original_of i) (segment_cells n) ≡ 0
 segments_count i zero = refl
@@ -149,18 +128,13 @@ entries_count i core before (suc n) segments = ap (λ m. (if suc n == i then 1 e
 pub name_once : (b : ℕ) (xs : List Array) (a : Array) → Falls b (map (λ (a : Array). a.identity) xs) → Has xs a → how_many (has_name a.identity) xs ≡ 1
 name_once b xs a f h =
     let few = (falls_once (λ (a : Array). a.identity) a.identity b xs f).1 in
-    let one : ◌≡◌ {A = ℕ} (if a.identity == a.identity then 1 else 0) 1 = ap (λ (t : Bool). if t then 1 else 0) (eq-eqb a.identity a.identity refl) in
-    let some = total_has (λ (c : Array). if has_name a.identity c then 1 else 0) xs a h in
-    omega (arith, few, one, some)
+    grind (arith, eq-eqb, total_has)
 
 -- ---- frames
 
 frames_fall : (number : ℕ) (frame : StackPlace → ℕ) (array : ℕ → ℕ) (acts : List Activation) → Falls (named number (stack_words acts + 1)) (map (λ (f : Frame). f.identity) (frames_of number frame array acts))
 frames_fall number frame array [] = tt
-frames_fall number frame array (a ∷ below) = (by a.head, frames_fall number frame array below) where
-  by : (h : Head) → named number (stack_words below + 1) < named number (stack_words below + (head_size h + length a.cells) + 1)
-  by stack.Marked = omega arith
-  by (stack.Entered level environment back) = omega arith
+frames_fall number frame array (a ∷ below) = grind (arith, frames_fall number frame array below)
 
 -- a frame of a name is of the task of that number
 frames_low : (i : ℕ) (k : Sight) (row : JobRow) (j : ℕ) (r : TaskRow) → stack_words (stack_of_row k r) < 2 ^ 14 → frames_named i (task_in k row j r).frames ≤ (if r.number == i / 2 ^ 14 then 1 else 0)
@@ -178,7 +152,4 @@ frames_low i k row j r short = elim (eqb_tells r.number (i / 2 ^ 14)) [
 pub frames_few : (i : ℕ) (k : Sight) (row : JobRow) (j : ℕ) (rs : List TaskRow) → ((r : TaskRow) → Has rs r → stack_words (stack_of_row k r) < 2 ^ 14)
     → total (λ (t : Task). frames_named i t.frames) (map (task_in k row j) rs) ≤ how_many (λ (r : TaskRow). r.number == i / 2 ^ 14) rs
 frames_few i k row j [] short = omega arith
-frames_few i k row j (r ∷ more) short =
-    let here = frames_low i k row j r (short r (inl refl)) in
-    let rest = frames_few i k row j more (λ q h. short q (inr h)) in
-    omega (arith, here, rest)
+frames_few i k row j (r ∷ more) short = grind (arith, frames_low, frames_few i k row j more)

@@ -22,15 +22,12 @@ use Rattle.b67_image_shape.specs.NearStacks.{NearStacksSuffice, StacksAreNear}
 use Rattle.b67_image_shape.proofs.Rows.{of_row}
 use Rattle.b67_image_shape.proofs.EachTask.{each_task, task_at}
 use Rattle.b67_image_shape.proofs.ObjectMarks.{held_at}
+use Rattle.std.proofs.Common.{arith}
 
 -- ---- words of shapes that are held otherwise
 
 copy_held : (a b : Locations) (c : Copied) (home : ℕ) (w : Tagged) → ((at : ℕ) → (a home).area ≡ Some at → (b home).area ≡ Some at) → IsCopy a c home w → IsCopy b c home w
-copy_held a b c home w same i = record { number = i.number; numbered = i.numbered; present = i.present; address = i.address; fits = i.fits; is = i.is; to = go i.present i.address i.to }
-  where
-    go : (present : Bool) (address : ℕ) → MatchBool present ((a home).area ≡ Some address) (address ≡ home) → MatchBool present ((b home).area ≡ Some address) (address ≡ home)
-    go true address e = same address e
-    go false address e = e
+copy_held a b c home w same i = grind arith
 
 fits_held : (a b : Locations) (x : Shape) (at : ℕ) (w : Tagged) → ((c : Copied) (home : ℕ) → x ≡ Copy c home → (n : ℕ) → (a home).area ≡ Some n → (b home).area ≡ Some n) → Fits a x at w → Fits b x at w
 fits_held a b (Is v) at w same f = f
@@ -72,24 +69,16 @@ module _ (P : Starts) (plan : Placement) (j : ℕ) (job : Job) (arrays : List Ar
   ArrayAt home = (a : Array) × Has arrays a × (plan.home j a.identity ≡ home)
 
   copied : (reach : List Known) (owner : ℕ) (spot : ℕ → StackPlace) (index : Option ℕ) (c : Copied) (home : ℕ) → WordInOrder P arrays reach owner (copy_by index (array home)) → shape plan j job spot (copy_by index (array home)) ≡ Copy c home → ArrayAt home
-  copied reach owner spot None c home w e = (w.item, w.live, ap (plan.home j) w.named ∙ ap home_in e)
-  copied reach owner spot (Some index) c home w e = (w.item, w.live, ap (plan.home j) w.named ∙ ap home_in e)
+  copied reach owner spot index c home w e = grind arith
 
   cell_copy : (reach : List Known) (owner : ℕ) (spot : ℕ → StackPlace) (cells : List Shape) → AllByRecursion (WordInOrder P arrays reach owner) (map (word_seen frame array) cells) → map (shape plan j job spot) (map (word_seen frame array) cells) ≡ cells
       → (c : Copied) (home : ℕ) → Has cells (Copy c home) → ArrayAt home
   cell_copy reach owner spot [] all e c home h = absurd h
   cell_copy reach owner spot (x ∷ more) all e c home (inr h) = cell_copy reach owner spot more all.1 (ap shapes_below e) c home h
-  cell_copy reach owner spot (x ∷ more) all e c home (inl is) =
-      let w = subst (λ (y : Shape). WordInOrder P arrays reach owner (word_seen frame array y)) is all.0 in
-      let s : shape plan j job spot (word_seen frame array (Copy c home)) ≡ Copy c home = subst (λ (y : Shape). shape plan j job spot (word_seen frame array y) ≡ y) is (ap first_shape e) in
-      copied reach owner spot c.index c home w s
+  cell_copy reach owner spot (x ∷ more) all e c home (inl is) = grind arith
 
   head_copy : (k : ℕ) (h : Head) (below : List Activation) (under : List Shape) (c : Copied) (home : ℕ) → Has (headed k h below under) (Copy c home) → Has under (Copy c home)
-  head_copy k stack.Marked below under c home (inl e) = absurd (let z : ⊥ = cc in z)
-  head_copy k stack.Marked below under c home (inr h) = h
-  head_copy k (stack.Entered level environment back) below under c home (inl e) = absurd (let z : ⊥ = cc in z)
-  head_copy k (stack.Entered level environment back) below under c home (inr (inl e)) = absurd (let z : ⊥ = cc in z)
-  head_copy k (stack.Entered level environment back) below under c home (inr (inr h)) = h
+  head_copy k h below under c home e = grind arith
 
   copy_array : (outer : List Known) (k slot number : ℕ) (spots : ℕ → StackPlace) (acts : List Activation) → FramesInOrder P arrays outer (frames_of number frame array acts) → activations plan j job k spots (frames_of number frame array acts) ≡ acts
       → (c : Copied) (home : ℕ) → Has (words slot acts) (Copy c home) → ArrayAt home
@@ -103,13 +92,7 @@ module _ (P : Starts) (plan : Placement) (j : ℕ) (job : Job) (arrays : List Ar
 
 module _ (k : Sight) (facts : TableFacts k) where
   no_object : (home n : ℕ) → (held_of k home).area ≡ Some n → (location_in k.core home).area ≡ Some n
-  no_object home n e = ⊎_elim
-      (λ (t : list_any (is_home_of home) (view_in k).objects ≡ true). sym (ap (λ (b : Bool). (if b then location_in k.core home else Shapes.nowhere).area) t) ∙ e)
-      (λ (t : list_any (is_home_of home) (view_in k).objects ≡ false). absurd (let q = sym (ap (λ (b : Bool). (if b then location_in k.core home else Shapes.nowhere).area) t) ∙ e in none n q))
-      (cases_Bool (list_any (is_home_of home) (view_in k).objects))
-    where
-      none : (n : ℕ) → ◌≡◌ {A = Option ℕ} None (Some n) → ⊥
-      none n q = (let z : ⊥ = cc in z)
+  no_object home n e = grind arith
 
   near_stack : (r : TaskRow) (h : Has k.tasks r) → StackFactsBy (location_in k.core) k (of_row k facts r h).row r.job r → CellFacts k (of_row k facts r h).row r.job r → StackFacts k (of_row k facts r h).row r.job r
   near_stack r h s cells = record {

@@ -30,38 +30,20 @@ use Rattle.b67_image_shape.proofs.ObjectWords.{there, made_again, contents_lengt
 any_home : (objects : List PagedObject) (t : PagedObject) → Has objects t → list_any (is_home_of t.home) objects ≡ true
 any_home [] t h = absurd h
 any_home (u ∷ more) t (inl e) = ap (λ b. b || list_any (is_home_of t.home) more) (eq-eqb u.home t.home (ap (λ (v : PagedObject). v.home) e))
-any_home (u ∷ more) t (inr h) = ap (λ b. is_home_of t.home u || b) (any_home more t h) ∙ or_true (is_home_of t.home u)
-  where
-    or_true : (b : Bool) → (b || true) ≡ true
-    or_true true = refl
-    or_true false = refl
+any_home (u ∷ more) t (inr h) = grind (arith, any_home more t h)
 
 pub held_at : (core : List Tagged) (objects : List PagedObject) (t : PagedObject) → Has objects t → held_by_objects core objects t.home ≡ location_in core t.home
 held_at core objects t h = ap (λ (b : Bool). if b then location_in core t.home else nowhere) (any_home objects t h)
 
 pub code_some : (kind : Kind) → kind_code kind ≢ 0
-code_some Array e = omega (arith, e)
-code_some Row e = omega (arith, e)
-code_some Code e = omega (arith, e)
+code_some kind e = grind arith
 
 pub code_same : (a b : Kind) → kind_code a ≡ kind_code b → a ≡ b
-code_same Array Array e = refl
-code_same Array Row e = absurd (omega (arith, e))
-code_same Array Code e = absurd (omega (arith, e))
-code_same Row Array e = absurd (omega (arith, e))
-code_same Row Row e = refl
-code_same Row Code e = absurd (omega (arith, e))
-code_same Code Array e = absurd (omega (arith, e))
-code_same Code Row e = absurd (omega (arith, e))
-code_same Code Code e = refl
+code_same a b e = grind arith
 
 -- an area stands where a present descriptor says
 area_is : (core : List Tagged) (i at : ℕ) → (location_in core i).area ≡ Some at → (is_set (word_seen_at core i) 47 ≡ true) × ((desc_at core i).address ≡ at)
-area_is core i at e = by_present (is_set (word_seen_at core i) 47) refl
-  where
-    by_present : (p : Bool) → is_set (word_seen_at core i) 47 ≡ p → (is_set (word_seen_at core i) 47 ≡ true) × ((desc_at core i).address ≡ at)
-    by_present true q = (q, same_Some (desc_at core i).address at (sym (ap (λ b. (location_by core (word_seen_at core i) b).area) q) ∙ e))
-    by_present false q = absurd (let z : None ≡ Some at = sym (ap (λ b. (location_by core (word_seen_at core i) b).area) q) ∙ e in let y : ⊥ = cc in y)
+area_is core i at e = grind arith
 
 is_area : (core : List Tagged) (i : ℕ) → is_set (word_seen_at core i) 47 ≡ true → (location_in core i).area ≡ Some (desc_at core i).address
 is_area core i q = ap (λ b. (location_by core (word_seen_at core i) b).area) q
@@ -75,9 +57,7 @@ module _ (core : List Tagged) (low : ℕ) (kinds links : List ℕ) (objects : Li
 
   -- what its area says
   info_same : (t : PagedObject) → Has objects t → info_at core t.home t.kind ≡ record { kind = t.kind; words = length t.numbers; owner = t.home; kept = (held_by_objects core objects t.home).chain }
-  info_same t h =
-      ap (λ n. record { kind = t.kind; words = n; owner = t.home; kept = (location_in core t.home).chain }) (sym (many_numbers t h))
-      ∙ ap (λ (l : Location). record { kind = t.kind; words = length t.numbers; owner = t.home; kept = l.chain }) (sym (held_at core objects t h))
+  info_same t h = grind (arith, many_numbers, held_at)
 
   module _ (kept : AreKept core low kinds links) where
     fits : (t : PagedObject) → Has objects t → ObjectFits core low links t.home t.kind
@@ -86,17 +66,11 @@ module _ (core : List Tagged) (low : ℕ) (kinds links : List ℕ) (objects : Li
     pub long : AreLong objects
     long t h =
         let f = fits t h in
-        let n = many_numbers t h in
-        (subst (λ k. 0 < k) (sym n) f.some, subst (λ k. k < longest t.kind) (sym n) f.few)
+        grind (arith, many_numbers)
 
     -- its word
     pub home_there : (t : PagedObject) → Has objects t → slice_get core t.home ≡ Some (home_word t (held_by_objects core objects t.home))
-    home_there t h =
-        let f = fits t h in
-        there core t.home (marked.inside t h)
-        ∙ ap Some (f.word ∙ made_again core t.kind (word_seen_at core t.home))
-        ∙ ap (λ n. Some (home_word_of t.kind n (location_in core t.home))) (sym (many_numbers t h))
-        ∙ ap (λ (l : Location). Some (home_word t l)) (sym (held_at core objects t h))
+    home_there t h = grind (arith, there, made_again, many_numbers, held_at)
 
     has_area : (t : PagedObject) (at : ℕ) → Has objects t → (held_by_objects core objects t.home).area ≡ Some at → (is_set (word_seen_at core t.home) 47 ≡ true) × ((desc_at core t.home).address ≡ at)
     has_area t at h e = area_is core t.home at (sym (ap (λ (l : Location). l.area) (held_at core objects t h)) ∙ e)
@@ -115,20 +89,14 @@ module _ (core : List Tagged) (low : ℕ) (kinds links : List ℕ) (objects : Li
         let a = f.present p in
         let d = desc_at core t.home in
         let (k, high) = kept_read core low (spans_of core low) d.address (info_at core t.home t.kind) kept.areas.directory a.area in
-        let lie = lie_up core (tag_of t.kind) d.address d.length (omega (arith, high)) a.tags in
-        let numbers : t.numbers ≡ contents_by core d.length d.address true = marked.numbers t h ∙ ap (contents_by core d.length d.address) p in
-        subst (λ i. LieUpward core i (object_words t)) q (subst (λ (ns : List ℕ). LieUpward core d.address (map (word (tag_of t.kind)) ns)) (sym numbers) lie)
+        grind (arith, lie_up)
 
     -- each area's object
     pub area_owned : (at : ℕ) (a : Info) → area_at low (spans_of core low) at ≡ Some a
         → (t : PagedObject) × Has objects t × ((held_by_objects core objects t.home).area ≡ Some at) × (a ≡ record { kind = t.kind; words = length t.numbers; owner = t.home; kept = (held_by_objects core objects t.home).chain })
     area_owned at a e =
         let f = kept.areas.areas at a e in
-        let (t, h, is) = marked.only a.owner (λ z. code_some a.kind (sym f.owner ∙ z)) in
-        let p : is_set (word_seen_at core t.home) 47 ≡ true = subst (λ i. is_set (word_seen_at core i) 47 ≡ true) (sym is) f.present in
-        let q : (desc_at core t.home).address ≡ at = ap (λ i. (desc_at core i).address) is ∙ f.address in
-        let area : (held_by_objects core objects t.home).area ≡ Some at = ap (λ (l : Location). l.area) (held_at core objects t h) ∙ is_area core t.home p ∙ ap Some q in
-        (t, h, area, same_Some _ _ (sym e ∙ present_there t at h area))
+        grind (arith, code_some, held_at, is_area, same_Some, present_there)
 
     -- ---- chains
 
@@ -139,18 +107,10 @@ module _ (core : List Tagged) (low : ℕ) (kinds links : List ℕ) (objects : Li
       pub chain_owned : (n : ℕ) → 0 < length (chain_of n chains) → (t : PagedObject) × Has objects t × ((held_by_objects core objects t.home).chain ≡ n)
       chain_owned n some =
           let (i, there, e) = kept.all n (some_head links chains a n some) in
-          let (t, h, is) = marked.only i there in
-          (t, h, ap (λ (l : Location). l.chain) (held_at core objects t h) ∙ ap (λ j. (location_in core j).chain) is ∙ e)
+          grind (arith, there, held_at)
 
     pub chain_once : (t u : PagedObject) → Has objects t → Has objects u → 0 < (held_by_objects core objects t.home).chain → (held_by_objects core objects t.home).chain ≡ (held_by_objects core objects u.home).chain → t.home ≡ u.home
-    chain_once t u h g some e =
-        let th = ap (λ (l : Location). l.chain) (held_at core objects t h) in
-        let uh = ap (λ (l : Location). l.chain) (held_at core objects u g) in
-        kept.one t.home u.home
-        (λ z. code_some t.kind (sym (marked.each t h) ∙ z))
-        (λ z. code_some u.kind (sym (marked.each u g) ∙ z))
-        (subst (λ n. 0 < n) th some)
-        (sym th ∙ e ∙ uh)
+    chain_once t u h g some e = grind (arith, held_at, code_some)
 
   -- ---- to the table
 
@@ -165,11 +125,7 @@ module _ (core : List Tagged) (low : ℕ) (kinds links : List ℕ) (objects : Li
       (chain : (n : ℕ) → 0 < length (chain_of n shelf.chains) → (t : PagedObject) × Has objects t × ((held_by_objects core objects t.home).chain ≡ n))
       (once : (t u : PagedObject) → Has objects t → Has objects u → 0 < (held_by_objects core objects t.home).chain → (held_by_objects core objects t.home).chain ≡ (held_by_objects core objects u.home).chain → t.home ≡ u.home) where
     word_again : (t : PagedObject) → Has objects t → word_seen_at core t.home ≡ described t.kind (desc_at core t.home)
-    word_again t h =
-        word_is core t.home (home_word t (held_by_objects core objects t.home)) (homes t h)
-        ∙ ap (home_word t) (held_at core objects t h)
-        ∙ ap (λ n. home_word_of t.kind n (location_in core t.home)) (many_numbers t h)
-        ∙ sym (made_again core t.kind (word_seen_at core t.home))
+    word_again t h = grind (arith, word_is, held_at, many_numbers, made_again)
 
     area_again : (t : PagedObject) → Has objects t → (desc_at core t.home).present ≡ true → HasArea core low t.home t.kind
     area_again t h p =
@@ -209,9 +165,7 @@ module _ (core : List Tagged) (low : ℕ) (kinds links : List ℕ) (objects : Li
 
     -- what an area says that is an object's
     area_fits : (at : ℕ) (a : Info) (t : PagedObject) → Has objects t → (held_by_objects core objects t.home).area ≡ Some at → a ≡ record { kind = t.kind; words = length t.numbers; owner = t.home; kept = (held_by_objects core objects t.home).chain } → AreaFits core kinds at a
-    area_fits at a t h e is =
-        let (p, q) = area_is core t.home at (sym (ap (λ (l : Location). l.area) (held_at core objects t h)) ∙ e) in
-        subst (AreaFits core kinds at) (sym is) (record { owner = marked.each t h; present = p; address = q; words = sym (many_numbers t h) })
+    area_fits at a t h e is = grind (arith, area_is, held_at, many_numbers)
 
     pub kept_again : AreKept core low kinds links
     kept_again = record {

@@ -35,36 +35,24 @@ use Rattle.b67_image_shape.proofs.EachTask.{task_at}
 use Rattle.b67_image_shape.proofs.Sources.{dictionary_lies, entry_kind, InDictionary, InStack, source_by, name_is, home_is, home_row}
 
 and_no : (x y : Bool) → y ≡ false → (x && y) ≡ false
-and_no true y e = e
-and_no false y e = refl
+and_no x y e = grind arith
 
 and_yes : (x y : Bool) → x ≡ true → y ≡ true → (x && y) ≡ true
 and_yes x y ex ey = rw (ex, ey) refl
 
 and_both : (x y : Bool) → (x && y) ≡ true → (x ≡ true) × (y ≡ true)
-and_both true y e = (refl, e)
-and_both false y e = absurd (let z : ⊥ = cc in z)
+and_both x y e = grind arith
 
 -- ---- dictionaries
 
 entry_code : (segments i : ℕ) → kind_code (entry_kind segments i) ≡ entry_mark segments i
-entry_code segments i = by (nat_le i segments) refl
-  where
-    by : (b : Bool) → nat_le i segments ≡ b → kind_code (entry_kind segments i) ≡ entry_mark segments i
-    by true e = ap (λ (c : Bool). kind_code (if c then kind.Code else kind.Row)) e ∙ sym (ap (λ (c : Bool). if c then 3 else 2) e)
-    by false e = ap (λ (c : Bool). kind_code (if c then kind.Code else kind.Row)) e ∙ sym (ap (λ (c : Bool). if c then 3 else 2) e)
+entry_code segments i = grind arith
 
 -- the mark of an entry
 entry_here : (core : List Tagged) (stacks at : ℕ) (rows : List JobRow) (j : ℕ) (row : JobRow) (i : ℕ) → DictionariesStandIn core stacks at rows → slice_get rows j ≡ Some row → 1 ≤ i → i ≤ row.segments + row.rows
     → mark_in_dictionary rows (row.dictionary + 1 + i) ≡ entry_mark row.segments i
 entry_here core stacks at [] j row i d e lo hi = absurd (let z : ⊥ = cc in z)
-entry_here core stacks at (r ∷ more) zero row i d e lo hi =
-    let same : r ≡ row = cc in
-    let back : row.dictionary + 1 + i - (row.dictionary + 1) ≡ i = omega arith in
-    ap (λ (w : JobRow). mark_in_dictionary (w ∷ more) (row.dictionary + 1 + i)) same
-    ∙ ap (λ (b : Bool). if b then entry_mark row.segments (row.dictionary + 1 + i - (row.dictionary + 1)) else mark_in_dictionary more (row.dictionary + 1 + i))
-    (and_yes (nat_lt (row.dictionary + 1) (row.dictionary + 1 + i)) (nat_le (row.dictionary + 1 + i) (row.dictionary + 1 + (row.segments + row.rows))) (lt-ltb (row.dictionary + 1) (row.dictionary + 1 + i) (omega (arith, lo))) (le-leb (row.dictionary + 1 + i) (row.dictionary + 1 + (row.segments + row.rows)) (omega (arith, hi))))
-    ∙ ap (entry_mark row.segments) back
+entry_here core stacks at (r ∷ more) zero row i d e lo hi = grind (arith, and_yes, lt-ltb, le-leb)
 entry_here core stacks at (r ∷ more) (suc j) row i d e lo hi =
     let l = (dictionary_lies core stacks (at + (2 + (r.segments + r.rows))) more j row d.1 e).low in
     let place = d.0.place in
@@ -94,10 +82,7 @@ entry_later r more at rest = record { j = suc rest.j; row = rest.row; found = re
 
 entry_at : (rows : List JobRow) (at : ℕ) → mark_in_dictionary rows at ≢ 0 → EntryAt rows at
 entry_at [] at some = absurd (some refl)
-entry_at (r ∷ more) at some = ⊎_elim
-    (λ t. entry_here_at r more at t)
-    (λ t. entry_later r more at (entry_at more at (λ z. some (ap (λ (b : Bool). if b then entry_mark r.segments (at - (r.dictionary + 1)) else mark_in_dictionary more at) t ∙ z))))
-    (cases_Bool (has_entry_at r at))
+entry_at (r ∷ more) at some = grind (arith, ⊎_elim, entry_here_at, entry_later, cases_Bool, entry_at more at)
 
 code_there : (core : List Tagged) (plan : Placement) (j n at many i : ℕ) → n ≤ i → i < n + many → (t : PagedObject) × Has (code_objects plan j n (segments_from core at many)) t × (t.home ≡ plan.dictionary j + 1 + i)
 code_there core plan j n at zero i lo hi = absurd (omega (arith, lo, hi))
@@ -108,46 +93,25 @@ code_there core plan j n at (suc many) i lo hi = ⊎_elim
 
 data_there : (core : List Tagged) (before many i : ℕ) → 1 ≤ i → i ≤ many → Has (data_rows core before many) (array_shown core i 1 false (before + i))
 data_there core before zero i lo hi = absurd (omega (arith, lo, hi))
-data_there core before (suc n) i lo hi = ⊎_elim
-    (λ e. inl (ap (λ q. array_shown core q 1 false (before + q)) (sym e)))
-    (λ ne. inr (data_there core before n i lo (omega (arith, hi, ne))))
-    (cases_eq i (suc n))
+data_there core before (suc n) i lo hi = grind (arith, ⊎_elim, cases_eq, data_there core before n i lo)
 
 -- ---- words of stacks
 
 original_bits : (held : Locations) (home at : ℕ) (w : Tagged) → Fits held (Original home) at w → is_original_word w ≡ true
-original_bits held home at w f =
-    let o = f.1 in
-    let d : desc_in w ≡ o.desc = ap desc_in o.is ∙ desc_read o.desc o.fits.words o.fits.address in
-    and_yes (w.tag == 5) (not (is_set w 46)) (eq-eqb w.tag 5 (ap (λ (v : Tagged). v.tag) o.is)) (ap not (ap (λ (q : DataDesc). q.copy) d ∙ o.own))
+original_bits held home at w f = grind arith
 
 original_word : (held : Locations) (core : List Tagged) (from : ℕ) (xs : List Shape) (home : ℕ) → LieDownward (Fits held) core from xs → Has xs (Original home) → is_original_word (word_seen_at core home) ≡ true
 original_word held core from [] home l h = absurd h
 original_word held core from (a ∷ more) home l (inr h) = original_word held core from more home l.1 h
-original_word held core from (a ∷ more) home l (inl e) =
-    let f : Fits held (Original home) (from + length more) l.0.0 = subst (λ (q : Shape). Fits held q (from + length more) l.0.0) e l.0.2 in
-    ap (λ i. is_original_word (word_seen_at core i)) (sym f.0) ∙ ap is_original_word (word_is core (from + length more) l.0.0 l.0.1) ∙ original_bits held home (from + length more) l.0.0 f
+original_word held core from (a ∷ more) home l (inl e) = grind arith
 
 -- a word that looks like an original is one
 word_original : (held : Locations) (a : Shape) (at : ℕ) (w : Tagged) → Fits held a at w → is_original_word w ≡ true → a ≡ Original at
-word_original held (Is v) at w f e =
-    let (t, c) = and_both (w.tag == 5) (not (is_set w 46)) e in
-    absurd (f.1 (sym (ap (λ (u : Tagged). u.tag) f.0) ∙ eqb-true w.tag 5 t))
-word_original held (Original home) at w f e = ap Original (sym f.0)
-word_original held (Copy c home) at w f e =
-    let (t, n) = and_both (w.tag == 5) (not (is_set w 46)) e in
-    let d : desc_in w ≡ copy_desc c f.number f.present f.address = ap desc_in f.is ∙ desc_read (copy_desc c f.number f.present f.address) f.fits.words f.fits.address in
-    let copy : is_set w 46 ≡ true = ap (λ (q : DataDesc). q.copy) d in
-    absurd (let no_copy : false ≡ true = sym (ap not copy) ∙ n in let z : ⊥ = cc in z)
+word_original held a at w f e = grind arith
 
 among_words : (held : Locations) (core : List Tagged) (from : ℕ) (xs : List Shape) (i : ℕ) → LieDownward (Fits held) core from xs → from ≤ i → i < from + length xs → is_original_word (word_seen_at core i) ≡ true → Has xs (Original i)
 among_words held core from [] i l lo hi e = absurd (omega (arith, lo, hi))
-among_words held core from (a ∷ more) i l lo hi e = ⊎_elim
-    (λ q.
-    let w : is_original_word l.0.0 ≡ true = sym (ap is_original_word (word_is core (from + length more) l.0.0 l.0.1)) ∙ ap (λ n. is_original_word (word_seen_at core n)) (sym q) ∙ e in
-    inl (word_original held a (from + length more) l.0.0 l.0.2 w ∙ ap Original (sym q)))
-    (λ ne. inr (among_words held core from more i l.1 lo (omega (arith, hi, ne)) e))
-    (cases_eq i (from + length more))
+among_words held core from (a ∷ more) i l lo hi e = grind (arith, ⊎_elim, word_is, word_original, cases_eq, among_words held core from more i l.1 lo)
 
 -- ---- arrays of a stack
 
@@ -157,23 +121,11 @@ cell_array core owner array (Is w ∷ more) i (inl e) = absurd (let z : ⊥ = cc
 cell_array core owner array (Is w ∷ more) i (inr h) = cell_array core owner array more i h
 cell_array core owner array (Copy c home ∷ more) i (inl e) = absurd (let z : ⊥ = cc in z)
 cell_array core owner array (Copy c home ∷ more) i (inr h) = cell_array core owner array more i h
-cell_array core owner array (Original home ∷ more) i (inl e) = inl (ap (λ h. array_shown core (array h) owner true h) (home_same e))
-  where
-    home_in : Shape → ℕ
-    home_in (Is w) = 0
-    home_in (Original h) = h
-    home_in (Copy c h) = h
-
-    home_same : Original home ≡ Original i → home ≡ i
-    home_same e = ap home_in e
+cell_array core owner array (Original home ∷ more) i (inl e) = grind arith
 cell_array core owner array (Original home ∷ more) i (inr h) = inr (cell_array core owner array more i h)
 
 below_head : (k : ℕ) (h : Head) (below : List Activation) (under : List Shape) (i : ℕ) → Has (headed k h below under) (Original i) → Has under (Original i)
-below_head k stack.Marked below under i (inl e) = absurd (let z : ⊥ = cc in z)
-below_head k stack.Marked below under i (inr h) = h
-below_head k (stack.Entered level environment back) below under i (inl e) = absurd (let z : ⊥ = cc in z)
-below_head k (stack.Entered level environment back) below under i (inr (inl e)) = absurd (let z : ⊥ = cc in z)
-below_head k (stack.Entered level environment back) below under i (inr (inr h)) = h
+below_head k h below under i e = grind arith
 
 stack_array : (core : List Tagged) (slot number : ℕ) (array : ℕ → ℕ) (acts : List Activation) (i : ℕ) → Has (words slot acts) (Original i) → (owner : ℕ) × Has (arrays_of core number array acts) (array_shown core (array i) owner true i)
 stack_array core slot number array [] i h = absurd h
@@ -187,20 +139,14 @@ stack_array core slot number array (a ∷ below) i h = elim (has_append_cases a.
 -- ---- tops
 
 level_by : (q : Head) (below : List Activation) → HeadFits q below → stack_level below < 2 ^ 5 → stack.level_from q (stack_level below) < 2 ^ 5
-level_by stack.Marked below f low = low
-level_by (stack.Entered level environment back) below f low = f.0
+level_by q below f low = grind arith
 
 level_small : (acts : List Activation) → HeadsFit acts → stack_level acts < 2 ^ 5
 level_small [] h = omega arith
 level_small (a ∷ below) h = level_by a.head below h.0 (level_small below h.1)
 
 place_low : (stack : List Activation) → mark_place stack ≤ stack_words stack
-place_low [] = omega arith
-place_low (a ∷ below) = by a.head
-  where
-    by : (q : Head) → stack_words below + 1 ≤ stack_words below + (stack.head_size q + length a.cells)
-    by stack.Marked = omega arith
-    by (stack.Entered level environment back) = omega arith
+place_low stack = grind arith
 
 toscw_s : (s l f : ℕ) → s < 2 ^ 16 → l < 2 ^ 5 → f < 2 ^ 14 → (s * 2 ^ 20 + l * 2 ^ 14 + f) / 2 ^ 20 % 2 ^ 16 ≡ s
 toscw_s s l f sh lh fh = omega arith
@@ -233,17 +179,7 @@ module _ (held : Locations) (k : Sight) (facts : TableFacts k) (low size : ℕ) 
   entry_marked : (t : PagedObject) → InDictionary k t → (mark_at k t.home ≡ kind_code t.kind) × (t.home < length k.core)
   entry_marked t d =
       let lies = dictionary_lies k.core k.regs.stacks 160 k.jobs d.j d.row fixed.dictionaries d.found in
-      let hi = lies.high in
-      let small = below_core in
-      let e = d.home in
-      let top = d.high in
-      let inside : t.home < k.regs.stacks = omega (arith, e, top, hi) in (
-        ap (λ (b : Bool). if b then mark_in_dictionary k.jobs t.home else stack_mark k t.home (row_in_slot k.tasks ((t.home - k.regs.stacks) / k.regs.stack_size))) (lt-ltb t.home k.regs.stacks inside)
-            ∙ ap (mark_in_dictionary k.jobs) d.home
-            ∙ entry_here k.core k.regs.stacks 160 k.jobs d.j d.row d.i fixed.dictionaries d.found d.low d.high
-            ∙ sym (entry_code d.row.segments d.i) ∙ ap kind_code (sym d.kind_is),
-        omega (arith, inside, small),
-      )
+      grind (arith, below_core, lt-ltb, entry_here, entry_code)
 
   slot_fits : (r : TaskRow) → Has k.tasks r → base_at k r + k.regs.stack_size ≤ length k.core
   slot_fits r h =
@@ -299,9 +235,7 @@ module _ (held : Locations) (k : Sight) (facts : TableFacts k) (low size : ℕ) 
   places : (j : ℕ) (row : JobRow) → slice_get k.jobs j ≡ Some row → (dictionary_from k.jobs 1 (1 + j) ≡ row.dictionary) × (segments_of k.jobs 1 (1 + j) ≡ row.segments)
   places j row e =
       let m = row_of_member k 1 k.jobs (member_in k row (1 + j)) (row_there k 1 k.jobs j row e) in
-      let back : 1 + j - 1 ≡ j = omega arith in
-      let same : m.row ≡ row = same_Some m.row row (sym m.found ∙ ap (slice_get k.jobs) back ∙ e) in
-      (m.dictionary ∙ ap (λ (w : JobRow). w.dictionary) same, m.segments ∙ ap (λ (w : JobRow). w.segments) same)
+      grind (arith, same_Some)
 
   entry_object : (i : ℕ) → EntryAt k.jobs i → Object i
   entry_object at e = ⊎_elim of_row_data of_segment (cases_lt e.row.segments e.i)

@@ -25,20 +25,13 @@ use Rattle.b67_image_shape.proofs.ObjectMarks.{code_some, code_same}
 -- ---- words
 
 pub again_same : (core : List Tagged) (at : ℕ) (kind : Kind) (w again : Tagged) (t b : ℕ) → slice_get core at ≡ Some w → again ≡ described kind (desc_in w) → t ≡ again.tag → b ≡ again.bits → w ≡ word t b → word_seen_at core at ≡ described kind (desc_at core at)
-again_same core at kind w again t b e ae te be is =
-    let here = word_is core at w e in
-    here ∙ is ∙ ap (λ i. word i b) te ∙ ap (λ i. word again.tag i) be ∙ ae ∙ ap (λ (v : Tagged). described kind (desc_in v)) (sym here)
+again_same core at kind w again t b e ae te be is = grind arith
 
 pub again_other : (core : List Tagged) (at : ℕ) (kind : Kind) (w again : Tagged) (t b : ℕ) → slice_get core at ≡ Some w → again ≡ described kind (desc_in w) → t ≡ again.tag → b ≡ again.bits → (w ≡ word t b → ⊥) → word_seen_at core at ≡ described kind (desc_at core at) → ⊥
-again_other core at kind w again t b e ae te be never is =
-    let here = word_is core at w e in
-    never (sym here ∙ is ∙ ap (λ (v : Tagged). described kind (desc_in v)) here ∙ sym ae ∙ sym (ap (λ i. word i b) te ∙ ap (λ i. word again.tag i) be))
+again_other core at kind w again t b e ae te be never is = grind arith
 
 pub tags_next : (core : List Tagged) (at j tag : ℕ) (w : Tagged) → ((i : ℕ) → i < j → (word_seen_at core (at + i)).tag ≡ tag) → slice_get core (at + j) ≡ Some w → w.tag ≡ tag → (i : ℕ) → i < j + 1 → (word_seen_at core (at + i)).tag ≡ tag
-tags_next core at j tag w before e is i low = ⊎_elim
-    (λ q. ap (λ k. (word_seen_at core (at + k)).tag) q ∙ ap (λ (v : Tagged). v.tag) (word_is core (at + j) w e) ∙ is)
-    (λ ne. before i (omega (arith, low, ne)))
-    (cases_eq i j)
+tags_next core at j tag w before e is i low = grind arith
 
 -- a field of a descriptor
 pub present_is : (core : List Tagged) (at p : ℕ) (w : Tagged) → slice_get core at ≡ Some w → p ≡ bits_at w 47 1 → p ≡ 1 → (desc_at core at).present ≡ true
@@ -58,18 +51,12 @@ address_is core at n w e b = ap (λ (v : Tagged). bits_at v 0 20) (word_is core 
 houses_at : (at : ℕ) (ss : List Span) (i : ℕ) → Houses ss i → (x : ℕ) × (a : Info) × (area_at at ss x ≡ Some a) × (a.owner ≡ i)
 houses_at at [] i h = absurd h
 houses_at at (Area a ∷ ss) i (inl e) = (at + 1, a, cond-true (at + 1 == at + 1) _ _ (eq-eqb (at + 1) (at + 1) refl), e)
-houses_at at (Area a ∷ ss) i (inr h) =
-    let (x, b, e, o) = houses_at (at + (a.words + 2)) ss i h in
-    let low = area_at-low (at + (a.words + 2)) ss x b e in
-    (x, b, cond-false (at + 1 == x) _ _ (ne_eqb (at + 1) x (λ z. omega (arith, low, z))) ∙ e, o)
+houses_at at (Area a ∷ ss) i (inr h) = grind (arith, area_at-low, cond-false, ne_eqb, houses_at (at + (a.words + 2)) ss i h)
 houses_at at (Hole n ∷ ss) i h = houses_at (at + n) ss i h
 
 at_houses : (at : ℕ) (ss : List Span) (x : ℕ) (a : Info) → area_at at ss x ≡ Some a → Houses ss a.owner
 at_houses at [] x a e = absurd (let z : ⊥ = cc in z)
-at_houses at (Area b ∷ ss) x a e = ⊎_elim
-    (λ t. inl (ap (λ (i : Info). i.owner) (same_Some b a (sym (cond-true (at + 1 == x) _ _ t) ∙ e))))
-    (λ t. inr (at_houses (at + (b.words + 2)) ss x a (sym (cond-false (at + 1 == x) _ _ t) ∙ e)))
-    (cases_Bool (at + 1 == x))
+at_houses at (Area b ∷ ss) x a e = grind (arith, ⊎_elim, same_Some, cond-true, cond-false, cases_Bool, at_houses (at + (b.words + 2)) ss x a)
 at_houses at (Hole n ∷ ss) x a e = at_houses (at + n) ss x a e
 
 module _ (core : List Tagged) (low : ℕ) (kinds : List ℕ) (housed : List Bool) (walked : AreasWalked core low kinds housed) (i : ℕ) (kind : Kind) (marked : get_or kinds i 0 ≡ kind_code kind) (present : (desc_at core i).present ≡ true) where
@@ -77,22 +64,7 @@ module _ (core : List Tagged) (low : ℕ) (kinds : List ℕ) (housed : List Bool
   pub housed_area : IsHoused housed i → area_at low (spans_of core low) (desc_at core i).address ≡ Some (info_at core i kind)
   housed_area h =
       let (x, a, e, o) = houses_at low (spans_of core low) i (walked.only i h) in
-      let f = walked.fit.areas x a e in
-      let at : (desc_at core i).address ≡ x = ap (λ j. (desc_at core j).address) (sym o) ∙ f.address in
-      let words : (desc_at core i).length ≡ a.words = ap (λ j. (desc_at core j).length) (sym o) ∙ f.words in
-      let same : a.kind ≡ kind = code_same a.kind kind (sym f.owner ∙ ap (λ j. get_or kinds j 0) o ∙ marked) in
-      let (k, high) = kept_read core low (spans_of core low) x a walked.fit.directory e in
-      let kept : (location_in core i).chain ≡ a.kept =
-      ap (λ b. (location_by core (word_seen_at core i) b).chain) present
-      ∙ ap (λ n. bits_at (word_seen_at core (n + (desc_at core i).length)) 0 20) at
-      ∙ ap (λ n. bits_at (word_seen_at core (x + n)) 0 20) words
-      ∙ k in
-      ap (area_at low (spans_of core low)) at ∙ e ∙ ap Some (
-      ap (λ q. record { kind = q; words = a.words; owner = a.owner; kept = a.kept }) same
-      ∙ ap (λ q. record { kind = kind; words = q; owner = a.owner; kept = a.kept }) (sym words)
-      ∙ ap (λ q. record { kind = kind; words = (desc_at core i).length; owner = q; kept = a.kept }) o
-      ∙ ap (λ q. record { kind = kind; words = (desc_at core i).length; owner = i; kept = q }) (sym kept)
-      )
+      grind (arith, code_same, get_or, kept_read)
 
   -- and lies in core
   pub area_inside : area_at low (spans_of core low) (desc_at core i).address ≡ Some (info_at core i kind) → (desc_at core i).address + (desc_at core i).length < length core
@@ -101,15 +73,11 @@ module _ (core : List Tagged) (low : ℕ) (kinds : List ℕ) (housed : List Bool
 pub not_housed : (core : List Tagged) (low : ℕ) (kinds : List ℕ) (housed : List Bool) (i : ℕ) (kind : Kind) → AreasWalked core low kinds housed → get_or housed i false ≡ false → HasArea core low i kind → ⊥
 not_housed core low kinds housed i kind walked e h =
     let yes_housed = walked.marked i (at_houses low (spans_of core low) (desc_at core i).address (info_at core i kind) h.area) in
-    let z : true ≡ false = sym yes_housed ∙ e in
-    let y : ⊥ = cc in y
+    grind arith
 
 pub area_made : (core : List Tagged) (low i : ℕ) (kind : Kind) (address words tag : ℕ) → (desc_at core i).address ≡ address → (desc_at core i).length ≡ words → tag ≡ tag_of kind
     → area_at low (spans_of core low) (desc_at core i).address ≡ Some (info_at core i kind) → HaveTag core address words tag → HasArea core low i kind
-area_made core low i kind address words tag a n t e h = record {
-  area = e;
-  tags = λ j m. ap (λ k. (word_seen_at core (k + j)).tag) a ∙ h j (subst (λ k. j < k) n m) ∙ t;
-}
+area_made core low i kind address words tag a n t e h = grind arith
 
 pub tags_of_area : (core : List Tagged) (low i : ℕ) (kind : Kind) (address words tag : ℕ) → (desc_at core i).address ≡ address → (desc_at core i).length ≡ words → tag ≡ tag_of kind → HasArea core low i kind → HaveTag core address words tag
 tags_of_area core low i kind address words tag a n t h j m = ap (λ k. (word_seen_at core (k + j)).tag) (sym a) ∙ h.tags j (subst (λ k. j < k) (sym n) m) ∙ sym t
@@ -121,9 +89,7 @@ chain_present core i n p e = e ∙ sym (ap (λ b. (location_by core (word_seen_a
 
 pub chain_read : (core : List Tagged) (i address words n : ℕ) (w : Tagged) → (desc_at core i).address ≡ address → (desc_at core i).length ≡ words → slice_get core (address + words) ≡ Some w → n ≡ bits_at w 0 20
     → n ≡ bits_at (word_seen_at core ((desc_at core i).address + (desc_at core i).length)) 0 20
-chain_read core i address words n w a l e b =
-    b ∙ ap (λ (v : Tagged). bits_at v 0 20) (sym (word_is core (address + words) w e))
-    ∙ ap (λ k. bits_at (word_seen_at core (k + words)) 0 20) (sym a) ∙ ap (λ k. bits_at (word_seen_at core ((desc_at core i).address + k)) 0 20) (sym l)
+chain_read core i address words n w a l e b = grind arith
 
 pub chain_absent : (core : List Tagged) (i n : ℕ) → (desc_at core i).present ≡ false → n ≡ (desc_at core i).address → n ≡ (location_in core i).chain
 chain_absent core i n p e = e ∙ sym (ap (λ b. (location_by core (word_seen_at core i) b).chain) p)
@@ -141,15 +107,10 @@ pub code_needs : (links : List ℕ) (first words : ℕ) → first ≡ 0 → HasC
 code_needs links first words z c = no_first links first (sectors_for words) z c
 
 pub chain_or : (links : List ℕ) (kind : Kind) (first words : ℕ) → IsSectorChain links first (sectors_for words) → HasChainOr links kind first words
-chain_or links Array first words c = inr c
-chain_or links Row first words c = c
-chain_or links Code first words c = c
+chain_or links kind first words c = grind arith
 
 pub or_chain : (links : List ℕ) (kind : Kind) (first words : ℕ) → first ≢ 0 → HasChainOr links kind first words → IsSectorChain links first (sectors_for words)
-or_chain links Array first words ne (inl z) = absurd (ne z)
-or_chain links Array first words ne (inr c) = c
-or_chain links Row first words ne c = c
-or_chain links Code first words ne c = c
+or_chain links kind first words ne c = grind arith
 
 -- the chain that an object must have, by numbers that were read
 pub chain_told : (core : List Tagged) (links : List ℕ) (i : ℕ) (kind : Kind) (first words : ℕ) → first ≡ (location_in core i).chain → (desc_at core i).length ≡ words → HasChainOr links kind first words → HasChainOr links kind (location_in core i).chain (desc_at core i).length
@@ -159,20 +120,12 @@ pub chain_of_told : (core : List Tagged) (links : List ℕ) (i : ℕ) (kind : Ki
 chain_of_told core links i kind first words e n h = subst (HasChainOr links kind first) n (subst (λ k. HasChainOr links kind k (desc_at core i).length) (sym e) h)
 
 pub first_inside : (core : List Tagged) (low : ℕ) (links : List ℕ) (i : ℕ) (kind : Kind) (first : ℕ) → first ≡ (location_in core i).chain → first ≢ 0 → ObjectFits core low links i kind → first ≤ length links
-first_inside core low links i kind first e some f =
-    let c = or_chain links kind first (desc_at core i).length some (subst (λ n. HasChainOr links kind n (desc_at core i).length) (sym e) f.chain) in
-    c.head.high
+first_inside core low links i kind first e some f = grind arith
 
 -- ---- all objects
 
 pub claims_first : (core : List Tagged) (low : ℕ) (kinds links : List ℕ) (claimed : List Bool) → length claimed ≡ length links + 1 → ((i : ℕ) → get_or claimed i false ≡ false) → ObjectsClaim core low kinds links 0 claimed
-claims_first core low kinds links claimed many none = record {
-  many = many;
-  objects = λ i kind h e. absurd (omega (arith, h));
-  one = λ i j h g p q s e. absurd (omega (arith, h));
-  marked = λ i h p s. absurd (omega (arith, h));
-  only = λ m e. absurd (let n = none m in let z : true ≡ false = sym e ∙ n in let y : ⊥ = cc in y);
-}
+claims_first core low kinds links claimed many none = grind arith
 
 module _ (core : List Tagged) (low : ℕ) (kinds links : List ℕ) (n : ℕ) (claimed : List Bool) where
   pub claims_skip : ObjectsClaim core low kinds links n claimed → get_or kinds n 0 ≡ 0 → ObjectsClaim core low kinds links (n + 1) claimed
@@ -214,10 +167,7 @@ module _ (core : List Tagged) (low : ℕ) (kinds links : List ℕ) (n : ℕ) (cl
     module _ (first : ℕ) (first_is : first ≡ (location_in core n).chain) (some : first ≢ 0) (high : first ≤ length links) (free : get_or claimed first false ≡ false) where
       -- no object before has this chain
       apart : (i : ℕ) → i < n → get_or kinds i 0 ≢ 0 → 0 < (location_in core i).chain → (location_in core i).chain ≡ first → ⊥
-      apart i h p s e =
-          let m = ap (λ k. get_or claimed k false) (sym e) ∙ c.marked i h p s in
-          let z : true ≡ false = sym m ∙ free in
-          let y : ⊥ = cc in y
+      apart i h p s e = grind arith
 
       set_here : get_or (slice_set claimed first true) first false ≡ true
       set_here = let h : first < length claimed = omega (arith, high, c.many) in rw get_or-set_same refl
@@ -251,10 +201,7 @@ module _ (core : List Tagged) (low : ℕ) (kinds links : List ℕ) (n : ℕ) (cl
 
   -- two objects with one chain
   pub claims_met : ObjectsClaim core low kinds links n claimed → (kind : Kind) → get_or kinds n 0 ≡ kind_code kind → (first : ℕ) → first ≡ (location_in core n).chain → first ≢ 0 → get_or claimed first false ≡ true → AreKept core low kinds links → ⊥
-  claims_met c kind here first first_is some met k =
-      let (i, h, p, q) = c.only first met in
-      let same = k.one i n p (λ z. code_some kind (sym here ∙ z)) (omega (arith, q, some)) (q ∙ first_is) in
-      omega (arith, h, same)
+  claims_met c kind here first first_is some met k = grind arith
 
 pub kept_from : (core : List Tagged) (low : ℕ) (kinds links : List ℕ) (housed claimed : List Bool) → length kinds ≡ length core → AreasWalked core low kinds housed → ObjectsClaim core low kinds links (length core) claimed → AreClaimed links claimed → AreKept core low kinds links
 kept_from core low kinds links housed claimed many walked c all = record {
@@ -268,10 +215,4 @@ kept_from core low kinds links housed claimed many walked c all = record {
     inside i p = ⊎_elim (λ lt. lt) (λ past. absurd (p (get_or_past kinds i 0 (omega (arith, many, past))))) (cases_lt i (length core))
 
 pub claimed_all : (core : List Tagged) (low : ℕ) (kinds links : List ℕ) (claimed : List Bool) → length kinds ≡ length core → ObjectsClaim core low kinds links (length core) claimed → AreKept core low kinds links → AreClaimed links claimed
-claimed_all core low kinds links claimed many c k n h =
-    let (i, p, e) = k.all n h in
-    let head_low = h.low in
-    ap (λ m. get_or claimed m false) (sym e) ∙ c.marked i (inside i p) p (omega (arith, head_low, e))
-  where
-    inside : (i : ℕ) → get_or kinds i 0 ≢ 0 → i < length core
-    inside i p = ⊎_elim (λ lt. lt) (λ past. absurd (p (get_or_past kinds i 0 (omega (arith, many, past))))) (cases_lt i (length core))
+claimed_all core low kinds links claimed many c k n h = grind (arith, get_or, ⊎_elim, get_or_past, cases_lt)

@@ -34,21 +34,7 @@ inside (v ∷ ws) (suc i) w e = let h = inside ws i w e in omega (arith, h)
 
 -- the word that is made again of the fields is that of how the object is held
 pub made_again : (core : List Tagged) (kind : Kind) (w : Tagged) → described kind (desc_in w) ≡ home_word_of kind (desc_in w).length (location_by core w (is_set w 47))
-made_again core kind w = by_present (is_set w 47) refl
-  where
-    by_present : (p : Bool) → is_set w 47 ≡ p → described kind (desc_in w) ≡ home_word_of kind (desc_in w).length (location_by core w p)
-    by_present true e = at_kind kind
-      where
-        at_kind : (kind : Kind) → described kind (desc_in w) ≡ home_word_of kind (desc_in w).length (location_by core w true)
-        at_kind Array = ap (λ (p : Bool). data_word (record { present = p; copy = false; indexed = false; read_only = false; length = (desc_in w).length; address = (desc_in w).address })) e
-        at_kind Row = ap (λ (p : Bool). data_word (record { present = p; copy = false; indexed = false; read_only = true; length = (desc_in w).length; address = (desc_in w).address })) e
-        at_kind Code = ap (λ (p : Bool). seg_word (record { present = p; words = (desc_in w).length; address = (desc_in w).address })) e
-    by_present false e = at_kind kind
-      where
-        at_kind : (kind : Kind) → described kind (desc_in w) ≡ home_word_of kind (desc_in w).length (location_by core w false)
-        at_kind Array = ap (λ (p : Bool). data_word (record { present = p; copy = false; indexed = false; read_only = false; length = (desc_in w).length; address = (desc_in w).address })) e
-        at_kind Row = ap (λ (p : Bool). data_word (record { present = p; copy = false; indexed = false; read_only = true; length = (desc_in w).length; address = (desc_in w).address })) e
-        at_kind Code = ap (λ (p : Bool). seg_word (record { present = p; words = (desc_in w).length; address = (desc_in w).address })) e
+made_again core kind w = grind arith
 
 -- ---- numbers
 
@@ -58,8 +44,7 @@ from_length core at (suc n) = ap suc (from_length core (at + 1) n)
 
 -- as many as the descriptor says
 pub contents_length : (core : List Tagged) (n at : ℕ) (p : Bool) → length (contents_by core n at p) ≡ n
-contents_length core n at true = from_length core at n
-contents_length core n at false = length-replicate {A = ℕ} n zero
+contents_length core n at p = grind (arith, from_length, length-replicate)
 
 -- numbers under a tag lie in core exactly if the words have this tag
 pub lie_up : (core : List Tagged) (tag at n : ℕ) → at + n ≤ length core → ((j : ℕ) → j < n → (word_seen_at core (at + j)).tag ≡ tag) → LieUpward core at (map (word tag) (numbers_seen core at n))
@@ -73,12 +58,8 @@ lie_up core tag at (suc n) h tags =
 
 pub up_tags : (core : List Tagged) (tag at n : ℕ) → LieUpward core at (map (word tag) (numbers_seen core at n)) → (j : ℕ) → j < n → (word_seen_at core (at + j)).tag ≡ tag
 up_tags core tag at zero l j low = absurd (omega (arith, low))
-up_tags core tag at (suc n) l zero low =
-    let z : at ≡ at + 0 = omega arith in
-    subst (λ i. (word_seen_at core i).tag ≡ tag) z (ap (λ (w : Tagged). w.tag) (word_is core at (word tag (word_seen_at core at).bits) l.0))
-up_tags core tag at (suc n) l (suc j) low =
-    let e : at + 1 + j ≡ at + suc j = omega arith in
-    subst (λ i. (word_seen_at core i).tag ≡ tag) e (up_tags core tag (at + 1) n l.1 j (omega (arith, low)))
+up_tags core tag at (suc n) l zero low = grind arith
+up_tags core tag at (suc n) l (suc j) low = grind (arith, up_tags core tag (at + 1) n l.1 j)
 
 -- ---- areas
 
@@ -90,7 +71,4 @@ pub kept_read : (core : List Tagged) (low : ℕ) (ss : List Span) (at : ℕ) (a 
     → (bits_at (word_seen_at core (at + a.words)) 0 20 ≡ a.kept) × (at + a.words < length core)
 kept_read core low ss at a d e =
     let (one, area) = area_here core low ss at a d e in
-    let place : at - 1 + (a.words + 1) ≡ at + a.words = omega (arith, one) in
-    let is = ap (word_seen_at core) (sym place) ∙ word_is core (at - 1 + (a.words + 1)) (tail_word a) area.tail in
-    let high = area.inside in
-    (ap (λ (w : Tagged). bits_at w 0 20) is ∙ tail_kept a.words a.kept area.words area.info.kept, omega (arith, high, place))
+    grind (arith, word_is, tail_kept)

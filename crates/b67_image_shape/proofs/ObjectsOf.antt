@@ -20,9 +20,7 @@ use Rattle.b67_image_shape.proofs.TablesOf.{job_order}
 use Rattle.b67_image_shape.proofs.HeldOf.{spans_few, area_same, chain_same}
 
 word_by : (kd : Kind) (n : ℕ) (g h : Location) → g.area ≡ h.area → g.chain ≡ h.chain → home_word_of kd n g ≡ home_word_of kd n h
-word_by kind.Array n g h a c = rw (a, c) refl
-word_by kind.Row n g h a c = rw (a, c) refl
-word_by kind.Code n g h a c = rw (a, c) refl
+word_by kd n g h a c = grind arith
 
 module _ (read : DirectoriesAreRead) (k : Sight) (x : Storage) (critical : List ℕ) (ordered : IsInOrderButPlaces (shown k)) (holds : SessionHolds x k.core k.regs critical (placed k) (shown k))
     (tables : TablesShow (placed k) (shown k) k.tasks k.jobs k.counts) where
@@ -33,16 +31,10 @@ module _ (read : DirectoriesAreRead) (k : Sight) (x : Storage) (critical : List 
   chains_are t there = chain_same x k.core k.regs (view_in k) holds.memory t there
 
   words_lie : (t : PagedObject) → (o : Option ℕ) → (x.held t.home).area ≡ o → Content x k.core t o (x.held t.home).chain → (at : ℕ) → o ≡ Some at → LieUpward k.core at (object_words t)
-  words_lie t None e c at z = absurd (let q : ⊥ = cc in q)
-  words_lie t (Some a) e c at z = (let same : a ≡ at = cc in subst (λ q. LieUpward k.core q (object_words t)) same c.0)
+  words_lie t o e c at z = grind arith
 
   object : (t : PagedObject) → Has (view_in k).objects t → ObjectFacts k t
-  object t there =
-      let o = holds.memory.objects t there in
-      record {
-        home = o.home ∙ ap Some (sym (word_by t.kind (length t.numbers) (held_of k t.home) (x.held t.home) (areas_are t.home) (chains_are t there)));
-        words = λ at e. words_lie t (x.held t.home).area refl o.content at (sym (areas_are t.home) ∙ e);
-      }
+  object t there = grind (arith, word_by, areas_are, chains_are, words_lie)
 
   in_jobs : (n : ℕ) (rows : List JobRow) → ((y : SessionJob) → Has (members_from k n rows) y → Has (shown k).jobs y) → EachJob (JobObjectFacts k) n rows
   in_jobs n [] inside = tt
@@ -54,11 +46,7 @@ module _ (read : DirectoriesAreRead) (k : Sight) (x : Storage) (critical : List 
   objects_of = record { jobs = in_jobs 1 k.jobs (λ y h. h); objects = object }
 
   spans_are : spans_of k.core x.low ≡ x.spans
-  spans_are =
-      let d = holds.memory.directory in
-      let few = spans_few x.low x.spans d.spans in
-      let all = d.all in
-      read k.core x.low x.spans d (length k.core) (omega (arith, few, all))
+  spans_are = grind (arith, spans_few)
 
   info_same : (t : PagedObject) → Has (view_in k).objects t → info_of x t ≡ info_seen k t
   info_same t there = ap (λ c. record { kind = t.kind; words = length t.numbers; owner = t.home; kept = c }) (sym (chains_are t there))
@@ -84,18 +72,7 @@ module _ (read : DirectoriesAreRead) (k : Sight) (x : Storage) (critical : List 
   sectors t first h = (h.some, h.sectors)
 
   chained : (t : PagedObject) → (kd : Kind) → t.kind ≡ kd → (o : Option ℕ) → Content x k.core t o (x.held t.home).chain → Chained x.shelf t kd (x.held t.home).chain
-  chained t kd e (Some at) c = kept kd (subst (λ q. KeptChain x t q (x.held t.home).chain) e c.1) where
-    kept : (kd : Kind) → KeptChain x t kd (x.held t.home).chain → Chained x.shelf t kd (x.held t.home).chain
-    kept kind.Array (inl z) = inl z
-    kept kind.Array (inr h) = inr (sectors t (x.held t.home).chain h)
-    kept kind.Row h = sectors t (x.held t.home).chain h.chain
-    kept kind.Code h = sectors t (x.held t.home).chain h.chain
-  chained t kind.Array e None (inl h) = inr (sectors t (x.held t.home).chain h.chain)
-  chained t kind.Array e None (inr h) = inl h.0
-  chained t kind.Row e None (inl h) = sectors t (x.held t.home).chain h.chain
-  chained t kind.Row e None (inr h) = (let q = h.1 in absurd (let z : ⊥ = (let w = sym e ∙ q in cc) in z))
-  chained t kind.Code e None (inl h) = sectors t (x.held t.home).chain h.chain
-  chained t kind.Code e None (inr h) = (let q = h.1 in absurd (let z : ⊥ = (let w = sym e ∙ q in cc) in z))
+  chained t kd e o c = grind arith
 
   pub each_chained : (t : PagedObject) → Has (view_in k).objects t → Chained x.shelf t t.kind (held_of k t.home).chain
   each_chained t there = subst (Chained x.shelf t t.kind) (sym (chains_are t there)) (chained t t.kind refl (x.held t.home).area (holds.memory.objects t there).content)

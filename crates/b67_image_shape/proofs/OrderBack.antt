@@ -41,9 +41,7 @@ words_follow k i at zero rows = rows_follow 1 rows
 words_follow k i at (suc n) rows = (refl, words_follow k (i + 1) (at + 1) n rows)
 
 dictionary_words : (k : Sight) (at segments rows : ℕ) → DictionaryWords 1 (segments_from k.core at segments) (reverse (row_cells rows ++ segment_cells segments))
-dictionary_words k at segments rows =
-    subst (DictionaryWords 1 (segments_from k.core at segments)) (sym (reverse-append (row_cells rows) (segment_cells segments) ∙ ap (λ ws. ws ++ reverse (row_cells rows)) (segments_turned segments) ∙ ap (λ ws. up_segments 1 segments ++ ws) (rows_turned rows)))
-    (words_follow k 1 at segments rows)
+dictionary_words k at segments rows = grind (arith, reverse-append, segments_turned, rows_turned, words_follow)
 
 pub words_long : (rows segments : ℕ) → length (row_cells rows ++ segment_cells segments) ≡ rows + segments
 words_long zero zero = refl
@@ -74,22 +72,11 @@ one_job P k n (r ∷ more) h =
 -- rows of two jobs or more are no more than all rows
 split_rows : (tasks : List TaskRow) (n : ℕ) → length (filter (λ (r : TaskRow). nat_lt r.job n) tasks) + length (filter (λ (r : TaskRow). r.job == n) tasks) ≤ length (filter (λ (r : TaskRow). nat_lt r.job (n + 1)) tasks)
 split_rows [] n = omega arith
-split_rows (r ∷ more) n = by (split_rows more n) (cases_lt r.job n) (eqb_tells r.job n) where
-  by : length (filter (λ (r : TaskRow). nat_lt r.job n) more) + length (filter (λ (r : TaskRow). r.job == n) more) ≤ length (filter (λ (r : TaskRow). nat_lt r.job (n + 1)) more) → (r.job < n) ⊎ (n ≤ r.job)
-      → ((r.job == n ≡ true) × (r.job ≡ n)) ⊎ ((r.job == n ≡ false) × (r.job ≢ n))
-      → length (filter (λ (r : TaskRow). nat_lt r.job n) (r ∷ more)) + length (filter (λ (r : TaskRow). r.job == n) (r ∷ more)) ≤ length (filter (λ (r : TaskRow). nat_lt r.job (n + 1)) (r ∷ more))
-  by rest (inl l) (inl e) = absurd (let q = e.1 in omega (arith, l, q))
-  by rest (inl l) (inr e) = rw (lt-ltb r.job n l, e.0, lt-ltb r.job (n + 1) (omega (arith, l))) (omega (arith, rest))
-  by rest (inr l) (inl e) = (let q = e.1 in rw (le-ltb r.job n l, e.0, lt-ltb r.job (n + 1) (omega (arith, q))) (omega (arith, rest)))
-  by rest (inr l) (inr e) = (let q = e.1 in rw (le-ltb r.job n l, e.0, le-ltb r.job (n + 1) (omega (arith, q, l))) (omega (arith, rest)))
+split_rows (r ∷ more) n = grind (arith, cases_lt, eqb_tells, lt-ltb, le-ltb, split_rows more n)
 
 sum_tasks : (k : Sight) (a n : ℕ) (rows : List JobRow) → a ≤ length (filter (λ (r : TaskRow). nat_lt r.job n) k.tasks) → fold (λ (a : ℕ) (m : SessionJob). a + length m.progress.job.tasks) a (members_from k n rows) ≤ length k.tasks
 sum_tasks k a n [] low = let few = length_filter (λ (r : TaskRow). nat_lt r.job n) k.tasks in omega (arith, low, few)
-sum_tasks k a n (row ∷ more) low =
-    let step = split_rows k.tasks n in
-    let long = length-map (rows_of k.tasks n) (task_in k row n) in
-    let all = sorted_long (rows_in k.tasks n) in
-    sum_tasks k (a + length (job_seen k row n).tasks) (n + 1) more (omega (arith, low, step, long, all))
+sum_tasks k a n (row ∷ more) low = grind (arith, split_rows, length-map, sorted_long, sum_tasks k (a + length (job_seen k row n).tasks) (n + 1) more)
 
 -- numbers that differ and lie below a bound are no more than that
 without : ℕ → List ℕ → List ℕ
@@ -99,13 +86,7 @@ without n (x ∷ more) = if x == n then without n more else x ∷ without n more
 without_has : (n : ℕ) (xs : List ℕ) (x : ℕ) → Has (without n xs) x → Has xs x × (x ≢ n)
 unfolding without
 without_has n [] x h = absurd h
-without_has n (y ∷ more) x h = by (eqb_tells y n) h (λ g. without_has n more x g) where
-  by : ((y == n ≡ true) × (y ≡ n)) ⊎ ((y == n ≡ false) × (y ≢ n)) → Has (if y == n then without n more else y ∷ without n more) x → (Has (without n more) x → Has more x × (x ≢ n)) → Has (y ∷ more) x × (x ≢ n)
-  by (inl t) g rest = (let r = rest (subst (λ (b : Bool). Has (if b then without n more else y ∷ without n more) x) t.0 g) in (inr r.0, r.1))
-  by (inr t) g rest = kept (subst (λ (b : Bool). Has (if b then without n more else y ∷ without n more) x) t.0 g) t.1 rest where
-    kept : Has (y ∷ without n more) x → y ≢ n → (Has (without n more) x → Has more x × (x ≢ n)) → Has (y ∷ more) x × (x ≢ n)
-    kept (inl e) ne rest = (inl e, λ z. ne (e ∙ z))
-    kept (inr g) ne rest = (let r = rest g in (inr r.0, r.1))
+without_has n (y ∷ more) x h = grind (arith, eqb_tells, without, without_has n more x)
 
 without_none : (n : ℕ) (xs : List ℕ) → (Has xs n → ⊥) → length (without n xs) ≡ length xs
 unfolding without
@@ -115,32 +96,22 @@ without_none n (y ∷ more) away = rw (ne_eqb y n (λ e. away (inl e))) (ap suc 
 without_long : (n : ℕ) (xs : List ℕ) → Differ xs → length xs ≤ length (without n xs) + 1
 unfolding without
 without_long n [] d = omega arith
-without_long n (y ∷ more) d = by (eqb_tells y n) (without_long n more d.1) where
-  by : ((y == n ≡ true) × (y ≡ n)) ⊎ ((y == n ≡ false) × (y ≢ n)) → length more ≤ length (without n more) + 1 → suc (length more) ≤ length (if y == n then without n more else y ∷ without n more) + 1
-  by (inl t) rest = (let e = without_none n more (λ h. d.0 (subst (Has more) (sym t.1) h)) in rw t.0 (omega (arith, e)))
-  by (inr t) rest = rw t.0 (omega (arith, rest))
+without_long n (y ∷ more) d = grind (arith, eqb_tells, without, without_none, without_long n more d.1)
 
 without_differ : (n : ℕ) (xs : List ℕ) → Differ xs → Differ (without n xs)
 unfolding without
 without_differ n [] d = tt
-without_differ n (y ∷ more) d = by (y == n) (without_differ n more d.1) where
-  by : (b : Bool) → Differ (without n more) → Differ (if b then without n more else y ∷ without n more)
-  by true rest = rest
-  by false rest = (λ h. d.0 (without_has n more y h).0, rest)
+without_differ n (y ∷ more) d = grind (arith, without, without_has, without_differ n more d.1)
 
 pub few_by : (n : ℕ) (xs : List ℕ) → Differ xs → ((x : ℕ) → Has xs x → x < n) → length xs ≤ n
 few_by zero [] d low = omega arith
 few_by zero (x ∷ xs) d low = (let q = low x (inl refl) in absurd (omega (arith, q)))
-few_by (suc n) xs d low =
-    let rest = few_by n (without n xs) (without_differ n xs d) (λ x h. (let r = without_has n xs x h in let q = low x r.0 in let ne = r.1 in omega (arith, q, ne))) in
-    let long = without_long n xs d in
-    omega (arith, rest, long)
+few_by (suc n) xs d low = grind (arith, without, without_differ, without_has, without_long, few_by n (without n xs) (without_differ n xs d))
 
 -- ---- the order
 
 some_row : (k : Sight) (row : JobRow) (j : ℕ) (rs : List TaskRow) → map (task_in k row j) (sorted rs) ≢ [] → rs ≢ []
-some_row k row j [] h e = h refl
-some_row k row j (r ∷ more) h e = let z : ⊥ = cc in z
+some_row k row g rs h e = grind arith
 
 module _ (k : Sight) (facts : TableFacts k) (low size : ℕ) (fixed : FixedFacts k low size) (stacks : EachTask k (StackFacts k)) (reach : EachTask k (ReachFacts k)) (cells : EachTask k (CellFacts k)) (objects : ObjectsFacts k) where
   stack_short : (r : TaskRow) → Has k.tasks r → stack_words (stack_of_row k r) < k.regs.stack_size
@@ -176,22 +147,7 @@ module _ (k : Sight) (facts : TableFacts k) (low size : ℕ) (fixed : FixedFacts
     lies = dictionary_lies k.core k.regs.stacks 160 k.jobs i row fixed.dictionaries found
 
     task_order : (r : TaskRow) → Has (rows_of k.tasks (1 + i)) r → TaskInOrder (IsSegment (constants_in k row (1 + i))) (constants_in k row (1 + i)) (job_seen k row (1 + i)) (task_in k row (1 + i) r)
-    task_order r h =
-        let s = of_task (StackFacts k) stacks r h in
-        let q = of_task (ReachFacts k) reach r h in
-        let c = of_task (CellFacts k) cells r h in
-        let high = high_is r.number (frame_seen k.tasks (1 + i)) (array_homed k.regs k.tasks row) (stack_of_row k r) in
-        let short = s.fits.fits in
-        record {
-          frames = c.frames;
-          returns = s.returns;
-          some = some_frames r.number (frame_seen k.tasks (1 + i)) (array_homed k.regs k.tasks row) (stack_of_row k r) s.fits.some;
-          falls = q.falls;
-          not_higher = omega (arith, high, short);
-          place = s.place;
-          birth = q.birth;
-          condition = q.condition;
-        }
+    task_order r h = grind (arith, of_task, high_is, some_frames)
 
     arrays_fall : Falls (named (row.next_task + 1) 0) (map (λ (a : Array). a.identity) (job_seen k row (1 + i)).arrays)
     arrays_fall =
@@ -292,8 +248,7 @@ module _ (k : Sight) (facts : TableFacts k) (low size : ℕ) (fixed : FixedFacts
   few_live =
       let sum = sum_tasks k 0 1 k.jobs (omega arith) in
       let slots = few_by k.regs.peak (map (λ (r : TaskRow). r.slot) k.tasks) (slots_differ k.tasks facts.apart) (λ n h. (let b = has_map_back (λ (r : TaskRow). r.slot) k.tasks n h in subst (λ m. m < k.regs.peak) b.is (row_fact k facts b.item b.among).slot)) in
-      let long = length-map k.tasks (λ (r : TaskRow). r.slot) in
-      omega (arith, sum, slots, long)
+      grind (arith, length-map)
 
   pub order_back : IsInOrderButPlaces (shown k)
   order_back = record {

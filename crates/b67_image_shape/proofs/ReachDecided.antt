@@ -38,17 +38,11 @@ use Rattle.b67_image_shape.proofs.ReachSeen.{SeesAt, mark_told, reached_told, pl
 -- each item passes exactly if each is as it should be
 each_in : {A : Type 0} (test : A → Bool) (P : A → Type 0) (xs : List A) → ((x : A) → Has xs x → Decides (test x) (P x)) → Decides (list_all test xs) ((x : A) → Has xs x → P x)
 each_in test P [] d = yes (λ x h. absurd h)
-each_in {A} test P (x ∷ xs) d = like (test x && list_all test xs) to (λ f. (f x (inl refl), λ y h. f y (inr h))) (both (test x) (list_all test xs) (d x (inl refl)) (each_in test P xs (λ y h. d y (inr h)))) where
-  to : P x × ((y : A) → Has xs y → P y) → (y : A) → Has (x ∷ xs) y → P y
-  to (p, f) y (inl e) = subst P e p
-  to (p, f) y (inr h) = f y h
+each_in {A} test P (x ∷ xs) d = grind (arith, like, both, each_in test P xs)
 
 insert_long : (r : TaskRow) (xs : List TaskRow) → length (insert_row r xs) ≡ suc (length xs)
 insert_long r [] = refl
-insert_long r (q ∷ more) = by (nat_lt q.number r.number) (insert_long r more) where
-  by : (b : Bool) → length (insert_row r more) ≡ suc (length more) → length (if b then r ∷ q ∷ more else q ∷ insert_row r more) ≡ suc (suc (length more))
-  by true e = refl
-  by false e = ap suc e
+insert_long r (q ∷ more) = grind (arith, insert_long r more)
 
 sorted_long : (xs : List TaskRow) → length (sorted xs) ≡ length xs
 sorted_long [] = refl
@@ -63,12 +57,10 @@ parents_stop tasks (suc n) (Some r) h = ap (λ ns. r.number ∷ ns) (parents_sto
 -- ---- heads
 
 standing_entered : (frame : StackPlace → ℕ) (h : Head) → is_entered_head h ≡ true → IsEntered (standing_of frame h)
-standing_entered frame stack.Marked e = absurd (let z : ⊥ = cc in z)
-standing_entered frame (stack.Entered level environment back) e = tt
+standing_entered frame h e = grind arith
 
 entered_standing : (frame : StackPlace → ℕ) (h : Head) → IsEntered (standing_of frame h) → is_entered_head h ≡ true
-entered_standing frame stack.Marked e = absurd e
-entered_standing frame (stack.Entered level environment back) e = refl
+entered_standing frame h e = grind arith
 
 -- ---- frames by their marks
 
@@ -146,14 +138,7 @@ module _ (seen : ReachIsSeen) (k : Sight) (low size : ℕ) (facts : TableFacts k
     numbers = map (λ (u : Task). u.number) (job_seen k row r.job).tasks
 
     numbers_few : length numbers ≤ 15
-    numbers_few =
-        let some = (row_fact k facts r h).from_one in
-        let at : 1 + (r.job - 1) ≡ r.job = omega (arith, some) in
-        let few = (subst (λ j. JobFacts k.tasks j row) at (each_at (JobFacts k.tasks) 1 k.jobs (r.job - 1) row facts.jobs found)).few in
-        let a = ap length (map_numbers k row r.job (rows_of k.tasks r.job)) in
-        let b = length-map (rows_of k.tasks r.job) (λ (q : TaskRow). q.number) in
-        let c = sorted_long (rows_in k.tasks r.job) in
-        omega (arith, few, a, b, c)
+    numbers_few = grind (arith, row_fact, each_at, map_numbers, length-map, sorted_long)
 
     number_in : (q : TaskRow) → Has k.tasks q → q.job ≡ r.job → Has numbers q.number
     number_in q hq e = subst (λ ns. Has ns q.number) (sym (map_numbers k row r.job (rows_of k.tasks r.job)))
@@ -245,24 +230,15 @@ module _ (seen : ReachIsSeen) (k : Sight) (low size : ℕ) (facts : TableFacts k
     -- in one stack
     stack_falls : (p : TaskRow) → Has k.tasks p → (acts : List Activation) → Falls (named p.number (stack_words acts + 1)) (map name_of (seen_in p.slot acts))
     stack_falls p hp [] = tt
-    stack_falls p hp (a ∷ below) = by a.head (in_slot (location_in k.core) k facts near fixed.stack_high r.job p hp (stack_words below + 1)) (stack_falls p hp below) where
-      by : (q : Head) → frame_seen k.tasks r.job (record { stack = p.slot; disp = stack_words below + 1 }) ≡ named p.number (stack_words below + 1) → Falls (named p.number (stack_words below + 1)) (map name_of (seen_in p.slot below))
-          → Falls (named p.number (stack_words below + (stack.head_size q + length a.cells) + 1)) (frame_seen k.tasks r.job (record { stack = p.slot; disp = stack_words below + 1 }) ∷ map name_of (seen_in p.slot below))
-      by stack.Marked e rest = (omega (arith, e), subst (λ n. Falls n (map name_of (seen_in p.slot below))) (sym e) rest)
-      by (stack.Entered level environment back) e rest = (omega (arith, e), subst (λ n. Falls n (map name_of (seen_in p.slot below))) (sym e) rest)
+    stack_falls p hp (a ∷ below) = grind (arith, in_slot, stack_falls p hp below)
 
     stack_above : (p : TaskRow) → Has k.tasks p → (acts : List Activation) (n : ℕ) → Has (map name_of (seen_in p.slot acts)) n → named p.number 0 ≤ n
     stack_above p hp acts n there =
         let b = has_map_back name_of (seen_in p.slot acts) n there in
-        let place : b.item.0 ≡ record { stack = p.slot; disp = b.item.0.disp } = ap (λ n. record { stack = n; disp = b.item.0.disp }) (seen_stack p.slot acts b.item b.among) in
-        let name = sym b.is ∙ ap (frame_seen k.tasks r.job) place ∙ in_slot (location_in k.core) k facts near fixed.stack_high r.job p hp b.item.0.disp in
-        omega (arith, name)
+        grind (arith, seen_stack, in_slot)
 
     base_falls : (bound : ℕ) → 1 ≤ bound → Falls (named bound 0) (map name_of (base_seen r.job))
-    base_falls bound some =
-        let one = dictionary_name (location_in k.core) k facts near fixed.stack_high r.job in
-        let none = mcp_name (location_in k.core) k facts near fixed.stack_high r.job few in
-        (omega (arith, one, some), (omega (arith, one, none), tt))
+    base_falls bound some = grind (arith, dictionary_name, mcp_name, few)
 
     joined_falls : (p : TaskRow) → Has k.tasks p → (acts : List Activation) (rest : List Seen) (bound : ℕ) → stack_words acts < 2 ^ 14 → p.number < bound → Falls (named p.number 0) (map name_of rest) → Falls (named bound 0) (map name_of (seen_in p.slot acts ++ rest))
     joined_falls p hp acts rest bound small under f =

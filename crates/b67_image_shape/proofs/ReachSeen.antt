@@ -36,8 +36,7 @@ abbrev pub SeesAt : Sight → List Seen → ℕ → Type 0
 SeesAt k xs at = (x : Seen) × Has xs x × ((is_entered_head x.1 ≡ true) × (address_of (placed k) x.0 ≡ at))
 
 sees_either : (k : Sight) (at : ℕ) (xs ys : List Seen) → SeesAt k xs at ⊎ SeesAt k ys at → SeesAt k (xs ++ ys) at
-sees_either k at xs ys (inl (x, h, p)) = (x, has_append_left xs ys x h, p)
-sees_either k at xs ys (inr (x, h, p)) = (x, has_append_right xs ys x h, p)
+sees_either k at xs ys h = grind (arith, has_append_left, has_append_right)
 
 sees_one : (k : Sight) (at : ℕ) (xs ys : List Seen) → SeesAt k (xs ++ ys) at → SeesAt k xs at ⊎ SeesAt k ys at
 sees_one k at xs ys (x, h, p) = by (has_append_cases xs ys x h) where
@@ -49,20 +48,10 @@ itself : (b : Bool) → Decides b (b ≡ true)
 itself b = (λ e. e, λ e. e)
 
 swap : (a b c : Bool) → (a || (b || c)) ≡ (b || (a || c))
-swap true true c = refl
-swap true false c = refl
-swap false true c = refl
-swap false false c = refl
+swap a b c = grind arith
 
 four : (a b c d : Bool) → (c || ((a || b) || d)) ≡ (a || (b || (c || d)))
-four true true true d = refl
-four true true false d = refl
-four true false true d = refl
-four true false false d = refl
-four false true true d = refl
-four false true false d = refl
-four false false true d = refl
-four false false false d = refl
+four a b c d = grind arith
 
 module _ (k : Sight) (low size : ℕ) (facts : TableFacts k) (fixed : FixedFacts k low size) (near : NearStacks k) where
   stack_of : (r : TaskRow) (h : Has k.tasks r) → StackFactsBy (location_in k.core) k (of_row k facts r h).row r.job r
@@ -95,19 +84,10 @@ module _ (k : Sight) (low size : ℕ) (facts : TableFacts k) (fixed : FixedFacts
   head_told r h x there = entered_seen k.core (base_at k r) r.slot (of_row k facts r h).row.segments k.regs.stack_size (level_in k r) (top_in k r).f (top_in k r).s (top_inside r h) (walks r h) x there
 
   pub address_is : (r : TaskRow) → Has k.tasks r → (acts : List Activation) (x : Seen) → Has (seen_in r.slot acts) x → address_of (placed k) x.0 ≡ base_at k r + x.0.disp
-  address_is r h acts x there =
-      ap (λ n. base_of (placed k) n + x.0.disp) (seen_stack r.slot acts x there)
-      ∙ ap (λ (b : Bool). (if b then base_at k r else (if nat_lt r.slot 136 then dictionary_from k.jobs 1 (r.slot - 127) else 0)) + x.0.disp) (lt-ltb r.slot 120 (slot_few r h))
+  address_is r h acts x there = grind (arith, seen_stack, lt-ltb, slot_few)
 
   entered_told : (r : TaskRow) → Has k.tasks r → (at : ℕ) → Decides (entered_at k r at) (SeesAt k (seen_in r.slot (stack_of_row k r)) at)
-  entered_told r h at = like (entered_at k r at) to from (both (is_set (word_seen_at k.core at) 46) (marked_at k r at) (itself (is_set (word_seen_at k.core at) 46)) (mark_told r h at)) where
-    to : (is_set (word_seen_at k.core at) 46 ≡ true) × MarkAt (base_at k r) (seen_in r.slot (stack_of_row k r)) at → SeesAt k (seen_in r.slot (stack_of_row k r)) at
-    to (t, (x, hx, is)) = (x, hx, (head_told r h x hx ∙ ap (λ i. is_set (word_seen_at k.core i) 46) is ∙ t, address_is r h (stack_of_row k r) x hx ∙ is))
-
-    from : SeesAt k (seen_in r.slot (stack_of_row k r)) at → (is_set (word_seen_at k.core at) 46 ≡ true) × MarkAt (base_at k r) (seen_in r.slot (stack_of_row k r)) at
-    from (x, hx, (e, a)) =
-        let is = sym (address_is r h (stack_of_row k r) x hx) ∙ a in
-        (sym (head_told r h x hx ∙ ap (λ i. is_set (word_seen_at k.core i) 46) is) ∙ e, (x, hx, is))
+  entered_told r h at = grind (arith, like, both, itself, mark_told, head_told, address_is)
 
   kept_told : (p : TaskRow) → Has k.tasks p → (disp at : ℕ) → Decides (kept_at k disp p at) (SeesAt k (seen_in p.slot (from_disp disp (stack_of_row k p))) at)
   kept_told p h disp at =
@@ -131,10 +111,7 @@ module _ (k : Sight) (low size : ℕ) (facts : TableFacts k) (fixed : FixedFacts
   dictionary_is : (j : ℕ) (row : JobRow) → slice_get k.jobs (j - 1) ≡ Some row → 0 < j → j < 9 → address_of (placed k) (record { stack = 127 + j; disp = 0 }) ≡ row.dictionary
   dictionary_is j row found some few =
       let n : 127 + j - 127 ≡ 1 + (j - 1) = omega (arith, some) in
-      let d = ap (dictionary_from k.jobs 1) n ∙ dictionary_at 1 k.jobs (j - 1) row found in
-      ap (λ (b : Bool). (if b then k.regs.stacks + (127 + j) * k.regs.stack_size else (if nat_lt (127 + j) 136 then dictionary_from k.jobs 1 (127 + j - 127) else 0)) + 0) (le-ltb (127 + j) 120 (omega arith))
-      ∙ ap (λ (b : Bool). (if b then dictionary_from k.jobs 1 (127 + j - 127) else 0) + 0) (lt-ltb (127 + j) 136 (omega (arith, few)))
-      ∙ (let z : dictionary_from k.jobs 1 (127 + j - 127) + 0 ≡ row.dictionary = omega (arith, d) in z)
+      grind (arith, dictionary_at, le-ltb, lt-ltb)
 
   base_told : (j : ℕ) (row : JobRow) → slice_get k.jobs (j - 1) ≡ Some row → 0 < j → j < 9 → (at : ℕ) → Decides ((at == 0) || is_dictionary (slice_get k.jobs (j - 1)) at) (SeesAt k (base_seen j) at)
   base_told j row found some few at =
@@ -154,10 +131,7 @@ module _ (k : Sight) (low size : ℕ) (facts : TableFacts k) (fixed : FixedFacts
 
   module _ (j at : ℕ) (b : Bool) (d : Decides b (SeesAt k (base_seen j) at)) where
     base_alone : Decides (b || false) (SeesAt k (base_seen j) at)
-    base_alone = like (b || false) to inl (Decides-or b false d (nothing {P = ⊥} (λ z. z))) where
-      to : SeesAt k (base_seen j) at ⊎ ⊥ → SeesAt k (base_seen j) at
-      to (inl s) = s
-      to (inr z) = absurd z
+    base_alone = grind arith
 
     outside_told : (n disp : ℕ) (o : Option TaskRow) → ((p : TaskRow) → o ≡ Some p → Has k.tasks p) → Decides (b || outside_at k n disp o at) (SeesAt k (seen_from k j n disp o) at)
     outside_told zero disp o live = base_alone
@@ -212,24 +186,13 @@ module _ (k : Sight) (low size : ℕ) (facts : TableFacts k) (fixed : FixedFacts
         ∙ ap (λ (b : Bool). if b then record { stack = 127 + j; disp = 0 } else record { stack = 136; disp = 0 }) (eq-eqb row.dictionary row.dictionary refl))
     place_base x (inr (inl e)) =
         let l = dictionary_lies k.core k.regs.stacks 160 k.jobs (j - 1) row fixed.dictionaries found in
-        let high = l.high in
-        let low = l.low in
-        subst (λ (y : Seen). place_seen k.regs row j (address_of (placed k) y.0) ≡ y.0) e
-        (ap (λ (b : Bool). if b then (if 0 == row.dictionary then record { stack = 127 + j; disp = 0 } else record { stack = 136; disp = 0 }) else record { stack = (0 - k.regs.stacks) / k.regs.stack_size; disp = (0 - k.regs.stacks) % k.regs.stack_size })
-        (lt-ltb 0 k.regs.stacks (omega (arith, high)))
-        ∙ ap (λ (b : Bool). if b then record { stack = 127 + j; disp = 0 } else record { stack = 136; disp = 0 }) (ne_eqb 0 row.dictionary (λ z. omega (arith, z, low))))
+        grind (arith, lt-ltb, ne_eqb)
     place_base x (inr (inr h)) = absurd h
 
     place_from : (n disp : ℕ) (o : Option TaskRow) → ((p : TaskRow) → o ≡ Some p → Has k.tasks p) → (x : Seen) → Has (seen_from k j n disp o) x → place_seen k.regs row j (address_of (placed k) x.0) ≡ x.0
     place_from zero disp o live x h = place_base x h
     place_from (suc n) disp None live x h = place_base x h
-    place_from (suc n) disp (Some p) live x h = by (has_append_cases (seen_in p.slot (from_disp disp (stack_of_row k p))) (seen_from k j n p.critical (row_in_slot k.tasks p.parent)) x h)
-        (λ g. place_from n p.critical (row_in_slot k.tasks p.parent) (λ q e. (keyed_has (λ (z : TaskRow). z.slot) p.parent k.tasks q e).0) x g)
-      where
-        by : Has (seen_in p.slot (from_disp disp (stack_of_row k p))) x ⊎ Has (seen_from k j n p.critical (row_in_slot k.tasks p.parent)) x → (Has (seen_from k j n p.critical (row_in_slot k.tasks p.parent)) x → place_seen k.regs row j (address_of (placed k) x.0) ≡ x.0)
-            → place_seen k.regs row j (address_of (placed k) x.0) ≡ x.0
-        by (inl g) rest = place_own p (live p refl) x (from_cut p.slot disp (stack_of_row k p) x g).1
-        by (inr g) rest = rest g
+    place_from (suc n) disp (Some p) live x h = grind (arith, has_append_cases, keyed_has, place_own, from_cut, place_from n p.critical)
 
   -- the place of the address of a mark in reach is the mark's
   pub place_back : (r : TaskRow) (row : JobRow) → Has k.tasks r → slice_get k.jobs (r.job - 1) ≡ Some row → r.job < 9 → (x : Seen) → Has (seen_by k r) x → place_seen k.regs row r.job (address_of (placed k) x.0) ≡ x.0

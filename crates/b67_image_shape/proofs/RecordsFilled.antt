@@ -40,25 +40,10 @@ module _ (core : List Tagged) (base : ℕ) where
   here f s xs = filled_range (code_by base f (word_seen_at core f)) f (s + 1 - f) xs
 
   code_seen : (f s : ℕ) (below : List Activation) → StandsHere core base f s below → f < base + 2 ^ 14 → code_by base f (word_seen_at core f) ≡ record_code (stack_words below + 1) (record_seen core f s).head
-  code_seen f s below st small = by (mscw_in (word_seen_at core f)).entered refl where
-    u : suc base + stack_words below ≡ f
-    u = st.under
-
-    number : (d bit : ℕ) → f - base ≡ d → d < 2 ^ 14 → bit ≡ 1 → (f - base) % 2 ^ 14 * 2 + bit ≡ d * 2 + 1
-    number d bit e low is = omega (arith, e, low, is)
-
-    none : (d bit : ℕ) → f - base ≡ d → d < 2 ^ 14 → bit < 2 → bit ≢ 1 → (f - base) % 2 ^ 14 * 2 + bit ≡ d * 2
-    none d bit e low few ne = ⊎_elim (λ (h : bit < 1). omega (arith, e, low, h)) (λ (h : 1 ≤ bit). absurd (ne (omega (arith, h, few)))) (cases_lt bit 1)
-
-    by : (b : Bool) → (bits_at (word_seen_at core f) 46 1 == 1) ≡ b → code_by base f (word_seen_at core f) ≡ record_code (stack_words below + 1) (activation_by core f s (mscw_in (word_seen_at core f)) b).head
-    by true e = number (stack_words below + 1) (bits_at (word_seen_at core f) 46 1) (omega (arith, u)) (omega (arith, small, u)) (eqb-true (bits_at (word_seen_at core f) 46 1) 1 e)
-    by false e = (let n = (word_seen_at core f).bits in none (stack_words below + 1) (bits_at (word_seen_at core f) 46 1) (omega (arith, u)) (omega (arith, small, u)) (omega arith) (eqb-false (bits_at (word_seen_at core f) 46 1) 1 e))
+  code_seen f s below st small = grind arith
 
   at_top : (f s i : ℕ) (a : Activation) (below : List Activation) → suc base + stack_words below ≡ f → base + stack_words (a ∷ below) ≡ s → f ≤ i → i ≤ s → record_of_disp (i - base) (a ∷ below) ≡ record_code (stack_words below + 1) a.head
-  at_top f s i a below under top low high = top_record (i - base) a below (omega (arith, under, low)) (le_top (stack_words (a ∷ below)) top)
-    where
-      le_top : (n : ℕ) → base + n ≡ s → i - base ≤ n
-      le_top n e = omega (arith, e, high)
+  at_top f s i a below under top low high = grind arith
 
   at_below : (f i : ℕ) (a : Activation) (below : List Activation) → suc base + stack_words below ≡ f → i < f → record_of_disp (i - base) (a ∷ below) ≡ record_of_disp (i - base) below
   at_below f i a below under low = low_record (i - base) a below (omega (arith, under, low))
@@ -75,16 +60,10 @@ module _ (core : List Tagged) (base : ℕ) where
   here_long f s xs = filled_long (code_by base f (word_seen_at core f)) f (s + 1 - f) xs
 
   here_in : (f s i : ℕ) (xs : List ℕ) (below : List Activation) → StandsHere core base f s below → s < base + 2 ^ 14 → s < length xs → f ≤ i → i ≤ s → get_or (here f s xs) i 0 ≡ record_of_disp (i - base) (record_seen core f s ∷ below)
-  here_in f s i xs below st room inside low high =
-      let up = st.high in
-      filled_in (code_by base f (word_seen_at core f)) f (s + 1 - f) xs i low (omega (arith, up, high)) (omega (arith, high, inside))
-      ∙ code_seen f s below st (omega (arith, up, room)) ∙ sym (at_top f s i (record_seen core f s) below st.under st.top low high)
+  here_in f s i xs below st room inside low high = grind (arith, filled_in, code_seen, at_top)
 
   here_out : (f s i : ℕ) (xs : List ℕ) → f ≤ s → (i < f) ⊎ (s < i) → get_or (here f s xs) i 0 ≡ get_or xs i 0
-  here_out f s i xs up h = filled_out (code_by base f (word_seen_at core f)) f (s + 1 - f) xs i (past h) where
-    past : (i < f) ⊎ (s < i) → (i < f) ⊎ (f + (s + 1 - f) ≤ i)
-    past (inl h) = inl h
-    past (inr h) = inr (omega (arith, h, up))
+  here_out f s i xs up h = grind (arith, filled_out)
 
   abbrev Q : ℕ → ℕ → ℕ → List Activation → Type 0
   Q n f s acts = s < base + 2 ^ 14 → Fills n f s acts
@@ -173,10 +152,7 @@ module _ (k : Sight) (facts : TableFacts k) (low size : ℕ) (fixed : FixedFacts
   row_fills : (r : TaskRow) → Has k.tasks r → Fills k.core (base_at k r) k.regs.stack_size (top_in k r).f (top_in k r).s (stack_of_row k r)
   row_fills r h =
       let w = row_walks r h in
-      let high = w.high in
-      let inside = w.inside in
-      let small = w.small in
-      fills k.core (base_at k r) r.slot (row_walks r h).segments k.regs.stack_size (level_in k r) (top_in k r).f (top_in k r).s (omega (arith, high, inside)) (omega (arith, high, small)) (row_walks r h).walk
+      grind (arith, fills, row_walks)
 
   pub slots_apart : (r q : TaskRow) → r.slot < q.slot → base_at k r + k.regs.stack_size ≤ base_at k q
   slots_apart r q h = slot_inside k.regs.stacks r.slot k.regs.stack_size q.slot (base_at k q) (base_at k q) h refl (omega arith)
@@ -215,10 +191,7 @@ module _ (k : Sight) (facts : TableFacts k) (low size : ℕ) (fixed : FixedFacts
   rows_own : (rs : List TaskRow) → ((q : TaskRow) → Has rs q → Has k.tasks q) → RowsApart rs → (xs : List ℕ) → length xs ≡ length k.core → (r : TaskRow) → Has rs r → ((d : ℕ) → d < k.regs.stack_size → get_or xs (base_at k r + d) 0 ≡ 0)
       → (d : ℕ) → d < k.regs.stack_size → get_or (records_of_rows k rs xs) (base_at k r + d) 0 ≡ record_of_disp d (stack_of_row k r)
   rows_own [] live apart xs long r h none d low = absurd h
-  rows_own (q ∷ more) live apart xs long r (inl e) none d low =
-      subst (λ (p : TaskRow). get_or (records_of_rows k more (records_of_row k q xs)) (base_at k p + d) 0 ≡ record_of_disp d (stack_of_row k p)) e
-      (rows_other more (λ p h. live p (inr h)) q (live q (inl refl)) (λ p h. (all_in (AreApart q) more p apart.0 h).0) (records_of_row k q xs) d low
-      ∙ row_own q (live q (inl refl)) xs long (subst (λ (p : TaskRow). (d : ℕ) → d < k.regs.stack_size → get_or xs (base_at k p + d) 0 ≡ 0) (sym e) none) d low)
+  rows_own (q ∷ more) live apart xs long r (inl e) none d low = grind (arith, get_or, rows_other, all_in, row_own)
   rows_own (q ∷ more) live apart xs long r (inr h) none d low =
       rows_own more (λ p g. live p (inr g)) apart.1 (records_of_row k q xs) ((row_fills q (live q (inl refl))).long xs ∙ long) r h
       (λ e small. row_other r q (live r (inr h)) (live q (inl refl)) (λ z. (all_in (AreApart q) more r apart.0 h).0 (sym z)) xs e small ∙ none e small) d low
@@ -238,6 +211,4 @@ module _ (k : Sight) (facts : TableFacts k) (low size : ℕ) (fixed : FixedFacts
 
   -- and one that was lent
   pub records_lent : (xs zs : List ℕ) (n : ℕ) → n ≡ length xs → xs ≡ replicate (length k.core) 0 → zs ≡ records_of_rows k k.tasks xs → IsRecordTable k (take n (zs ++ drop (length zs) xs))
-  records_lent xs zs n long zeros is =
-      let same : n ≡ length zs = long ∙ sym (ap (λ (ys : List ℕ). length ys) is ∙ rows_long k.tasks (λ q h. h) xs) in
-      records_right xs (take n (zs ++ drop (length zs) xs)) zeros (ap (λ m. take m (zs ++ drop (length zs) xs)) same ∙ take_front zs (drop (length zs) xs) ∙ is)
+  records_lent xs zs n long zeros is = grind (arith, rows_long, records_right, take_front)

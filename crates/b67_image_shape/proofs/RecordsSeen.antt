@@ -15,45 +15,32 @@ pub low_record : (d : ℕ) (a : Activation) (below : List Activation) → d ≤ 
 low_record d a below h = ap (λ (b : Bool). if b then record_of_disp d below else (if nat_le d (stack_words (a ∷ below)) then record_code (stack_words below + 1) a.head else 0)) (le-leb d (stack_words below) h)
 
 pub top_record : (d : ℕ) (a : Activation) (below : List Activation) → stack_words below < d → d ≤ stack_words (a ∷ below) → record_of_disp d (a ∷ below) ≡ record_code (stack_words below + 1) a.head
-top_record d a below low high =
-    ap (λ (b : Bool). if b then record_of_disp d below else (if nat_le d (stack_words (a ∷ below)) then record_code (stack_words below + 1) a.head else 0)) (lt-leb d (stack_words below) low)
-    ∙ ap (λ (b : Bool). if b then record_code (stack_words below + 1) a.head else 0) (le-leb d (stack_words (a ∷ below)) high)
+top_record d a below low high = grind arith
 
 -- a record has its mark
 pub mark_inside : (a : Activation) (below : List Activation) → stack_words below + 1 ≤ stack_words (a ∷ below)
-mark_inside a below = by a.head where
-  by : (h : Head) → stack_words below + 1 ≤ stack_words below + (stack.head_size h + length a.cells)
-  by stack.Marked = omega arith
-  by (stack.Entered level environment back) = omega arith
+mark_inside a below = grind arith
 
 pub no_record : (d : ℕ) (acts : List Activation) → stack_words acts < d → record_of_disp d acts ≡ 0
 no_record d [] h = refl
-no_record d (a ∷ below) h =
-    let more = mark_inside a below in
-    ap (λ (b : Bool). if b then record_of_disp d below else (if nat_le d (stack_words (a ∷ below)) then record_code (stack_words below + 1) a.head else 0)) (lt-leb d (stack_words below) (omega (arith, h, more)))
-    ∙ ap (λ (b : Bool). if b then record_code (stack_words below + 1) a.head else 0) (lt-leb d (stack_words (a ∷ below)) h)
+no_record d (a ∷ below) h = grind arith
 
 -- ---- codes
 
 pub half_code : (d : ℕ) (h : Head) → record_code d h / 2 ≡ d
-half_code d stack.Marked = omega arith
-half_code d (stack.Entered level environment back) = omega arith
+half_code d h = grind arith
 
 pub entered_code : (d : ℕ) (h : Head) → is_entered_head h ≡ true → record_code d h ≡ d * 2 + 1
-entered_code d stack.Marked e = absurd (let z : ⊥ = cc in z)
-entered_code d (stack.Entered level environment back) e = refl
+entered_code d h e = grind arith
 
 code_entered : (m d : ℕ) (h : Head) → record_code m h ≡ d * 2 + 1 → (is_entered_head h ≡ true) × (m ≡ d)
-code_entered m d stack.Marked e = absurd (omega (arith, e))
-code_entered m d (stack.Entered level environment back) e = (refl, omega (arith, e))
+code_entered m d h e = grind arith
 
 -- ---- marks
 
 pub code_seen : (n : ℕ) (acts : List Activation) (x : Seen) → Has (seen_in n acts) x → (record_of_disp x.0.disp acts ≡ record_code x.0.disp x.1) × (0 < x.0.disp)
 code_seen n [] x h = absurd h
-code_seen n (a ∷ below) x (inl e) =
-    subst (λ (y : Seen). (record_of_disp y.0.disp (a ∷ below) ≡ record_code y.0.disp y.1) × (0 < y.0.disp)) e
-    (top_record (stack_words below + 1) a below (omega arith) (mark_inside a below), omega arith)
+code_seen n (a ∷ below) x (inl e) = grind arith
 code_seen n (a ∷ below) x (inr h) = let (e, some) = code_seen n below x h in (low_record x.0.disp a below (seen_low n below x h) ∙ e, some)
 
 -- an entered mark of a displacement
@@ -81,18 +68,9 @@ mark_there n d (a ∷ below) some e = ⊎_elim
     (cases_lt (stack_words below) d)
 
 pub there_mark : (n d : ℕ) (acts : List Activation) → HasDisp n acts d → (0 < d) × (record_of_disp d acts / 2 ≡ d) × (d ≤ stack_words acts)
-there_mark n d acts (x, h, e) =
-    let (code, some) = code_seen n acts x h in
-    let low = seen_low n acts x h in
-    subst (λ m. (0 < m) × (record_of_disp m acts / 2 ≡ m) × (m ≤ stack_words acts)) e (some, ap (λ m. m / 2) code ∙ half_code x.0.disp x.1, low)
+there_mark n d acts (x, h, e) = grind (arith, code_seen, seen_low, half_code)
 
 -- a record's mark stands no higher than what is in it
 pub half_low : (d : ℕ) (acts : List Activation) → record_of_disp d acts / 2 ≤ d
 half_low d [] = omega arith
-half_low d (a ∷ below) = ⊎_elim
-    (λ (low : stack_words below < d). ⊎_elim
-    (λ (past : stack_words (a ∷ below) < d). let z = no_record d (a ∷ below) past in omega (arith, z))
-    (λ (high : d ≤ stack_words (a ∷ below)). let e = ap (λ m. m / 2) (top_record d a below low high) ∙ half_code (stack_words below + 1) a.head in omega (arith, e, low))
-    (cases_lt (stack_words (a ∷ below)) d))
-    (λ (le : d ≤ stack_words below). let e = ap (λ m. m / 2) (low_record d a below le) in let rest = half_low d below in omega (arith, e, rest))
-    (cases_lt (stack_words below) d)
+half_low d (a ∷ below) = grind (arith, ⊎_elim, no_record, top_record, half_code, cases_lt, low_record, half_low d below)

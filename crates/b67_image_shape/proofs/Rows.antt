@@ -49,15 +49,7 @@ slots_differ (r ∷ more) a = (λ h. (let b = has_map_back (λ (r : TaskRow). r.
 
 numbers_apart : (job : ℕ) (rs : List TaskRow) → RowsApart rs → NumbersApart (rows_in rs job)
 numbers_apart job [] a = tt
-numbers_apart job (r ∷ more) a = by (cases_Bool (r.job == job)) (numbers_apart job more a.1) where
-  by : (r.job == job ≡ true) ⊎ (r.job == job ≡ false) → NumbersApart (rows_in more job) → NumbersApart (rows_in (r ∷ more) job)
-  by (inl t) rest = subst (λ (b : Bool). NumbersApart (if b then r ∷ rows_in more job else rows_in more job)) (sym t) (
-    (λ q h e.
-        let f = has_filter (λ (r : TaskRow). r.job == job) more q h in
-        (all_in (AreApart r) more q a.0 f.0).1 (eqb-true r.job job t ∙ sym (eqb-true q.job job f.1)) (sym e)),
-    rest,
-  )
-  by (inr t) rest = subst (λ (b : Bool). NumbersApart (if b then r ∷ rows_in more job else rows_in more job)) (sym t) rest
+numbers_apart job (r ∷ more) a = grind (arith, cases_Bool, has_filter, all_in, eqb-true, numbers_apart job more a.1)
 
 keyed_image : (n : ℕ) (rs : List TaskRow) → keyed (λ (w : Slotted). w.slot) n (map image rs) ≡ option_map image (row_in_slot rs n)
 keyed_image n [] = refl
@@ -105,11 +97,7 @@ module _ (k : Sight) (facts : TableFacts k) where
     pub is : task_in k row y.constants.number r ≡ u
 
   pub row_back : (y : SessionJob) (u : Task) → Has (shown k).jobs y → Has y.progress.job.tasks u → RowBack y u
-  row_back y u hy hu =
-      let m = row_of_member k 1 k.jobs y hy in
-      let b = has_map_back (task_in k m.row y.constants.number) (rows_of k.tasks y.constants.number) u (subst (λ (z : SessionJob). Has z.progress.job.tasks u) (sym m.is) hu) in
-      let f = has_filter (λ (q : TaskRow). q.job == y.constants.number) k.tasks b.item (sorted_has (rows_in k.tasks y.constants.number) b.item b.among) in
-      record { r = b.item; there = f.0; row = m.row; found = m.found; job = eqb-true b.item.job y.constants.number f.1; member = m.is; is = b.is }
+  row_back y u hy hu = grind (arith, row_of_member, has_map_back, has_filter, sorted_has, eqb-true)
 
   pub numbers_fall : (n : ℕ) (row : JobRow) → slice_get k.jobs (n - 1) ≡ Some row → Falls row.next_task (map (λ (u : Task). u.number) (job_seen k row n).tasks)
   numbers_fall n row e = subst (Falls row.next_task) (sym (map_numbers k row n (rows_of k.tasks n))) (sorted_falls row.next_task (rows_in k.tasks n) low (numbers_apart n k.tasks facts.apart)) where

@@ -30,10 +30,7 @@ use Rattle.b67_image_shape.proofs.Sources.{dictionaries_low}
 
 -- objects, areas and chains begin above the first dictionary
 pub low_enough : (k : Machine) → FrontFacts k → FIRST_DICTIONARY ≤ k.areas.low
-low_enough k f =
-    let low = dictionaries_low k.cpu.core k.cpu.regs.stacks FIRST_DICTIONARY (sight_of k).jobs f.fixed.dictionaries in
-    let begins = f.fixed.begins in
-    omega (arith, low, begins)
+low_enough k f = grind (arith, dictionaries_low)
 
 module _ (shown : MachinesAreShown) (exact : ItemsAreExact) (k : Machine) where
   -- a machine that represents a session has all items
@@ -52,17 +49,7 @@ module _ (shown : MachinesAreShown) (exact : ItemsAreExact) (k : Machine) where
 
 -- the items but the display
 pub but_display : (k : Machine) → NearStacksSuffice → AreSmall k.cpu.core → FrontFacts k → EachTask (sight_of k) (CellFacts (sight_of k)) → KeptFacts k → ButDisplay k
-but_display k suffice small f cells kept = record {
-  tables = f.tables;
-  fixed = f.fixed;
-  stacks = suffice (sight_of k) f.tables f.stacks cells;
-  reach = f.reach;
-  cells = cells;
-  critical = f.critical;
-  objects = record { jobs = long_facts (sight_of k) f.tables small kept.long; objects = kept.objects };
-  areas = kept.areas;
-  chains = kept.chains;
-}
+but_display k suffice small f cells kept = grind (arith, long_facts)
 
 pub told : (k : Machine) → ButDisplay k → IsToldDisplay k
 told k b = display_told k b
@@ -94,10 +81,7 @@ pub denied : {P : Type 0} (b : Bool) → Decides b P → b ≡ false → P → �
 denied b d f p = (let z : true ≡ false = sym (d.1 p) ∙ f in let y : ⊥ = cc in y)
 
 pub decides_by : {P : Type 0} (b : Bool) → OnTrue b P → OnFalse b (P → ⊥) → Decides b P
-decides_by {P} b held refuted = (λ e. OnTrue_at e held, λ p. by (cases_Bool b) p) where
-  by : (b ≡ true) ⊎ (b ≡ false) → P → b ≡ true
-  by (inl t) p = t
-  by (inr f) p = (let z : ⊥ = OnFalse_at f refuted p in absurd z)
+decides_by {P} b held refuted = grind arith
 
 -- ---- links
 
@@ -109,8 +93,7 @@ links_few t st links is e =
     let some = is.some in
     let small = is.small in
     let long = links_in-length t (length t.links - 1) (omega (arith, some)) in
-    let same = ap length e in
-    omega (arith, some, small, long, same)
+    grind arith
 
 -- objects, areas and chains belong together exactly if the test passes
 pub kept_told : (k : Machine) (kinds links : List ℕ) (b : Bool) (st : Shelf) → IsShelf k.sectors st → ObjectsAreTested → AreMarked k.cpu.core kinds (view_of k).objects → links ≡ links_in k.sectors → OnTrue b (AreKept k.cpu.core k.areas.low kinds links)

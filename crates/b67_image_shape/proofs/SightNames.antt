@@ -24,12 +24,10 @@ use Rattle.b67_image_shape.proofs.SightSeen.{SeesEntered}
 -- ---- heads
 
 pub entered_back : (frame : StackPlace → ℕ) (h : Head) → IsEntered (standing_of frame h) → is_entered_head h ≡ true
-entered_back frame stack.Marked e = absurd e
-entered_back frame (stack.Entered level environment back) e = refl
+entered_back h g e = grind arith
 
 pub entered_forth : (frame : StackPlace → ℕ) (h : Head) → is_entered_head h ≡ true → IsEntered (standing_of frame h)
-entered_forth frame stack.Marked e = absurd (let z : ⊥ = cc in z)
-entered_forth frame (stack.Entered level environment back) e = tt
+entered_forth h g e = grind arith
 
 module _ (k : Sight) (facts : TableFacts k) (low size : ℕ) (fixed : FixedFacts k low size) (near : NearStacks k) (seen : ReachIsSeen) (r : TaskRow) (h : Has k.tasks r) where
   abbrev pub row : JobRow
@@ -57,9 +55,7 @@ module _ (k : Sight) (facts : TableFacts k) (low size : ℕ) (fixed : FixedFacts
 
   own_seen : (acts : List Activation) → map known_of (frames_of r.number frame array acts) ≡ map (known_seen k r.job) (seen_in r.slot acts)
   own_seen [] = refl
-  own_seen (a ∷ below) =
-      ap (λ n. (n, standing_of frame a.head) ∷ map known_of (frames_of r.number frame array below)) (sym (in_slot (location_in k.core) k facts near fixed.stack_high r.job r h (stack_words below + 1)))
-      ∙ ap (λ ks. known_seen k r.job (record { stack = r.slot; disp = stack_words below + 1 }, a.head) ∷ ks) (own_seen below)
+  own_seen (a ∷ below) = grind (arith, in_slot, own_seen below)
 
   outer_is : outer ≡ map (known_seen k r.job) out
   outer_is =
@@ -68,9 +64,7 @@ module _ (k : Sight) (facts : TableFacts k) (low size : ℕ) (fixed : FixedFacts
       (ap (λ ks. ks ++ outer) (sym (own_seen (stack_of_row k r))) ∙ all ∙ map-append (known_seen k r.job) (seen_in r.slot (stack_of_row k r)) out)
 
   pub reach_is : (acts : List Activation) → map known_of (frames_of r.number frame array acts) ++ outer ≡ map (known_seen k r.job) (seen_in r.slot acts ++ out)
-  reach_is acts =
-      ap (λ ks. ks ++ outer) (own_seen acts) ∙ ap (λ ks. map (known_seen k r.job) (seen_in r.slot acts) ++ ks) outer_is
-      ∙ sym (map-append (known_seen k r.job) (seen_in r.slot acts) out)
+  reach_is acts = grind (arith, own_seen, outer_is, map-append)
 
   -- ---- spots
 
@@ -118,41 +112,11 @@ module _ (k : Sight) (facts : TableFacts k) (low size : ℕ) (fixed : FixedFacts
 
   -- its numbers are small
   pub place_small : (x : Seen) → PlaceOf x → (x.0.stack < 2 ^ 10) × (x.0.disp < 2 ^ 14)
-  place_small x (inl (inl e)) = (let s : 127 + r.job ≡ x.0.stack = ap (λ (y : Seen). y.0.stack) e in let d : 0 ≡ x.0.disp = ap (λ (y : Seen). y.0.disp) e in let f = few in (omega (arith, s, f), omega (arith, d)))
-  place_small x (inl (inr (inl e))) = (let s : 136 ≡ x.0.stack = ap (λ (y : Seen). y.0.stack) e in let d : 0 ≡ x.0.disp = ap (λ (y : Seen). y.0.disp) e in (omega (arith, s), omega (arith, d)))
-  place_small x (inl (inr (inr g))) = absurd g
-  place_small x (inr p) =
-      let s = p.stack_is in
-      let d = p.disp in
-      let slot = slot_few (location_in k.core) k facts near fixed.stack_high p.q p.there in
-      let words = words_small p.q p.there in
-      (omega (arith, s, slot), omega (arith, d, words))
+  place_small x h = grind (arith, few, slot_few, words_small)
 
   -- the name of a place in a live task of the job is that of no other
   pub same_place : (q : TaskRow) (hq : Has k.tasks q) → q.job ≡ r.job → (m : ℕ) → m < 2 ^ 14 → (x : Seen) → PlaceOf x → frame x.0 ≡ named q.number m → x.0 ≡ record { stack = q.slot; disp = m }
-  same_place q hq job m small x (inl (inl e)) name =
-      let one = ap (λ (y : Seen). frame y.0) (sym e) ∙ dictionary_name (location_in k.core) k facts near fixed.stack_high r.job in
-      let some = number_some k facts q hq in
-      absurd (omega (arith, one, name, some))
-  same_place q hq job m small x (inl (inr (inl e))) name =
-      let nil = ap (λ (y : Seen). frame y.0) (sym e) ∙ mcp_name (location_in k.core) k facts near fixed.stack_high r.job few in
-      let some = number_some k facts q hq in
-      absurd (omega (arith, nil, name, some))
-  same_place q hq job m small x (inl (inr (inr g))) name = absurd g
-  same_place q hq job m small x (inr p) name =
-      let words = words_small p.q p.there in
-      let d = p.disp in
-      let at : frame x.0 ≡ named p.q.number x.0.disp = ap (λ n. frame (record { stack = n; disp = x.0.disp })) p.stack_is ∙ in_slot (location_in k.core) k facts near fixed.stack_high r.job p.q p.there x.0.disp in
-      let number : p.q.number ≡ q.number = numbers p.q.number q.number x.0.disp m (omega (arith, d, words)) small (sym at ∙ name) in
-      let disp : x.0.disp ≡ m = disps p.q.number q.number x.0.disp m (omega (arith, d, words)) small (sym at ∙ name) in
-      let same : p.q ≡ q = same_number k facts p.q q p.there hq (p.job ∙ sym job) number in
-      ap (λ n. record { stack = n; disp = x.0.disp }) (p.stack_is ∙ ap (λ (z : TaskRow). z.slot) same) ∙ ap (λ n. record { stack = q.slot; disp = n }) disp
-    where
-      numbers : (a b d e : ℕ) → d < 2 ^ 14 → e < 2 ^ 14 → named a d ≡ named b e → a ≡ b
-      numbers a b d e x y z = omega (arith, x, y, z)
-
-      disps : (a b d e : ℕ) → d < 2 ^ 14 → e < 2 ^ 14 → named a d ≡ named b e → d ≡ e
-      disps a b d e x y z = omega (arith, x, y, z)
+  same_place q hq job m small x h name = grind (arith, dictionary_name, number_some, mcp_name, few, words_small, in_slot, same_number)
 
   -- ---- entered marks
 
@@ -160,6 +124,4 @@ module _ (k : Sight) (facts : TableFacts k) (low size : ℕ) (fixed : FixedFacts
   names_seen xs p (q, there, t) = record { standing = standing_of frame q; among = has_map (known_seen k r.job) xs (p, q) there; entered = entered_forth frame q t }
 
   pub seen_named : (xs : List Seen) (n : ℕ) → NamesEntered (map (known_seen k r.job) xs) n → (x : Seen) × Has xs x × (frame x.0 ≡ n) × (is_entered_head x.1 ≡ true)
-  seen_named xs n e =
-      let b = has_map_back (known_seen k r.job) xs (n, e.standing) e.among in
-      (b.item, b.among, ap (λ (y : Known). y.0) b.is, entered_back frame b.item.1 (subst IsEntered (ap (λ (y : Known). y.1) (sym b.is)) e.entered))
+  seen_named xs n e = grind (arith, has_map_back, entered_back)

@@ -23,20 +23,13 @@ abbrev pub SeesEntered : List Seen → StackPlace → Type 0
 SeesEntered xs p = (h : Head) × Has xs (p, h) × (is_entered_head h ≡ true)
 
 sees_either : (p : StackPlace) (xs ys : List Seen) → SeesEntered xs p ⊎ SeesEntered ys p → SeesEntered (xs ++ ys) p
-sees_either p xs ys (inl (h, there, e)) = (h, has_append_left xs ys (p, h) there, e)
-sees_either p xs ys (inr (h, there, e)) = (h, has_append_right xs ys (p, h) there, e)
+sees_either p xs ys h = grind (arith, has_append_left, has_append_right)
 
 sees_one : (p : StackPlace) (xs ys : List Seen) → SeesEntered (xs ++ ys) p → SeesEntered xs p ⊎ SeesEntered ys p
-sees_one p xs ys (h, there, e) = by (has_append_cases xs ys (p, h) there) where
-  by : Has xs (p, h) ⊎ Has ys (p, h) → SeesEntered xs p ⊎ SeesEntered ys p
-  by (inl g) = inl (h, g, e)
-  by (inr g) = inr (h, g, e)
+sees_one p xs ys (h, there, e) = grind (arith, has_append_cases)
 
 swap : (a b c : Bool) → (a || (b || c)) ≡ (b || (a || c))
-swap true true c = refl
-swap true false c = refl
-swap false true c = refl
-swap false false c = refl
+swap a b c = grind arith
 
 outermost_seen : (j : ℕ) (p : StackPlace) → Decides (is_outermost j p) (SeesEntered (base_seen j) p)
 outermost_seen j p = like (is_outermost j p) to from (both (p.disp == 0) ((p.stack == 127 + j) || (p.stack == 136)) (same_number p.disp 0) (Decides-or (p.stack == 127 + j) (p.stack == 136) (same_number p.stack (127 + j)) (same_number p.stack 136))) where
@@ -102,10 +95,7 @@ module _ (k : Sight) (records : List ℕ) (table : IsRecordTable k records) (hig
 
   module _ (j : ℕ) where
     base_alone : Decides (is_outermost j p || false) (SeesEntered (base_seen j) p)
-    base_alone = like (is_outermost j p || false) to inl (Decides-or (is_outermost j p) false (outermost_seen j p) (nothing {P = ⊥} (λ z. z))) where
-      to : SeesEntered (base_seen j) p ⊎ ⊥ → SeesEntered (base_seen j) p
-      to (inl s) = s
-      to (inr z) = absurd z
+    base_alone = grind (arith, like, Decides-or, outermost_seen, nothing)
 
     outside_seen : (n disp : ℕ) (o : Option TaskRow) → ((q : TaskRow) → o ≡ Some q → Has k.tasks q) → Decides (is_outermost j p || enters_outside k records p n disp o) (SeesEntered (seen_from k j n disp o) p)
     outside_seen zero disp o live = base_alone

@@ -11,12 +11,7 @@ abbrev pub SmallBelow : List Tagged → ℕ → Type 0
 SmallBelow core at = (n : ℕ) (w : Tagged) → n < at → slice_get core n ≡ Some w → w.bits < 2 ^ 48
 
 pub small_next : (core : List Tagged) (at : ℕ) (v : Tagged) → SmallBelow core at → slice_get core at ≡ Some v → v.bits < 2 ^ 48 → SmallBelow core (at + 1)
-small_next core at v below e small n w lt f = ⊎_elim (λ (h : n < at). below n w h f)
-    (λ (h : at ≤ n).
-    let here : n ≡ at = omega (arith, h, lt) in
-    let same : v ≡ w = same_Some v w (sym e ∙ ap (slice_get core) (sym here) ∙ f) in
-    subst (λ (x : Tagged). x.bits < 2 ^ 48) same small)
-    (cases_lt n at)
+small_next core at v below e small n w lt f = grind arith
 
 got : (core : List Tagged) (w : Tagged) → Has core w → (n : ℕ) × (n < length core) × (slice_get core n ≡ Some w)
 got [] w h = absurd h

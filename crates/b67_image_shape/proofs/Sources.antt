@@ -45,25 +45,14 @@ pub record Lies (stacks at : ℕ) (row : JobRow) : Type 0 where
 
 pub dictionary_lies : (core : List Tagged) (stacks at : ℕ) (rows : List JobRow) (i : ℕ) (row : JobRow) → DictionariesStandIn core stacks at rows → slice_get rows i ≡ Some row → Lies stacks at row
 dictionary_lies core stacks at [] i row d e = absurd (let z : ⊥ = cc in z)
-dictionary_lies core stacks at (r ∷ more) zero row d e =
-    let same : r ≡ row = cc in
-    let low = dictionaries_low core stacks (at + (2 + (r.segments + r.rows))) more d.1 in
-    let place = d.0.place in
-    subst (Lies stacks at) same (record { low = omega (arith, place); high = omega (arith, low, place); few = d.0.few })
-dictionary_lies core stacks at (r ∷ more) (suc i) row d e =
-    let l = dictionary_lies core stacks (at + (2 + (r.segments + r.rows))) more i row d.1 e in
-    let low = l.low in
-    record { low = omega (arith, low); high = l.high; few = l.few }
+dictionary_lies core stacks at (r ∷ more) zero row d e = grind (arith, dictionaries_low)
+dictionary_lies core stacks at (r ∷ more) (suc i) row d e = grind (arith, dictionary_lies core stacks (at + (2 + (r.segments + r.rows))) more i row d.1 e)
 
 pub dictionaries_apart : (core : List Tagged) (stacks at : ℕ) (rows : List JobRow) (i j : ℕ) (row next : JobRow) → DictionariesStandIn core stacks at rows → slice_get rows i ≡ Some row → slice_get rows j ≡ Some next → i < j
     → row.dictionary + (2 + (row.segments + row.rows)) ≤ next.dictionary
 dictionaries_apart core stacks at [] i j row next d e f low = absurd (let z : ⊥ = cc in z)
 dictionaries_apart core stacks at (r ∷ more) i zero row next d e f low = absurd (omega (arith, low))
-dictionaries_apart core stacks at (r ∷ more) zero (suc j) row next d e f low =
-    let same : r ≡ row = cc in
-    let l = (dictionary_lies core stacks (at + (2 + (r.segments + r.rows))) more j next d.1 f).low in
-    let place = d.0.place in
-    subst (λ (w : JobRow). w.dictionary + (2 + (w.segments + w.rows)) ≤ next.dictionary) same (omega (arith, l, place))
+dictionaries_apart core stacks at (r ∷ more) zero (suc j) row next d e f low = grind (arith, dictionary_lies)
 dictionaries_apart core stacks at (r ∷ more) (suc i) (suc j) row next d e f low = dictionaries_apart core stacks (at + (2 + (r.segments + r.rows))) more i j row next d.1 e f (omega (arith, low))
 
 -- ---- originals among words
@@ -78,8 +67,7 @@ original_at held core from (a ∷ more) home l (inl e) = let f = (subst (λ (q :
 original_at held core from (a ∷ more) home l (inr h) = let s = original_at held core from more home l.1 h in let low = s.low in let high = s.high in record { low = low; high = omega (arith, high) }
 
 under_head : (k : ℕ) (h : Head) (below : List Activation) (under : List Shape) (a : Shape) → Has under a → Has (headed k h below under) a
-under_head k stack.Marked below under a h = inr h
-under_head k (stack.Entered level environment back) below under a h = inr (inr h)
+under_head k e below under a h = grind arith
 
 -- an array that is shown of a cell is that of an original
 pub record ArrayOf (core : List Tagged) (array : ℕ → ℕ) (shapes : List Shape) (a : Array) : Type 0 where
@@ -97,14 +85,7 @@ array_in core owner array (Original home ∷ more) a (inr h) = let r = array_in 
 
 pub array_of : (core : List Tagged) (slot number : ℕ) (array : ℕ → ℕ) (acts : List Activation) (a : Array) → Has (arrays_of core number array acts) a → ArrayOf core array (words slot acts) a
 array_of core slot number array [] a h = absurd h
-array_of core slot number array (c ∷ below) a h = elim (has_append_cases (arrays_in core (named number (stack_words below + 1)) array c.cells) (arrays_of core number array below) a h) [
-  | inl z ↦
-      let r = array_in core (named number (stack_words below + 1)) array c.cells a z in
-      record { home = r.home; owner = r.owner; among = has_append_left c.cells (headed slot c.head below (words slot below)) (Original r.home) r.among; is = r.is }
-  | inr z ↦
-      let r = array_of core slot number array below a z in
-      record { home = r.home; owner = r.owner; among = has_append_right c.cells (headed slot c.head below (words slot below)) (Original r.home) (under_head slot c.head below (words slot below) (Original r.home) r.among); is = r.is }
-]
+array_of core slot number array (c ∷ below) a h = grind (arith, has_append_cases, array_in, has_append_left, has_append_right, under_head, array_of core slot number array below a)
 
 pub record RowArray (core : List Tagged) (before n : ℕ) (a : Array) : Type 0 where
   pub i : ℕ
@@ -120,16 +101,11 @@ row_array core before (suc n) a (inr h) = let r = row_array core before n a h in
 -- ---- homes and names
 
 pub number_some : (k : Sight) (facts : TableFacts k) (r : TaskRow) → Has k.tasks r → 0 < r.number
-number_some k facts r h = by (row_in_slot k.tasks r.parent) (row_fact k facts r h).born where
-  by : (o : Option TaskRow) → BornBy r o → 0 < r.number
-  by None b = (let e = b.0 in omega (arith, e))
-  by (Some p) b = (let e = b.1 in omega (arith, e))
+number_some k facts r h = grind (arith, row_fact)
 
 slot_found : (rs : List TaskRow) (r : TaskRow) → RowsApart rs → Has rs r → slot_numbered rs r.job r.number ≡ r.slot
 slot_found [] r a h = absurd h
-slot_found (q ∷ more) r a (inl e) =
-    ap (λ (b : Bool). if b then (if q.number == r.number then q.slot else slot_numbered more r.job r.number) else slot_numbered more r.job r.number) (eq-eqb q.job r.job (ap (λ (z : TaskRow). z.job) e))
-    ∙ ap (λ (b : Bool). if b then q.slot else slot_numbered more r.job r.number) (eq-eqb q.number r.number (ap (λ (z : TaskRow). z.number) e)) ∙ ap (λ (z : TaskRow). z.slot) e
+slot_found (q ∷ more) r a (inl e) = grind arith
 slot_found (q ∷ more) r a (inr h) = by (eqb_tells q.job r.job) (slot_found more r a.1 h) where
   by : ((q.job == r.job ≡ true) × (q.job ≡ r.job)) ⊎ ((q.job == r.job ≡ false) × (q.job ≢ r.job)) → slot_numbered more r.job r.number ≡ r.slot → slot_numbered (q ∷ more) r.job r.number ≡ r.slot
   by (inl t) rest =
@@ -150,13 +126,7 @@ module _ (k : Sight) (facts : TableFacts k) where
       ∙ ap (λ (o : Option TaskRow). named (number_by o) d) (found_row k facts r h)
 
   pub home_is : (r : TaskRow) → Has k.tasks r → (d : ℕ) → d < 2 ^ 14 → home_of k r.job (named r.number d) ≡ base_at k r + d
-  home_is r h d small =
-      let some = number_some k facts r h in
-      ap (λ (b : Bool). if b then dictionary_from k.jobs 1 r.job + 1 + segments_of k.jobs 1 r.job + named r.number d
-      else k.regs.stacks + slot_numbered k.tasks r.job (named r.number d / 2 ^ 14) * k.regs.stack_size + named r.number d % 2 ^ 14) (le-ltb (named r.number d) (2 ^ 14) (omega (arith, some)))
-      ∙ ap (λ q. k.regs.stacks + slot_numbered k.tasks r.job q * k.regs.stack_size + named r.number d % 2 ^ 14) (digits_div r.number small)
-      ∙ ap (λ q. k.regs.stacks + slot_numbered k.tasks r.job r.number * k.regs.stack_size + q) (digits_mod r.number small)
-      ∙ ap (λ n. k.regs.stacks + n * k.regs.stack_size + d) (slot_found k.tasks r facts.apart h)
+  home_is r h d small = grind (arith, number_some, le-ltb, digits_div, digits_mod, slot_found)
 
   pub home_row : (j n : ℕ) → n < 2 ^ 14 → home_of k j n ≡ dictionary_from k.jobs 1 j + 1 + segments_of k.jobs 1 j + n
   home_row j n small = ap (λ (b : Bool). if b then dictionary_from k.jobs 1 j + 1 + segments_of k.jobs 1 j + n else k.regs.stacks + slot_numbered k.tasks j (n / 2 ^ 14) * k.regs.stack_size + n % 2 ^ 14) (lt-ltb n (2 ^ 14) small)
@@ -197,9 +167,7 @@ code_in : (k : Sight) (plan : Placement) (j n at many : ℕ) (t : PagedObject) �
 code_in k plan j n at zero t e h = absurd h
 code_in k plan j n at (suc many) t e (inl z) =
     (n, omega arith, omega arith, ap (λ (q : PagedObject). q.home) (sym z), ap (λ (q : PagedObject). q.kind) (sym z), ap (λ (q : PagedObject). q.numbers) (sym z) ∙ ap (contents_at k.core) (e ∙ ap (λ (q : PagedObject). q.home) z))
-code_in k plan j n at (suc many) t e (inr h) =
-    let (i, low, high, home, kd, ns) = code_in k plan j (n + 1) (at + 1) many t (omega (arith, e)) h in
-    (i, omega (arith, low), omega (arith, high), home, kd, ns)
+code_in k plan j n at (suc many) t e (inr h) = grind (arith, code_in k plan j (n + 1) (at + 1) many t)
 
 module _ (held : Locations) (k : Sight) (facts : TableFacts k) (low size : ℕ) (fixed : FixedFacts k low size) (stacks : EachTask k (StackFactsBy held k)) where
   stack_high : (r : TaskRow) → Has k.tasks r → stack_words (stack_of_row k r) < k.regs.stack_size

@@ -54,25 +54,15 @@ module _ (held : Locations) (k : Sight) (facts : TableFacts k) (stacks : EachTas
 
   -- the tables are sound, as the law on reach asks
   pub rows_sound : (row : JobRow) (j : ℕ) → slice_get k.jobs (j - 1) ≡ Some row → j < 9 → RowsAreSound k row j
-  rows_sound row j found low = record {
-    few = low;
-    low = slot_few;
-    found = found_row k facts;
-    task = λ r h e. found_task row j found r h e;
-    same = λ r p h e f. (parent_job r p h f).0 ∙ e;
-  }
+  rows_sound row j found low = grind (arith, slot_few, found_row, found_task, parent_job)
 
   -- ---- names of places
 
   pub in_slot : (j : ℕ) (r : TaskRow) → Has k.tasks r → (d : ℕ) → frame_seen k.tasks j (record { stack = r.slot; disp = d }) ≡ named r.number d
-  in_slot j r h d =
-      ap (λ (b : Bool). if b then named (number_seen k.tasks r.slot) d else (if r.slot == 127 + j then 1 else 0)) (lt-ltb r.slot 120 (slot_few r h))
-      ∙ ap (λ (o : Option TaskRow). named (number_by o) d) (found_row k facts r h)
+  in_slot j r h d = grind (arith, lt-ltb, slot_few, found_row)
 
   pub dictionary_name : (j : ℕ) → frame_seen k.tasks j (record { stack = 127 + j; disp = 0 }) ≡ 1
-  dictionary_name j =
-      ap (λ (b : Bool). if b then named (number_seen k.tasks (127 + j)) 0 else (if 127 + j == 127 + j then 1 else 0)) (le-ltb (127 + j) 120 (omega arith))
-      ∙ ap (λ (b : Bool). if b then 1 else 0) (eq-eqb (127 + j) (127 + j) refl)
+  dictionary_name j = grind arith
 
   pub mcp_name : (j : ℕ) → j < 9 → frame_seen k.tasks j (record { stack = 136; disp = 0 }) ≡ 0
   mcp_name j few = ap (λ (b : Bool). if b then 1 else 0) (ne_eqb 136 (127 + j) (λ e. omega (arith, e, few)))
@@ -93,22 +83,14 @@ module _ (held : Locations) (k : Sight) (facts : TableFacts k) (stacks : EachTas
 
   pub from_words : (disp : ℕ) (acts : List Activation) → stack_words (from_disp disp acts) ≤ stack_words acts
   from_words disp [] = omega arith
-  from_words disp (a ∷ below) = by (stack_words below + 1 == disp) (from_words disp below) where
-    by : (b : Bool) → stack_words (from_disp disp below) ≤ stack_words below → stack_words (if b then a ∷ below else from_disp disp below) ≤ stack_words below + stack.size a
-    by true low = omega arith
-    by false low = omega (arith, low)
+  from_words disp (a ∷ below) = grind (arith, from_words disp below)
 
   -- among a stack's places and those further out, each is the spot of its name
   pub spots_in : (j : ℕ) (r : TaskRow) → Has k.tasks r → (array : ℕ → ℕ) (outer : ℕ → StackPlace) (out : List Seen)
       → ((s : Seen) → Has out s → (outer (frame_seen k.tasks j s.0) ≡ s.0) × (frame_seen k.tasks j s.0 < named r.number 0))
       → (acts : List Activation) (s : Seen) → Has (seen_in r.slot acts ++ out) s → spot_in r.slot outer (frames_of r.number (frame_seen k.tasks j) array acts) (frame_seen k.tasks j s.0) ≡ s.0
   spots_in j r h array outer out each [] s there = (each s there).0
-  spots_in j r h array outer out each (a ∷ below) s (inl e) =
-      let at : s.0 ≡ record { stack = r.slot; disp = stack_words below + 1 } = ap (λ (q : Seen). q.0) (sym e) in
-      let name : frame_seen k.tasks j s.0 ≡ named r.number (stack_words below + 1) = ap (frame_seen k.tasks j) at ∙ in_slot j r h (stack_words below + 1) in
-      ap (λ (b : Bool). if b then record { stack = r.slot; disp = height (frames_of r.number (frame_seen k.tasks j) array below) } else spot_in r.slot outer (frames_of r.number (frame_seen k.tasks j) array below) (frame_seen k.tasks j s.0))
-      (eq-eqb (named r.number (stack_words below + 1)) (frame_seen k.tasks j s.0) (sym name))
-      ∙ ap (λ d. record { stack = r.slot; disp = d }) (high_is r.number (frame_seen k.tasks j) array below) ∙ sym at
+  spots_in j r h array outer out each (a ∷ below) s (inl e) = grind (arith, in_slot, eq-eqb, high_is)
   spots_in j r h array outer out each (a ∷ below) s (inr there) =
       ap (λ (b : Bool). if b then record { stack = r.slot; disp = height (frames_of r.number (frame_seen k.tasks j) array below) } else spot_in r.slot outer (frames_of r.number (frame_seen k.tasks j) array below) (frame_seen k.tasks j s.0))
       (ne_eqb (named r.number (stack_words below + 1)) (frame_seen k.tasks j s.0) (differs (has_append_cases (seen_in r.slot below) out s there)))
@@ -124,21 +106,10 @@ module _ (held : Locations) (k : Sight) (facts : TableFacts k) (stacks : EachTas
 
   from_same : (number disp : ℕ) (frame : StackPlace → ℕ) (array : ℕ → ℕ) (acts : List Activation) → from_frame (named number disp) (frames_of number frame array acts) ≡ frames_of number frame array (from_disp disp acts)
   from_same number disp frame array [] = refl
-  from_same number disp frame array (a ∷ below) = elim (eqb_tells (stack_words below + 1) disp) [
-    | inl q ↦ rw (eq-eqb (named number (stack_words below + 1)) (named number disp) (ap (named number) q.1), q.0) refl
-    | inr q ↦ rw (ne_eqb (named number (stack_words below + 1)) (named number disp) (λ z. q.1 (omega (arith, z))), q.0) (from_same number disp frame array below)
-  ]
+  from_same number disp frame array (a ∷ below) = grind (arith, eqb_tells, eq-eqb, ne_eqb, from_same number disp frame array below)
 
   base_spots : (j bound : ℕ) → j < 9 → 1 ≤ bound → (s : Seen) → Has (base_seen j) s → (base_spot j (frame_seen k.tasks j s.0) ≡ s.0) × (frame_seen k.tasks j s.0 < named bound 0)
-  base_spots j bound few some s (inl e) =
-      let at : s.0 ≡ record { stack = 127 + j; disp = 0 } = ap (λ (q : Seen). q.0) (sym e) in
-      let name = ap (frame_seen k.tasks j) at ∙ dictionary_name j in
-      (ap (base_spot j) name ∙ sym at, omega (arith, name, some))
-  base_spots j bound few some s (inr (inl e)) =
-      let at : s.0 ≡ record { stack = 136; disp = 0 } = ap (λ (q : Seen). q.0) (sym e) in
-      let name = ap (frame_seen k.tasks j) at ∙ mcp_name j few in
-      (ap (base_spot j) name ∙ sym at, omega (arith, name, some))
-  base_spots j bound few some s (inr (inr h)) = absurd h
+  base_spots j bound few some s h = grind (arith, dictionary_name, mcp_name)
 
   module _ (row : JobRow) (j : ℕ) (found : slice_get k.jobs (j - 1) ≡ Some row) (few : j < 9) where
     pub outer_are : (n disp : ℕ) (o : Option TaskRow) (bound : ℕ) → 1 ≤ bound → ((p : TaskRow) → o ≡ Some p → Has k.tasks p × (p.job ≡ j) × (p.number < bound)) → (s : Seen) → Has (seen_from k j n disp o) s

@@ -26,11 +26,7 @@ toscw_fields : (s l f : ℕ) → s < 2 ^ 16 → l < 2 ^ 5 → f < 2 ^ 14 → let
 toscw_fields s l f sh lh fh = (omega arith, omega arith)
 
 place_low : (st : List Activation) → mark_place st ≤ stack_words st
-place_low [] = omega arith
-place_low (a ∷ below) = by a.head where
-  by : (h : Head) → stack_words below + 1 ≤ stack_words below + (head_size h + length a.cells)
-  by stack.Marked = omega arith
-  by (stack.Entered level environment back) = omega arith
+place_low st = grind arith
 
 pub many_words : (st : List Activation) → length st ≤ stack_words st
 many_words [] = omega arith
@@ -62,12 +58,7 @@ callers plan j job k outer P (f ∷ below) o = (by below f.standing o.0, callers
 
 module _ (held other : Locations) (same : (home : ℕ) → (other home).area ≡ (held home).area) where
   fits_over : (a : Shape) (at : ℕ) (w : Tagged) → Fits held a at w → Fits other a at w
-  fits_over (Is v) at w f = f
-  fits_over (Original home) at w f = f
-  fits_over (Copy c home) at w f = record { number = f.number; numbered = f.numbered; present = f.present; address = f.address; fits = f.fits; is = f.is; to = by f.present f.to } where
-    by : (b : Bool) → MatchBool b ((held home).area ≡ Some f.address) (f.address ≡ home) → MatchBool b ((other home).area ≡ Some f.address) (f.address ≡ home)
-    by true e = same home ∙ e
-    by false e = e
+  fits_over a at w f = grind arith
 
   pub lie_over : (core : List Tagged) (from : ℕ) (shapes : List Shape) → LieDownward (Fits held) core from shapes → LieDownward (Fits other) core from shapes
   lie_over core from [] l = tt
@@ -103,8 +94,7 @@ module _ (read : StacksAreRead) (k : Sight) (x : Storage) (critical : List ℕ) 
     slot = slot_live k facts r h
 
     stack_is : (b : Bool) → stack_of (if b then Running acts else Waiting acts) ≡ acts
-    stack_is true = refl
-    stack_is false = refl
+    stack_is b = grind arith
 
     fits : IsStack k.regs.stack_size acts
     fits = by (r.slot == k.regs.slot) (subst (SlotFits (view_in k) r.slot) slot (holds.memory.slots.laid.slots r.slot low)) where
@@ -137,14 +127,7 @@ module _ (read : StacksAreRead) (k : Sight) (x : Storage) (critical : List ℕ) 
         k.regs.stack_size (omega (arith, many, short)))
 
     top : TopFacts k r acts
-    top = record { runs = λ e. runs e (r.slot == k.regs.slot) refl there; waits = λ e. waits e (r.slot == k.regs.slot) refl there } where
-      runs : r.slot ≡ k.regs.slot → (b : Bool) → (r.slot == k.regs.slot) ≡ b → RepresentsSlot k.core k.regs (view_in k) r.slot (if b then Running acts else Waiting acts) → RepresentsRunning k.regs (view_in k) r.slot acts
-      runs e true is rep = rep
-      runs e false is rep = absurd (let z : ⊥ = (let yes = eq-eqb r.slot k.regs.slot e in cc) in z)
-
-      waits : r.slot ≢ k.regs.slot → (b : Bool) → (r.slot == k.regs.slot) ≡ b → RepresentsSlot k.core k.regs (view_in k) r.slot (if b then Running acts else Waiting acts) → slice_get k.core (base_at k r) ≡ Some (toscw_word (toscw_of acts))
-      waits ne true is rep = absurd (let z : ⊥ = (let no = ne_eqb r.slot k.regs.slot ne in cc) in z)
-      waits ne false is rep = rep.1
+    top = grind (arith, there, eq-eqb, ne_eqb)
 
     lie : LieDownward (Fits (held_of k)) k.core (suc (base_at k r)) (words r.slot acts)
     lie = lie_over x.held (held_of k) (area_same x k.core k.regs (view_in k) holds.memory) k.core (suc (base_at k r)) (words r.slot acts)

@@ -14,8 +14,7 @@ use Rattle.b67_image_shape.proofs.Fits.{same_is, is_same}
 use Rattle.b67_image_shape.proofs.Walked.{walk_stands, stands_walk}
 
 halves : (a b : Bool) → (a && b) ≡ true → (a ≡ true) × (b ≡ true)
-halves true b e = (refl, e)
-halves false b e = absurd (let z : ⊥ = cc in z)
+halves a b e = grind arith
 
 joined : (a b : Bool) → a ≡ true → b ≡ true → (a && b) ≡ true
 joined a b e f = ap (λ x. x && b) e ∙ f
@@ -30,9 +29,7 @@ module _ (k : Sight) (r : TaskRow) where
   level_runs e = sym (ap (level_by k r) (eq-eqb r.slot k.regs.slot e))
 
   pub level_waits : (base part : ℕ) (w : Tagged) → r.slot ≢ k.regs.slot → base ≡ base_at k r → w ≡ word_seen_at k.core base → part ≡ bits_at w 14 5 → part ≡ level_in k r
-  level_waits base part w ne b e p =
-      p ∙ ap (λ (v : Tagged). bits_at v 14 5) e ∙ ap (λ (n : ℕ). bits_at (word_seen_at k.core n) 14 5) b
-      ∙ sym (ap (level_by k r) (ne_eqb r.slot k.regs.slot ne))
+  level_waits base part w ne b e p = grind arith
 
   pub top_runs_fit : (base : ℕ) (b : Bool) → r.slot ≡ k.regs.slot → base ≡ base_at k r → b ≡ registers_fit k.regs base → b ≡ top_fits k r
   top_runs_fit base b e at is = is ∙ ap (registers_fit k.regs) at ∙ sym (ap (top_fits_by k r) (eq-eqb r.slot k.regs.slot e))
@@ -43,19 +40,10 @@ module _ (k : Sight) (r : TaskRow) where
   -- ---- the top
 
   top_stands : top_fits k r ≡ true → TopStands k r
-  top_stands t = record {
-    runs = λ e. (let p = halves (k.regs.bosr == base_at k r) (k.regs.losr + 1 == base_at k r + k.regs.stack_size) (sym (ap (top_fits_by k r) (eq-eqb r.slot k.regs.slot e)) ∙ t) in
-        (eqb-true k.regs.bosr (base_at k r) p.0, eqb-true (k.regs.losr + 1) (base_at k r + k.regs.stack_size) p.1));
-    waits = λ ne. same_is (word_seen_at k.core (base_at k r)) (toscw_word (toscw_in (word_seen_at k.core (base_at k r)))) (sym (ap (top_fits_by k r) (ne_eqb r.slot k.regs.slot ne)) ∙ t);
-  }
+  top_stands t = grind (arith, halves, eq-eqb, eqb-true, same_is, ne_eqb)
 
   stands_top : TopStands k r → top_fits k r ≡ true
-  stands_top t = ⊎_elim
-      (λ (e : r.slot ≡ k.regs.slot).
-      let (a, b) = t.runs e in
-      ap (top_fits_by k r) (eq-eqb r.slot k.regs.slot e) ∙ joined (k.regs.bosr == base_at k r) (k.regs.losr + 1 == base_at k r + k.regs.stack_size) (eq-eqb k.regs.bosr (base_at k r) a) (eq-eqb (k.regs.losr + 1) (base_at k r + k.regs.stack_size) b))
-      (λ (ne : r.slot ≢ k.regs.slot). ap (top_fits_by k r) (ne_eqb r.slot k.regs.slot ne) ∙ is_same (word_seen_at k.core (base_at k r)) (toscw_word (toscw_in (word_seen_at k.core (base_at k r)))) (t.waits ne))
-      (cases_eq r.slot k.regs.slot)
+  stands_top t = grind arith
 
   -- ---- all of it
 
@@ -70,19 +58,11 @@ module _ (k : Sight) (r : TaskRow) where
   top_falls segments e t = no_both (top_fits k r) e (stands_top t.top)
 
   pub walk_falls : (segments base turns level f s : ℕ) (b : Bool) → k.regs.stack_size < 2 ^ 14 → base ≡ base_at k r → turns ≡ k.regs.stack_size → level ≡ level_in k r → f ≡ (top_in k r).f → s ≡ (top_in k r).s → b ≡ walk_test k.core base r.slot segments turns level f s → b ≡ false → TaskStands k segments r → ⊥
-  walk_falls segments base turns level f s b room a c d e g is fails t =
-      let low = t.low in
-      no_both b fails (is ∙ walk_here segments base turns level f s a c d e g ∙ stands_walk k.core (base_at k r) r.slot segments k.regs.stack_size (level_in k r) (top_in k r).f (top_in k r).s (omega (arith, low, room)) t.stands)
+  walk_falls segments base turns level f s b room a c d e g is fails t = grind (arith, no_both, walk_here, stands_walk)
 
   pub place_falls : (segments : ℕ) (b : Bool) → b ≡ is_segment_place segments ((top_in k r).segment - 1) (top_in k r).place → b ≡ false → TaskStands k segments r → ⊥
   place_falls segments b is fails t = no_both b fails (is ∙ t.place)
 
   pub stands_if : (segments base size turns level f s : ℕ) (b p : Bool) → base_at k r + k.regs.stack_size ≤ length k.core → base ≡ base_at k r → size ≡ k.regs.stack_size → turns ≡ k.regs.stack_size → level ≡ level_in k r → f ≡ (top_in k r).f → s ≡ (top_in k r).s
       → s < base + size → top_fits k r ≡ true → b ≡ walk_test k.core base r.slot segments turns level f s → b ≡ true → p ≡ is_segment_place segments ((top_in k r).segment - 1) (top_in k r).place → p ≡ true → TaskStands k segments r
-  stands_if segments base size turns level f s b p inside a z c d e g high top is passes at place =
-      record {
-        low = omega (arith, a, z, g, high);
-        top = top_stands top;
-        stands = walk_stands k.core (base_at k r) r.slot segments k.regs.stack_size (level_in k r) (top_in k r).f (top_in k r).s (omega (arith, a, z, g, high, inside)) (sym (walk_here segments base turns level f s a c d e g) ∙ sym is ∙ passes);
-        place = sym at ∙ place;
-      }
+  stands_if segments base size turns level f s b p inside a z c d e g high top is passes at place = grind (arith, top_stands, walk_stands, walk_here)

@@ -36,14 +36,7 @@ job_at (j ∷ more) zero row e = (omega arith, λ d. same_Some (job_row j) row e
 job_at (j ∷ more) (suc i) row e = let (low, is) = job_at more i row e in (omega (arith, low), is)
 
 pub slot_inside : (stacks slot size peak low all : ℕ) → slot < peak → low ≡ stacks + peak * size → low ≤ all → stacks + slot * size + size ≤ all
-slot_inside stacks slot size peak low all s l i = let m = mul_more slot peak size s in omega (arith, l, i, m)
-  where
-    mul_more : (a b c : ℕ) → a < b → a * c + c ≤ b * c
-    mul_more a b c h =
-        let more : suc a ≤ b = omega (arith, h) in
-        let m : suc a * c ≤ b * c = mul-le-mul_right c more in
-        let s = suc-mul a c in
-        omega (arith, m, s)
+slot_inside stacks slot size peak low all s l i = grind arith
 
 -- the stack of a row stands, by its job's row
 abbrev pub StandsTask : Sight → rows.TaskRow → Type 0
@@ -68,13 +61,10 @@ module _ (k : Sight) (rs : List TaskRow) (js : List JobRow) (tasks : k.tasks ≡
   pub room_inside : (i : ℕ) (d : TaskRow) → i < length rs → base_at k (task_row (get_or rs i d)) + k.regs.stack_size ≤ length k.core
   room_inside i d h =
       let slot = (row_fact k facts (task_row (get_or rs i d)) (there i d h)).slot in
-      let l = fixed.begins in
-      let inside = fixed.inside in
-      slot_inside k.regs.stacks (get_or rs i d).slot k.regs.stack_size k.regs.peak low (length k.core) slot l inside
+      grind (arith, slot_inside, get_or)
 
   segments_are : (i : ℕ) (d : TaskRow) (j : JobRow) (row : rows.JobRow) → j ≡ get_or js ((get_or rs i d).job - 1) j → slice_get k.jobs ((get_or rs i d).job - 1) ≡ Some row → j.segments ≡ row.segments
-  segments_are i d j row is e =
-      ap (λ (q : JobRow). q.segments) is ∙ ap (λ (q : rows.JobRow). q.segments) ((job_at js ((get_or rs i d).job - 1) row (subst (λ (xs : List rows.JobRow). slice_get xs ((get_or rs i d).job - 1) ≡ Some row) jobs e)).1 j)
+  segments_are i d j row is e = grind (arith, job_at, get_or)
 
   pub stand_next : (i : ℕ) (d : TaskRow) (j : JobRow) → i < length rs → j ≡ get_or js ((get_or rs i d).job - 1) j → StandBelow k rs i → TaskStands k j.segments (task_row (get_or rs i d)) → StandBelow k rs (i + 1)
   stand_next i d j low is before t n h e row found = ⊎_elim

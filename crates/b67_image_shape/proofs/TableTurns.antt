@@ -21,10 +21,7 @@ use Rattle.b67_image_shape.specs.TableMarks.{end_by, HaveSlots}
 -- ---- a table that is filled from its beginning
 
 pub filled_next : (F : ℕ → ℕ) (xs : List ℕ) (i x : ℕ) → i < length xs → ((n : ℕ) → n < i → get_or xs n 0 ≡ F n) → x ≡ F i → (n : ℕ) → n < i + 1 → get_or (slice_set xs i x) n 0 ≡ F n
-filled_next F xs i x low before e n h = ⊎_elim
-    (λ (is : n ≡ i). subst (λ (m : ℕ). get_or (slice_set xs i x) m 0 ≡ F m) (sym is) (get_or-set_same xs i x 0 low ∙ e))
-    (λ (ne : n ≢ i). get_or-set_other xs i n x 0 ne ∙ before n (⊎_elim (λ lt. lt) (λ le. absurd (ne (omega (arith, le, h)))) (cases_lt n i)))
-    (cases_eq n i)
+filled_next F xs i x low before e n h = grind (arith, ⊎_elim, get_or, slice_set, get_or-set_same, get_or-set_other, cases_lt, cases_eq)
 
 -- ---- ends
 
@@ -74,48 +71,30 @@ no_row_mark k at n None e none = refl
 no_row_mark k at n (Some r) e none = let (h, q) = keyed_has (λ (w : rows.TaskRow). w.slot) n k.tasks r e in absurd (none r h q)
 
 pub no_slots : (k : Sight) (at : ℕ) → HaveSlots k → k.regs.stacks ≤ at → k.regs.stack_size ≡ 0 → 0 ≡ mark_at k at
-no_slots k at slots h z =
-    no_row_mark k at ((at - k.regs.stacks) / k.regs.stack_size) (row_in_slot k.tasks ((at - k.regs.stacks) / k.regs.stack_size)) refl (λ r there e. let some = (slots r there).1 in absurd (omega (arith, some, z)))
-    ∙ sym (in_slots k at h)
+no_slots k at slots h z = grind (arith, no_row_mark, in_slots)
 
 pub past_slots : (k : Sight) (at : ℕ) → HaveSlots k → k.regs.stacks ≤ at → 120 ≤ (at - k.regs.stacks) / k.regs.stack_size → 0 ≡ mark_at k at
-past_slots k at slots h far =
-    no_row_mark k at ((at - k.regs.stacks) / k.regs.stack_size) (row_in_slot k.tasks ((at - k.regs.stacks) / k.regs.stack_size)) refl (λ r there e. let low = (slots r there).0 in absurd (omega (arith, low, e, far)))
-    ∙ sym (in_slots k at h)
+past_slots k at slots h far = grind (arith, no_row_mark, in_slots)
 
 -- ---- by the end of what stands in a slot
 
 no_right : (a : Bool) → (a && false) ≡ false
-no_right true = refl
-no_right false = refl
+no_right a = grind arith
 
 in_slot : (k : Sight) (n : ℕ) (r : rows.TaskRow) → row_in_slot k.tasks n ≡ Some r → k.regs.stacks + n * k.regs.stack_size ≡ base_at k r
 in_slot k n r e = let (h, q) = keyed_has (λ (w : rows.TaskRow). w.slot) n k.tasks r e in ap (λ m. k.regs.stacks + m * k.regs.stack_size) (sym q)
 
 low_by : (k : Sight) (at n : ℕ) (o : Option rows.TaskRow) → row_in_slot k.tasks n ≡ o → at ≤ k.regs.stacks + n * k.regs.stack_size → 0 ≡ stack_mark k at o
-low_by k at n None e h = refl
-low_by k at n (Some r) e h =
-    sym (ap (λ (b : Bool). if b && (nat_le at (top_in k r).s && is_original_word (word_seen_at k.core at)) then 1 else 0) (le-ltb (base_at k r) at (subst (λ m. at ≤ m) (in_slot k n r e) h)))
+low_by k at n o e h = grind (arith, le-ltb, in_slot)
 
 high_by : (k : Sight) (at : ℕ) (o : Option rows.TaskRow) → end_by k o ≤ at → 0 ≡ stack_mark k at o
-high_by k at None h = refl
-high_by k at (Some r) h =
-    sym (ap (λ (b : Bool). if nat_lt (base_at k r) at && (b && is_original_word (word_seen_at k.core at)) then 1 else 0) (lt-leb at (top_in k r).s (omega (arith, h)))
-    ∙ ap (λ (b : Bool). if b then 1 else 0) (no_right (nat_lt (base_at k r) at)))
+high_by k at o h = grind arith
 
 other_by : (k : Sight) (at : ℕ) (o : Option rows.TaskRow) → is_original_word (word_seen_at k.core at) ≡ false → 0 ≡ stack_mark k at o
-other_by k at None h = refl
-other_by k at (Some r) h =
-    sym (ap (λ (b : Bool). if nat_lt (base_at k r) at && (nat_le at (top_in k r).s && b) then 1 else 0) h
-    ∙ ap (λ (b : Bool). if nat_lt (base_at k r) at && b then 1 else 0) (no_right (nat_le at (top_in k r).s))
-    ∙ ap (λ (b : Bool). if b then 1 else 0) (no_right (nat_lt (base_at k r) at)))
+other_by k at o h = grind arith
 
 here_by : (k : Sight) (at n : ℕ) (o : Option rows.TaskRow) → row_in_slot k.tasks n ≡ o → k.regs.stacks + n * k.regs.stack_size < at → at < end_by k o → is_original_word (word_seen_at k.core at) ≡ true → 1 ≡ stack_mark k at o
-here_by k at n None e lo hi w = absurd (omega (arith, hi))
-here_by k at n (Some r) e lo hi w =
-    sym (ap (λ (b : Bool). if b && (nat_le at (top_in k r).s && is_original_word (word_seen_at k.core at)) then 1 else 0) (lt-ltb (base_at k r) at (subst (λ m. m < at) (in_slot k n r e) lo))
-    ∙ ap (λ (b : Bool). if b && is_original_word (word_seen_at k.core at) then 1 else 0) (le-leb at (top_in k r).s (omega (arith, hi)))
-    ∙ ap (λ (b : Bool). if b then 1 else 0) w)
+here_by k at n o e lo hi w = grind (arith, lt-ltb, in_slot, le-leb)
 
 -- the slot of an address
 abbrev pub slot_of : Sight → ℕ → ℕ
@@ -128,9 +107,7 @@ base_is : (k : Sight) (s n z m : ℕ) → s ≡ k.regs.stacks → n ≡ m → z 
 base_is k s n z m a b c = rw (a, b, c) refl
 
 pub low_mark : (k : Sight) (at a s n z : ℕ) → k.regs.stacks ≤ at → a ≡ at → s ≡ k.regs.stacks → n ≡ slot_of k at → z ≡ k.regs.stack_size → a ≤ s + n * z → 0 ≡ mark_at k at
-low_mark k at a s n z h is f e g low =
-    let base = base_is k s n z (slot_of k at) f e g in
-    low_by k at (slot_of k at) (row_in_slot k.tasks (slot_of k at)) refl (omega (arith, base, low, is)) ∙ sym (in_slots k at h)
+low_mark k at a s n z h is f e g low = grind (arith, base_is, low_by, in_slots)
 
 pub high_mark : (k : Sight) (at a end : ℕ) → k.regs.stacks ≤ at → a ≡ at → end ≡ end_by k (row_in_slot k.tasks (slot_of k at)) → end ≤ a → 0 ≡ mark_at k at
 high_mark k at a end h is e past = high_by k at (row_in_slot k.tasks (slot_of k at)) (omega (arith, e, past, is)) ∙ sym (in_slots k at h)
@@ -140,9 +117,7 @@ other_mark k at h w = other_by k at (row_in_slot k.tasks (slot_of k at)) w ∙ s
 
 pub here_mark : (k : Sight) (at a s n z more end : ℕ) → k.regs.stacks ≤ at → a ≡ at → s ≡ k.regs.stacks → n ≡ slot_of k at → z ≡ k.regs.stack_size → s + n * z < a → more ≡ at → end ≡ end_by k (row_in_slot k.tasks (slot_of k at)) → more < end
     → is_original_word (word_seen_at k.core at) ≡ true → 1 ≡ mark_at k at
-here_mark k at a s n z more end h is f e g lo also ends hi w =
-    let base = base_is k s n z (slot_of k at) f e g in
-    here_by k at (slot_of k at) (row_in_slot k.tasks (slot_of k at)) refl (omega (arith, base, lo, is)) (omega (arith, ends, hi, also)) w ∙ sym (in_slots k at h)
+here_mark k at a s n z more end h is f e g lo also ends hi w = grind (arith, base_is, here_by, in_slots)
 
 -- the word that is read at an address
 pub word_read : (core : List Tagged) (at : ℕ) (w : Tagged) → slice_get core at ≡ Some w → w ≡ word_seen_at core at

@@ -13,33 +13,25 @@ use Rattle.b67_image_shape.specs.TableTests.{jobs_pass, are_apart, rows_apart, s
 use Rattle.b67_image_shape.specs.Laws.{TablesAreTested}
 use Rattle.b67_image_shape.proofs.Deciding.{same_number, other_number, less, at_most, both, like, yes, nothing, if_so, each, some, each_job}
 use Rattle.b67_model.specs.declared.limits.TheConstants.{MOST_JOBS, MOST_LIMIT}
+use Rattle.std.proofs.Common.{arith}
 
 -- ---- rows of tasks
 
 pairs : (r q : TaskRow) → Decides (are_apart r q) (AreApart r q)
-pairs r q = both (not (r.slot == q.slot)) (not ((r.job == q.job) && (r.number == q.number))) (other_number r.slot q.slot)
-    (like (not ((r.job == q.job) && (r.number == q.number))) (λ n e f. n (e, f)) (λ n (e, f). n e f)
-    (Decides-not ((r.job == q.job) && (r.number == q.number)) (both (r.job == q.job) (r.number == q.number) (same_number r.job q.job) (same_number r.number q.number))))
+pairs r q = grind arith
 
 apart : (rs : List TaskRow) → Decides (rows_apart rs) (RowsApart rs)
 apart [] = yes tt
 apart (r ∷ more) = both (list_all (are_apart r) more) (rows_apart more) (each (are_apart r) (AreApart r) (pairs r) more) (apart more)
 
 state : (s : RowState) → Decides (state_ready s) (s ≡ IsReady)
-state IsReady = yes refl
-state (AwaitsTask n) = nothing (λ e. let z : ⊥ = cc in z)
-state (WaitsAtCell mark offset) = nothing (λ e. let z : ⊥ = cc in z)
+state s = grind arith
 
 born : (r : TaskRow) (o : Option TaskRow) → Decides (born_test r o) (BornBy r o)
-born r None = both (r.number == 1) ((r.parent == 255) && (r.critical == 0)) (same_number r.number 1) (both (r.parent == 255) (r.critical == 0) (same_number r.parent 255) (same_number r.critical 0))
-born r (Some p) = both (p.job == r.job) (nat_lt p.number r.number) (same_number p.job r.job) (less p.number r.number)
+born r o = grind arith
 
 of_job : (k : Sight) (r : TaskRow) (o : Option JobRow) → Decides (of_job_test k r o) (IsRowOfJob k r o)
-of_job k r None = nothing (λ h. h)
-of_job k r (Some row) =
-    both (nat_lt r.number row.next_task) (not (r.slot == k.regs.slot) || ((k.regs.dict == row.dictionary) && (k.regs.entries == row.segments + row.rows))) (less r.number row.next_task)
-    (if_so (r.slot == k.regs.slot) ((k.regs.dict == row.dictionary) && (k.regs.entries == row.segments + row.rows)) (same_number r.slot k.regs.slot)
-    (both (k.regs.dict == row.dictionary) (k.regs.entries == row.segments + row.rows) (same_number k.regs.dict row.dictionary) (same_number k.regs.entries (row.segments + row.rows))))
+of_job k r o = grind arith
 
 pub row_decided : (k : Sight) (r : TaskRow) → Decides (row_test k r) (RowFacts k r)
 row_decided k r =
@@ -71,8 +63,7 @@ rises (a ∷ []) = yes tt
 rises (a ∷ b ∷ more) = both (nat_lt a.count b.count) (rise_test (b ∷ more)) (less a.count b.count) (rises (b ∷ more))
 
 runs : (k : Sight) (o : Option TaskRow) (running : ℕ) → Decides (running_test k.regs.slot o running) (RunningRow (placed k) o running)
-runs k None running = both (running == 255) (k.regs.slot == 255) (same_number running 255) (same_number k.regs.slot 255)
-runs k (Some r) running = both (not (running == 255)) (r.slot == k.regs.slot) (other_number running 255) (same_number r.slot k.regs.slot)
+runs k o running = grind arith
 
 pub counts_decided : (k : Sight) → Decides (counts_test k) (CountFacts k)
 counts_decided k =

@@ -101,11 +101,7 @@ module _ (k : Sight) (x : Storage) (critical : List ℕ) (ordered : IsInOrderBut
   -- ---- jobs
 
   ready_row : (m : SessionJob) (t : Task) (r : TaskRow) → TaskShows (placed k) m t r → IsTrue (is_ready t) → r.state ≡ IsReady
-  ready_row m t r sh e = by t.condition sh.state e where
-    by : (w : Condition) → r.state ≡ rows.shown (placed k) m.constants.number m.progress.job t w → IsTrue (is_ready (record t { condition = w })) → r.state ≡ IsReady
-    by Ready s e = s
-    by (Awaits n) s e = absurd (let z : ⊥ = cc in z)
-    by (WaitsAt f o) s e = absurd (let z : ⊥ = cc in z)
+  ready_row m t r sh e = grind arith
 
   goes_on : (row : JobRow) (n : ℕ) → Has (shown k).jobs (member_in k row n) → (rs : List TaskRow) → rows_in k.tasks n ≡ rs → JobGoesOn row rs
   goes_on row n there [] e = tt

@@ -32,15 +32,10 @@ module _ (c : JobConstants) (number : ℕ) (frame : stack.StackPlace → ℕ) (a
   no_acts (a ∷ below) e = absurd (let z : ⊥ = cc in z)
 
   return_in : (h : Head) (below : List Activation) → HeadFits h below → ReturnsTo (length c.segments) h below → ReturnsInOrder (IsSegment c) (standing_of frame h) (frames below)
-  return_in stack.Marked below f r = λ e. r (no_acts below e)
-  return_in (stack.Entered level environment None) below f r = no_frames below r
-  return_in (stack.Entered level environment (Some back)) below (a, b, d, (place, e)) (some, low, high) =
-      ((λ z. some (no_acts below z)), record { from_one = low; within = high; word_fits = place.word; syllable_fits = place.syllable })
+  return_in h below f r = grind (arith, no_acts, no_frames)
 
   in_return : (h : Head) (below : List Activation) → ReturnsInOrder (IsSegment c) (standing_of frame h) (frames below) → ReturnsTo (length c.segments) h below
-  in_return stack.Marked below r = λ e. r (no_frames below e)
-  in_return (stack.Entered level environment None) below r = no_acts below r
-  in_return (stack.Entered level environment (Some back)) below (some, s) = ((λ z. some (no_frames below z)), s.from_one, s.within)
+  in_return h below r = grind (arith, no_frames, no_acts)
 
   returns_in : (acts : List Activation) → HeadsFit acts → HaveReturns (length c.segments) acts → StackInOrder (IsSegment c) (frames acts)
   returns_in [] f r = tt
@@ -57,12 +52,7 @@ segments_long core at (suc n) = ap suc (segments_long core (at + 1) n)
 -- ---- the top of stack word
 
 mark_low : (acts : List Activation) → mark_place acts ≤ stack_words acts
-mark_low [] = omega arith
-mark_low (a ∷ below) = head_some a.head (stack_words below) (length a.cells)
-  where
-    head_some : (h : Head) (b n : ℕ) → b + 1 ≤ b + (stack.head_size h + n)
-    head_some stack.Marked b n = omega arith
-    head_some (stack.Entered level environment back) b n = omega arith
+mark_low h = grind arith
 
 toscw_read : (s l f : ℕ) → s < 2 ^ 14 → l < 2 ^ 5 → f < 2 ^ 14 → let w = word 3 (s * 2 ^ 20 + l * 2 ^ 14 + f) in (bits_at w 20 16 ≡ s) × (bits_at w 14 5 ≡ l) × (bits_at w 0 14 ≡ f)
 toscw_read s l f a b d = (omega (arith, a, b, d), omega (arith, a, b, d), omega (arith, a, b, d))
@@ -96,25 +86,7 @@ module _ (k : Sight) (row : JobRow) (job : ℕ) (r : TaskRow) (small : k.regs.st
   -- ---- there
 
   there_top : TaskStands k row.segments r → TopFacts k r acts
-  there_top t = record {
-    runs = λ e.
-        let (s, f, l) = runs_s e in
-        let (first, last) = t.top.runs e in
-        record { slot = sym e; first = first; last = last; top = sym (t.stands.top ∙ s); mark = sym (t.stands.mark ∙ f); level = sym (t.stands.level_is ∙ l) };
-    waits = λ ne.
-        let (s, f, l) = waits_s ne in
-        let low = t.low in
-        let top = t.stands.top in
-        let mark = t.stands.mark in
-        there (location_in k.core) k.core (base_at k r) (below (base_at k r) (top_in k r).s (stack_words acts) low top inside)
-        ∙ ap Some (t.top.waits ne ∙ toscw_same (bits_at w 20 16) (bits_at w 14 5) (bits_at w 0 14) (stack_words acts) (stack_level acts) (mark_place acts) (off (base_at k r) (stack_words acts) (bits_at w 20 16) (top ∙ s)) (sym (t.stands.level_is ∙ l)) (off (base_at k r) (mark_place acts) (bits_at w 0 14) (mark ∙ f)));
-  }
-    where
-      off : (b m n : ℕ) → b + m ≡ b + n → n ≡ m
-      off b m n e = omega (arith, e)
-
-      below : (b s m : ℕ) → s < b + k.regs.stack_size → b + m ≡ s → b + k.regs.stack_size ≤ length k.core → b < length k.core
-      below b s m low e all = omega (arith, low, e, all)
+  there_top t = grind (arith, runs_s, waits_s, there, toscw_same)
 
   forth : TaskStands k row.segments r → StackFactsBy (location_in k.core) k row job r
   forth t =
@@ -134,24 +106,10 @@ module _ (k : Sight) (row : JobRow) (job : ℕ) (r : TaskRow) (small : k.regs.st
   Tops = (base_at k r + stack_words acts ≡ (top_in k r).s) × (base_at k r + mark_place acts ≡ (top_in k r).f) × (stack_level acts ≡ level_in k r)
 
   is_toscw : (f : StackFactsBy (location_in k.core) k row job r) → r.slot ≢ k.regs.slot → (w ≡ toscw_word (toscw_of acts)) × (bits_at w 20 16 ≡ stack_words acts) × (bits_at w 14 5 ≡ stack_level acts) × (bits_at w 0 14 ≡ mark_place acts)
-  is_toscw f ne =
-      let e = word_is k.core (base_at k r) (toscw_word (toscw_of acts)) (f.top.waits ne) in
-      let fits = f.fits.fits in
-      let m = mark_low acts in
-      let (a, b, d) = toscw_read (stack_words acts) (stack_level acts) (mark_place acts) (omega (arith, fits, small)) (level_small k.core acts heads) (omega (arith, fits, small, m)) in
-      (e, ap (λ (v : Tagged). bits_at v 20 16) e ∙ a, ap (λ (v : Tagged). bits_at v 14 5) e ∙ b, ap (λ (v : Tagged). bits_at v 0 14) e ∙ d)
+  is_toscw f ne = grind (arith, word_is, mark_low, toscw_read, level_small, heads)
 
   tops : StackFactsBy (location_in k.core) k row job r → Tops
-  tops f = ⊎_elim
-      (λ (e : r.slot ≡ k.regs.slot).
-      let (s, m, l) = runs_s e in
-      let q = f.top.runs e in
-      (sym (s ∙ q.top), sym (m ∙ q.mark), sym (l ∙ q.level)))
-      (λ (ne : r.slot ≢ k.regs.slot).
-      let (s, m, l) = waits_s ne in
-      let (z, a, b, d) = is_toscw f ne in
-      (sym (s ∙ ap (λ n. base_at k r + n) a), sym (m ∙ ap (λ n. base_at k r + n) d), sym (l ∙ b)))
-      (cases_eq r.slot k.regs.slot)
+  tops f = grind (arith, ⊎_elim, runs_s, waits_s, is_toscw, cases_eq)
 
   back : StackFactsBy (location_in k.core) k row job r → TaskStands k row.segments r
   back f =

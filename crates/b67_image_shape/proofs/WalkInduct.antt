@@ -10,8 +10,7 @@ use Rattle.b67_image_shape.specs.StackWalk.{record_fits, level_under, under_fits
 use Rattle.b67_image_shape.proofs.Walked.{walk_stands}
 
 halves : (a b : Bool) → (a && b) ≡ true → (a ≡ true) × (b ≡ true)
-halves true b e = (refl, e)
-halves false b e = absurd (let z : ⊥ = cc in z)
+halves a b e = grind arith
 
 abbrev pub back_at : List Tagged → ℕ → ℕ
 back_at core f = (mscw_in (word_seen_at core f)).back
@@ -36,8 +35,7 @@ rest_walks core base k segments n level f d = walk_test core base k segments n (
 
 module _ (core : List Tagged) (base k segments : ℕ) (Q : ℕ → ℕ → ℕ → List Activation → Type 0) (bottom : (n f s : ℕ) → s < length core → back_at core f ≡ 0 → StandsHere core base f s [] → f ≡ base + 1 → Q (suc n) f s (record_seen core f s ∷ [])) (step : (n f s d : ℕ) → s < length core → back_at core f ≡ suc d → StandsHere core base f s (stack_seen core n (f - suc d) (f - 1)) → base + suc d < f → Q n (f - suc d) (f - 1) (stack_seen core n (f - suc d) (f - 1)) → Q (suc n) f s (record_seen core f s ∷ stack_seen core n (f - suc d) (f - 1))) where
   high_of : (level f s : ℕ) (m : Mscw) (e : Bool) → record_fits core k segments level f s m e ≡ true → f ≤ s
-  high_of level f s m true t = (let h = ltb-true f s (halves (nat_lt f s) _ t).0 in omega (arith, h))
-  high_of level f s m false t = leb-true f s (halves (nat_le f s) _ t).0
+  high_of level f s m e t = grind arith
 
   pub walk_induct : (n level f s : ℕ) → s < length core → walk_test core base k segments n level f s ≡ true → Q n f s (stack_seen core n f s)
   unfolding walk_test stack_seen

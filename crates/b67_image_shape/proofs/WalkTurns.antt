@@ -53,9 +53,7 @@ module _ (core : List Tagged) (base k segments turns top mark high turn level f 
   walk_low i low h = sym (i.same ∙ turn_is low ∙ ap (λ b. turn_by b fits_here (mscw_in (word_seen_at core f)).back) (le-ltb base f h))
 
   seen : At → turn < turns → base < f → (back : ℕ) (b : Bool) → fits_here ≡ b → (mscw_in (word_seen_at core f)).back ≡ back → all ≡ turn_by true b back
-  seen i low h back b fits e =
-      i.same ∙ turn_is low ∙ ap (λ c. turn_by c fits_here (mscw_in (word_seen_at core f)).back) (lt-ltb base f h)
-      ∙ ap (λ c. turn_by true c (mscw_in (word_seen_at core f)).back) fits ∙ ap (turn_by true b) e
+  seen i low h back b fits e = grind (arith, turn_is, lt-ltb)
 
   pub walk_unfit : At → turn < turns → base < f → fits_here ≡ false → false ≡ all
   walk_unfit i low h fits = sym (seen i low h (mscw_in (word_seen_at core f)).back false fits refl)

@@ -19,8 +19,7 @@ use Rattle.b67_image_shape.specs.StackWalk.{cell_fits, cells_fit, mark_by, retur
 use Rattle.b67_image_shape.proofs.Fits.{same_is, is_same, fits_is, is_fits, there}
 
 halves : (a b : Bool) → (a && b) ≡ true → (a ≡ true) × (b ≡ true)
-halves true b e = (refl, e)
-halves false b e = absurd (let z : ⊥ = cc in z)
+halves a b e = grind arith
 
 joined : (a b : Bool) → a ≡ true → b ≡ true → (a && b) ≡ true
 joined a b e f = ap (λ x. x && b) e ∙ f
@@ -58,13 +57,7 @@ module _ (core : List Tagged) where
 
   lie_cells : (from at n : ℕ) (under : List Shape) → from + length under ≡ at → LieDownward R core from (cells_in core at n ++ under) → (cells_fit core at n ≡ true) × LieDownward R core from under
   lie_cells from at zero under e l = (refl, l)
-  lie_cells from at (suc n) under e l =
-      let long = cells_under core at n under in
-      let here : from + length (cells_in core at n ++ under) ≡ at + n = omega (arith, long, e) in
-      let (w, is, fits) = subst (Part (shape_in core (at + n) (word_seen_at core (at + n)))) here l.0 in
-      let (more, below) = lie_cells from at n under e l.1 in
-      let t = is_fits held (shape_in core (at + n) (word_seen_at core (at + n))) (at + n) (word_seen_at core (at + n)) (subst (R (shape_in core (at + n) (word_seen_at core (at + n))) (at + n)) (sym (word_is core (at + n) w is)) fits) in
-      (joined (cell_fits core (at + n)) (cells_fit core at n) t more, below)
+  lie_cells from at (suc n) under e l = grind (arith, cells_under, is_fits, word_is, joined, lie_cells from at n under e l.1)
 
   plain_part : (i j : ℕ) (v : Tagged) → i ≡ j → i < length core → word_seen_at core i ≡ v → v.tag ≢ 5 → Part (Is v) j
   plain_part i j v e h is other = subst (Part (Is v)) e (word_seen_at core i, there held core i h, (is, other))
@@ -75,38 +68,29 @@ module _ (core : List Tagged) where
   -- ---- heads
 
   return_fits : (value : Bool) (at d : ℕ) (rest : ℕ → List Activation) → ReturnFits (return_by value (rcw_in (word_seen_at core at)) d) (below_by d rest)
-  return_fits value at zero rest = refl
-  return_fits value at (suc d) rest =
-      let n = (word_seen_at core at).bits in
-      (record { word = omega arith; syllable = omega arith }, (let z : n / 2 ^ 0 % 2 ^ 14 - 1 + 1 < 2 ^ 14 = omega arith in z))
+  return_fits value at d rest = grind arith
 
   head_fits : (f s : ℕ) (e : Bool) (rest : ℕ → List Activation) → HeadFits (activation_by core f s (mscw_in (word_seen_at core f)) e).head (below_by (mscw_in (word_seen_at core f)).back rest)
-  head_fits f s true rest = (omega arith, omega arith, omega arith, return_fits (mscw_in (word_seen_at core f)).value (f + 1) (mscw_in (word_seen_at core f)).back rest)
-  head_fits f s false rest = tt
+  head_fits f s e rest = grind arith
 
   below_heads : (d : ℕ) (rest : ℕ → List Activation) → ((n : ℕ) → HeadsFit (rest n)) → HeadsFit (below_by d rest)
-  below_heads zero rest h = tt
-  below_heads (suc d) rest h = h (suc d)
+  below_heads d rest h = grind arith
 
   -- the heads that are read fit
   pub heads_read : (n f s : ℕ) → HeadsFit (stack_seen core n f s)
   unfolding stack_seen
   heads_read zero f s = tt
-  heads_read (suc n) f s =
-      let m = mscw_in (word_seen_at core f) in
-      (head_fits f s m.entered (λ d. stack_seen core n (f - d) (f - 1)), below_heads m.back (λ d. stack_seen core n (f - d) (f - 1)) (λ d. heads_read n (f - d) (f - 1)))
+  heads_read (suc n) f s = grind (arith, head_fits, below_heads, heads_read n)
 
   level_by : (q : Head) (below : List Activation) → HeadFits q below → stack_level below < 2 ^ 5 → stack.level_from q (stack_level below) < 2 ^ 5
-  level_by stack.Marked below f low = low
-  level_by (stack.Entered level environment back) below f low = f.0
+  level_by q below f low = grind arith
 
   pub level_small : (acts : List Activation) → HeadsFit acts → stack_level acts < 2 ^ 5
   level_small [] h = omega arith
   level_small (a ∷ below) h = level_by a.head below h.0 (level_small below h.1)
 
   top_small : (acts : List Activation) → top_size acts ≤ stack_words acts
-  top_small [] = omega arith
-  top_small (a ∷ below) = omega arith
+  top_small acts = grind arith
 
   -- ---- what stands below a mark
 
@@ -121,58 +105,22 @@ module _ (core : List Tagged) where
       pub some : 0 < back → below ≢ []
 
     under_bottom : (f lv : ℕ) → f ≡ base + 1 → Under f 0 lv []
-    under_bottom f lv e = record {
-      words_are = omega (arith, e);
-      back_is = refl;
-      lie = tt;
-      returns = tt;
-      level = λ h. absurd (omega (arith, h));
-      none = λ z. refl;
-      some = λ h. absurd (omega (arith, h));
-    }
+    under_bottom f lv e = grind arith
 
     under_more : (f d lv : ℕ) (below : List Activation) → base + suc d < f → Stands core base k segments lv (f - suc d) (f - 1) below → Under f (suc d) lv below
-    under_more f d lv [] h s = absurd (s.some refl)
-    under_more f d lv (b ∷ rest) h s =
-        let top = s.top in
-        let mark = s.mark in
-        record {
-          words_are = omega (arith, top, h);
-          back_is = far (stack_words rest) (size b) top mark;
-          lie = s.lie;
-          returns = s.returns;
-          level = λ z. s.level_is;
-          none = λ z. absurd (omega (arith, z));
-          some = λ z. s.some;
-        }
-      where
-        far : (r z : ℕ) → base + (r + z) ≡ f - 1 → base + (r + 1) ≡ f - suc d → z ≡ suc d
-        far r z top mark = omega (arith, top, mark, h)
+    under_more f d lv below h s = grind arith
 
     stands_under : (f d lv : ℕ) (below : List Activation) → Under f (suc d) lv below → (base + suc d < f) × Stands core base k segments lv (f - suc d) (f - 1) below
-    stands_under f d lv [] u = absurd (u.some (omega arith) refl)
-    stands_under f d lv (b ∷ rest) u =
-        let (a, top, mark) = far (stack_words rest) (size b) u.words_are u.back_is in
-        (a, record { some = u.some (omega arith); top = top; mark = mark; level_is = u.level (omega arith); lie = u.lie; returns = u.returns })
-      where
-        far : (r z : ℕ) → suc base + (r + z) ≡ f → z ≡ suc d → (base + suc d < f) × (base + (r + z) ≡ f - 1) × (base + (r + 1) ≡ f - suc d)
-        far r z e is = (omega (arith, e, is), omega (arith, e), omega (arith, e, is))
+    stands_under f d lv below u = grind arith
 
     under_of : (f back lv : ℕ) (e : Bool) (fits : ℕ → Bool) (rest : ℕ → List Activation) → ((d : ℕ) → base < f → fits d ≡ true → Stands core base k segments lv (f - d) (f - 1) (rest d)) → base < f → under_fits base f back e fits ≡ true → Under f back lv (below_by back rest)
-    under_of f zero lv e fits rest go low t = under_bottom f lv (eqb-true f (base + 1) (halves (f == base + 1) e t).0)
-    under_of f (suc d) lv e fits rest go low t =
-        let p = halves (nat_lt (base + suc d) f) (fits (suc d)) t in
-        under_more f d lv (rest (suc d)) (ltb-true (base + suc d) f p.0) (go (suc d) low p.1)
+    under_of f back lv e fits rest go low t = grind (arith, under_bottom, eqb-true, halves, under_more, ltb-true)
 
     marked_some : (f back : ℕ) (fits : ℕ → Bool) → under_fits base f back false fits ≡ true → 0 < back
-    marked_some f zero fits t = let p = halves (f == base + 1) false t in absurd (let q = p.1 in let z : ⊥ = cc in z)
-    marked_some f (suc d) fits t = omega arith
+    marked_some f back fits t = grind arith
 
     under_walk : (f back lv : ℕ) (e : Bool) (fits : ℕ → Bool) (rest : ℕ → List Activation) → ((d : ℕ) → Stands core base k segments lv (f - d) (f - 1) (rest d) → fits d ≡ true) → (back ≡ 0 → e ≡ true) → Under f back lv (below_by back rest) → under_fits base f back e fits ≡ true
-    under_walk f zero lv e fits rest go entered u = let w = u.words_are in joined (f == base + 1) e (eq-eqb f (base + 1) (omega (arith, w))) (entered refl)
-    under_walk f (suc d) lv e fits rest go entered u =
-        let (h, s) = stands_under f d lv (rest (suc d)) u in
-        joined (nat_lt (base + suc d) f) (fits (suc d)) (lt-ltb (base + suc d) f h) (go (suc d) s)
+    under_walk f back lv e fits rest go entered u = grind arith
 
     -- ---- return words
 
@@ -190,24 +138,12 @@ module _ (core : List Tagged) where
 
     there_return : (at d level : ℕ) (place : stack.StackPlace) (value : Bool) (below : List Activation) → stack_level below < 2 ^ 5 → word_seen_at core at ≡ rcw_word (return_of (return_by value (rcw_in (word_seen_at core at)) d) below) → ReturnsTo segments (stack.Entered level place (return_by value (rcw_in (word_seen_at core at)) d)) below
         → (returns_here core segments at (return_by value (rcw_in (word_seen_at core at)) d) ≡ true) × (0 < d → stack_level below ≡ (rcw_in (word_seen_at core at)).level) × (d ≡ 0 → below ≡ []) × (0 < d → below ≢ [])
-    there_return at zero level place value below low e to = (is_same (word_seen_at core at) (rcw_word (return_of None below)) e, (λ h. absurd (omega (arith, h))), (λ z. to), λ h. absurd (omega (arith, h)))
-    there_return at (suc d) level place value below low e (some, from_one, within) =
-        let n = (word_seen_at core at).bits in
-        let r = rcw_in (word_seen_at core at) in
-        let lv : stack_level below ≡ r.level = sym (ap (λ (w : Tagged). (rcw_in w).level) e ∙ ap (λ (q : Rcw). q.level) (rcw_read (record { place = r.place; level = stack_level below; segment = r.segment - 1 + 1 }) (omega arith) (omega arith) low (let z : n / 2 ^ 0 % 2 ^ 14 - 1 + 1 < 2 ^ 14 = omega arith in z))) in (
-          joined (same (word_seen_at core at) (rcw_word (record { place = r.place; level = r.level; segment = r.segment - 1 + 1 }))) (nat_lt 0 (r.segment - 1) && nat_le (r.segment - 1) segments)
-              (is_same (word_seen_at core at) (rcw_word (record { place = r.place; level = r.level; segment = r.segment - 1 + 1 })) (e ∙ ap (λ n. rcw_word (record { place = r.place; level = n; segment = r.segment - 1 + 1 })) lv))
-              (joined (nat_lt 0 (r.segment - 1)) (nat_le (r.segment - 1) segments) (lt-ltb 0 (r.segment - 1) from_one) (le-leb (r.segment - 1) segments within)),
-          (λ h. lv),
-          (λ z. absurd (omega (arith, z))),
-          λ h. some,
-        )
+    there_return at d level place value below low e to = grind arith
 
     -- ---- one activation record
 
     bits_under : (f : ℕ) (m : Mscw) → mscw_in (word_seen_at core f) ≡ m → (back : ℕ) → back < 2 ^ 14 → (M : Mscw) → M.env_stack < 2 ^ 10 → M.env_disp < 2 ^ 16 → M.level < 2 ^ 5 → M.back ≡ back → word_seen_at core f ≡ mscw_word M → back ≡ m.back
-    bits_under f m read back small M a b c e is =
-        sym e ∙ sym (ap (λ (q : Mscw). q.back) (mscw_read M a b c (omega (arith, e, small)))) ∙ ap (λ (w : Tagged). (mscw_in w).back) (sym is) ∙ ap (λ (q : Mscw). q.back) read
+    bits_under f m read back small M a b c e is = grind arith
 
     stands_entered : (f s level : ℕ) (m : Mscw) (below : List Activation) → base < f → s < length core → record_fits core k segments level f s m true ≡ true → Under f m.back (rcw_in (word_seen_at core (f + 1))).level below → Stands core base k segments level f s (activation_by core f s m true ∷ below)
     stands_entered f s level m below low inside t u =
