@@ -34,6 +34,7 @@ ONLY_CALLS = re.compile(r"[\w ]+: it calls `")
 VERDICT = re.compile(r"^fn b67_\w+?::(\S+): (.*)$", re.M)
 ERROR = re.compile(r"^(?:note: )?(?:\./)?(\S+?):(\d+):\d+:(.*)$")
 MISSES = re.compile(r"has no field|is not in scope|has no `|was not admitted")
+RESTS = re.compile(r"was not admitted")
 
 
 class Edit:
@@ -218,7 +219,9 @@ def reason(said, texts, functions):
         return any(file.startswith(f"proofs/{it.replace('::', '/')}/") for it in functions)
 
     errors = [it for it in errors if is_own(*it)] or errors
-    says = [text for file, _, text in errors if not (file.startswith("proofs/") and MISSES.search(text))]
+    # (a proof may rest on a lemma over an edited definition)
+    over = any(file.startswith("specs/") for file in texts)
+    says = [text for file, _, text in errors if not (file.startswith("proofs/") and MISSES.search(text)) or over and RESTS.search(text)]
     if errors and not says:
         return "refused for a name", errors[0][2].strip()[:100]
     return "refused", (says or [""])[0].strip()[:100]
