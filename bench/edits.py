@@ -2,15 +2,17 @@
 """usage: edits.py [--applies] [--jobs N] [--since FILE] [CRATE|CRATE/EDIT..]
 
 Tries the edits of crates/CRATE/more-edits, or one edit of these or of must-fail by its name, many in one check: edits of one crate
-that stand in different functions, none of which calls another, are applied together, and each function is judged by its own
-contract. Without a name, all are
-tried. It works where the libraries below a crate are built, as the gate or `rt lib` left them in crates/*/out, and changes nothing
-there: a crate's text is copied. The crate as it stands is checked first, over what an earlier check kept.
+that stand in different functions are applied together, only these functions are checked, and each is judged by its own contract,
+over the contracts of what it calls. Of which that tells nothing is tried alone. Without a name, all are tried. It works where the
+libraries below a crate are built, as the gate or `rt lib` left them in crates/*/out, and changes nothing there: a crate's text is
+copied. A crate whose own library isn't built of its text is checked first as it stands. Each check of a crate goes on from what
+those before it proved.
 
-Prints a line for each edit: refused, with the function and the first error; refused for a name, if only a proof file misses what
-the edit took away; accepted, if the function is still proved; doesn't apply, if an old text doesn't stand once in its file; or not
-tried, if its check told nothing. Then a line for each crate. Ends with status 1 if an edit was neither refused nor accepted as
-refused. --applies only looks whether each edit applies. --since FILE leaves out edits that FILE, an earlier output, says were refused.
+Prints a line for each edit: refused, with the first error of its function; refused for a name, if only a proof file misses what the
+edit took away; accepted, if the function is still proved; doesn't apply, if an old text doesn't stand once in its file; or not
+tried, if its check told nothing. Then a line for each crate. Ends with status 1 if an edit was neither refused nor left out.
+--applies only looks whether each edit applies. --jobs N tries so many crates side by side. --since FILE leaves out edits that FILE,
+an earlier output, says were refused.
 """
 import collections
 import concurrent.futures
@@ -27,13 +29,17 @@ import time
 
 TOP = os.path.realpath(os.path.join(os.path.dirname(os.path.abspath(__file__)), ".."))
 FUNCTION = re.compile(r"^( *)(?:pub(?:\([^)]*\))? )?(?:const )?fn (\w+)", re.M)
-VERDICT = re.compile(r"^fn (b67_\w+(?:::\S+)*::\w+): (.*)$", re.M)
+HOLDER = re.compile(r"^impl(?:<[^{]*?>)? (?:(\w+)(?:<[^{]*?>)? for )?(\w+)", re.M)
+ONLY_CALLS = re.compile(r"[\w ]+: it calls `")
+VERDICT = re.compile(r"^fn b67_\w+?::(\S+): (.*)$", re.M)
 ERROR = re.compile(r"^(?:note: )?(?:\./)?(\S+?):(\d+):\d+:(.*)$")
 MISSES = re.compile(r"has no field|is not in scope|has no `|was not admitted")
+RESTS = re.compile(r"was not admitted")
 
 
 class Edit:
-    """One edit: its pairs of texts, and the functions in which they stand, as module and name; none of a text outside functions."""
+    """One edit: its pairs of texts, and the functions by which it is judged, as a check prints them: those in which a text stands, or, of a
+    file of definitions, those that name it; None where there are none."""
 
     def __init__(self, path):
         parts = path.split("/")
@@ -56,38 +62,49 @@ class Edit:
         texts = dict(texts)
         for file, old, new in self.pairs:
             if file not in texts:
+                if not os.path.isfile(os.path.join(folder, file)):
+                    self.why = self.why or f"{file} isn't there"
+                    return None
                 with open(os.path.join(folder, file), encoding="utf-8") as text:
                     texts[file] = text.read()
             count = texts[file].count(old)
             if count != 1:
                 self.why = self.why or f"a text stands {count} times in {file}"
                 return None
-            self.functions.add(function_at(file, texts[file], texts[file].index(old)))
+            self.functions |= functions_over(folder, file) or {function_at(file, texts[file], texts[file].index(old))}
             texts[file] = texts[file].replace(old, new)
         return texts
 
-    def paths(self):
-        """The functions, each as its name and the steps of its module."""
-        return [(name, [it for it in module.split("::") if it]) for module, name in self.functions]
-
 
 def function_at(file, text, place):
-    """The function in whose text a place stands, as module and name; None outside functions, and in a file that isn't code."""
-    found = [it for it in FUNCTION.finditer(text, 0, place)]
+    """The function in whose text a place stands, as a check prints it; None outside functions, and in a file that isn't code."""
+    found = list(FUNCTION.finditer(text, 0, place))
     if not file.startswith("src/") or not found:
         return None
     last = found[-1]
     if re.search(rf"^{last.group(1)}\}}$", text[last.end() : place], re.M):
         return None
     module = file[len("src/") : -len(".rt")].replace("/", "::")
-    return "" if module in ("lib", "main") else module, last.group(2)
+    holders = list(HOLDER.finditer(text, 0, last.start())) if last.group(1) else []
+    holder = holders[-1].group(2) + (holders[-1].group(1) or "") if holders else ""
+    return "::".join(it for it in ("" if module in ("lib", "main") else module, holder, last.group(2)) if it)
 
 
-def spans_of(text):
-    """Each function of a file with its first and its last line; attributes and comments before it belong to the one before."""
-    found = list(FUNCTION.finditer(text))
-    lines = [text.count("\n", 0, it.start()) + 1 for it in found]
-    return [(it.group(2), (first, last - 1)) for it, first, last in zip(found, lines, [*lines[1:], text.count("\n") + 2])]
+@functools.cache
+def functions_over(folder, file):
+    """The functions of the files of a crate's code that name a file of definitions, or one that names it."""
+    texts = {}
+    for at, _, names in (it for part in ("src", "specs") for it in os.walk(f"{folder}/{part}")):
+        for name in names:
+            with open(f"{at}/{name}", encoding="utf-8") as text:
+                texts[os.path.relpath(f"{at}/{name}", folder)] = text.read()
+    named, left = set(), [file] if file.startswith("specs/") else []
+    while left:
+        module = left.pop()[: -len(".antt")].replace("/", ".")
+        more = {it for it in texts if it not in named and re.search(rf"\b{os.path.basename(folder)}\.{module}\b", texts[it])}
+        named |= more
+        left += [it for it in more if it.startswith("specs/")]
+    return {function_at(it, texts[it], found.end()) for it in named if it.startswith("src/") for found in FUNCTION.finditer(texts[it])}
 
 
 def edits_of(words):
@@ -105,42 +122,19 @@ def edits_of(words):
     return found
 
 
-def calls_of(folder):
-    """Of each function's name the names that its text may call, and those that these may call in turn."""
-    bodies = collections.defaultdict(str)
-    for at, _, names in os.walk(f"{folder}/src"):
-        for name in (it for it in names if it.endswith(".rt")):
-            with open(f"{at}/{name}", encoding="utf-8") as text:
-                text = text.read()
-            found = list(FUNCTION.finditer(text))
-            for one, after in zip(found, [it.start() for it in found[1:]] + [len(text)]):
-                bodies[one.group(2)] += text[one.end() : after]
-    direct = {name: {it for it in re.findall(r"\b(\w+)\b(?:::<[^(]*>)?\(", body) if it in bodies} - {name} for name, body in bodies.items()}
-    calls = {}
-    for name in direct:
-        seen, left = set(), [name]
-        while left:
-            more = direct[left.pop()] - seen
-            seen |= more
-            left += more
-        calls[name] = seen
-    return calls
-
-
-def batches_of(edits, calls):
-    """Edits together that stand in different functions, none of which calls another; one outside functions alone."""
+def batches_of(edits, folder):
+    """Edits together that are judged by different functions; one of which no function tells alone."""
     batches = []
-
-    def fits(functions, others):
-        return not any(a == b or a[1] in calls.get(b[1], ()) or b[1] in calls.get(a[1], ()) for a in functions for b in others)
-
     for edit in edits:
-        place = None if None in edit.functions else next((it for it in batches if None not in it[1] and fits(edit.functions, it[1])), None)
-        if place is None:
-            batches.append(([edit], set(edit.functions)))
+        for together, functions, texts in batches:
+            applied = None if None in edit.functions | functions or edit.functions & functions else edit.apply(texts, folder)
+            if applied:
+                together.append(edit)
+                functions.update(edit.functions)
+                texts.update(applied)
+                break
         else:
-            place[0].append(edit)
-            place[1].update(edit.functions)
+            batches.append(([edit], set(edit.functions), edit.apply({}, folder)))
     return [it[0] for it in batches]
 
 
@@ -174,87 +168,78 @@ class Bench:
         self.crate = rtlib.Crate(self.folder, TOP, {})
         self.lacks = [it.name for it in self.crate.below() if not is_built(it)]
         os.makedirs(self.room)
+        if os.path.isdir(f"{self.folder}/out/incremental"):
+            shutil.copytree(f"{self.folder}/out/incremental", f"{self.room}/kept", symlinks=True)
 
-    def check(self, texts, number):
-        """What a check of the crate with these texts prints, and its status."""
-        at = f"{self.room}/{number}"
+    def check(self, texts, functions):
+        """What a check of these functions of the crate with these texts prints, and its status; without functions, of all."""
+        at = f"{self.room}/texts"
         for part in self.rtlib.PARTS:
             if os.path.isdir(f"{self.folder}/{part}"):
                 shutil.copytree(f"{self.folder}/{part}", f"{at}/{part}")
         for file, text in texts.items():
             with open(f"{at}/{file}", "w", encoding="utf-8") as out:
                 out.write(text)
-        seed = f"{self.room}/seed"
-        begin = seed if number != "first" else f"{self.folder}/out/incremental"
-        if os.path.isdir(begin):
-            shutil.copytree(begin, f"{at}/kept", symlinks=True)
-        else:
-            os.makedirs(f"{at}/kept")
-        words = [self.rtlib.RATTLE, "check", *self.crate.words(["--jobs", "1"], keeps=False), "--incremental", f"{at}/kept"]
+        words = [self.rtlib.RATTLE, "check", *self.crate.words(["--jobs", "1"], keeps=False), "--incremental", f"{self.room}/kept"]
+        words += [word for it in sorted(functions) for word in ("--only", it)]
         ran = subprocess.run(words, cwd=at, stdin=subprocess.DEVNULL, stdout=subprocess.PIPE, stderr=subprocess.STDOUT, errors="replace")
-        if number == "first":
-            os.rename(f"{at}/kept", seed)
-        shutil.rmtree(at, ignore_errors=True)
+        shutil.rmtree(at)
         return ran.stdout, ran.returncode
 
-    def judge(self, batch, texts, said, status):
-        """What each edit of a batch came to, of which these are the texts; None of one of which the check told nothing."""
-        lines = said.rstrip("\n").split("\n")
-        told = [(name.split("::")[1:], verdict) for name, verdict in VERDICT.findall(said)]
-        reached = bool(told) and not any(re.search(r"\berror\[[\w-]+\]", it) for it in lines)
-        results = {}
+    def try_together(self, edits):
+        """What each of these edits came to, tried in one check; None of one of which the check told nothing."""
+        texts, functions = {}, set()
+        for edit in edits:
+            texts = edit.apply(texts, self.folder)
+            functions |= edit.functions
+        said, status = self.check(texts, functions if all(it.startswith("src/") for it in texts) and None not in functions else ())
+        reached = VERDICT.search(said) and not re.search(r"\berror\[[\w-]+\]", said)
+        return {edit: self.judged(edit, texts, said, status) if reached else None for edit in edits}
+
+    def judged(self, edit, texts, said, status):
+        """What an edit came to by what its check said: by its functions' verdicts, or if it has none by the crate's."""
+        if None in edit.functions:
+            if status == 0:
+                return "accepted", ""
+            return reason(said, texts, ()) if said.rstrip().split("\n")[-1].startswith("logic=not-proved") else None
+        verdicts = [verdict for name, verdict in VERDICT.findall(said) if name in edit.functions]
+        if all(verdict == "proved" for verdict in verdicts):
+            return ("accepted", "") if verdicts else None
+        # (what is said of a function alone because it calls one that isn't proved is nothing of its own)
+        return reason(said, texts, edit.functions) if any(it != "proved" and not ONLY_CALLS.match(it) for it in verdicts) else None
+
+
+def reason(said, texts, functions):
+    """Refused, with the first error of these functions, of all if there are none; or refused for a name, if each only misses one."""
+    errors = [it.groups() for it in map(ERROR.match, said.split("\n")) if it and (": error" in it.group(0) or it.group(0).startswith("note: "))]
+
+    def is_own(file, line, _text):
+        if file in texts:
+            return function_at(file, texts[file], len("\n".join(texts[file].split("\n")[: int(line)]))) in functions
+        return any(file.startswith(f"proofs/{it.replace('::', '/')}/") for it in functions)
+
+    errors = [it for it in errors if is_own(*it)] or errors
+    # (a proof may rest on a lemma over an edited definition)
+    over = any(file.startswith("specs/") for file in texts)
+    says = [text for file, _, text in errors if not (file.startswith("proofs/") and MISSES.search(text)) or over and RESTS.search(text)]
+    if errors and not says:
+        return "refused for a name", errors[0][2].strip()[:100]
+    return "refused", (says or [""])[0].strip()[:100]
+
+
+def tried(bench, edits, tell):
+    """Tries a crate's edits; those of which a check of several told nothing, or no more than that a name is missed, are tried alone."""
+    if not is_built(bench.crate):
+        said, status = bench.check({}, ())
+        if status:
+            return [tell(edit, "not tried", f"the crate isn't proved as it stands: {said.rstrip().splitlines()[-1][:80]}") for edit in edits]
+    results = []
+    for batch in batches_of(edits, bench.folder):
+        found = bench.try_together(batch)
         for edit in batch:
-            if None in edit.functions:
-                results[edit] = ("accepted", "") if status == 0 else self.reason(lines, texts, None) if reached and lines[-1].startswith("logic=not-proved") else None
-                continue
-            verdicts = [verdict for path, verdict in told if any(path[-1] == name and path[:-1][: len(steps)] == steps for name, steps in edit.paths())]
-            if not reached or not verdicts or all(verdict == "proved" or "it calls `" in verdict for verdict in verdicts) and any(verdict != "proved" for verdict in verdicts):
-                # (what it says of a function that calls one that isn't proved is nothing of its own)
-                results[edit] = None
-            elif all(verdict == "proved" for verdict in verdicts):
-                results[edit] = "accepted", ""
-            else:
-                results[edit] = self.reason(lines, texts, edit)
-        return results
-
-    def reason(self, lines, texts, edit):
-        """Refused, with the first error of the edit's functions, and whether each of these only misses a name."""
-        errors = [(found.group(1), int(found.group(2)), found.group(3)) for found in map(ERROR.match, lines) if found and (": error" in found.group(0) or found.group(0).startswith("note: "))]
-        if edit:
-            proofs = [f"{module.replace('::', '/')}/{name}/".lstrip("/") for module, name in edit.functions]
-            spans = [(file, *span) for file, text in texts.items() for name, span in spans_of(text) if (file, name) in {(f"src/{module.replace('::', '/') or 'lib'}.rt", name) for module, name in edit.functions}]
-            errors = [it for it in errors if any(part in it[0] for part in proofs) or any(it[0] == file and first <= it[1] <= last for file, first, last in spans)] or errors
-        says = [text for file, _, text in errors if not (file.startswith("proofs/") and MISSES.search(text))]
-        if errors and not says:
-            return "refused for a name", errors[0][2].strip()[:100]
-        return "refused", (says or [""])[0].strip()[:100]
-
-
-def tried(bench, edits, jobs, tell):
-    """Tries a crate's edits; those of which a batch told nothing are tried alone."""
-    said, status = bench.check({}, "first")
-    if status:
-        return {edit: ("not tried", f"the crate isn't proved as it stands: {said.rstrip().splitlines()[-1][:80]}") for edit in edits}
-    results = {}
-
-    def one(numbered):
-        number, batch = numbered
-        texts = {}
-        for edit in batch:
-            texts = edit.apply(texts, bench.folder)
-        found = bench.judge(batch, texts, *bench.check(texts, number))
-        for edit in [it for it in batch if found[it] is None]:
-            if len(batch) > 1:
-                alone = edit.apply({}, bench.folder)
-                found[edit] = bench.judge([edit], alone, *bench.check(alone, f"{number}-{edit.name}"))[edit]
-            found[edit] = found[edit] or ("not tried", "its check told nothing of the function")
-        return found
-
-    with concurrent.futures.ThreadPoolExecutor(jobs) as pool:
-        for found in pool.map(one, enumerate(batches_of(edits, calls_of(bench.folder)))):
-            results.update(found)
-            for edit, (result, why) in found.items():
-                tell(edit, result, why)
+            if len(batch) > 1 and (found[edit] or ["refused for a name"])[0] == "refused for a name":
+                found.update(bench.try_together([edit]))
+            results.append(tell(edit, *(found[edit] or ("not tried", "its check told nothing of the function"))))
     return results
 
 
@@ -275,33 +260,33 @@ def main():
     if options["--since"]:
         with open(options["--since"], encoding="utf-8") as earlier:
             done = set(re.findall(r"^(b67_\w+/\w+) +refused(?: for a name)?(?:  |$)", earlier.read(), re.M))
-    table, bad = [], 0
 
     def tell(edit, result, why):
         print(f"{edit.crate + '/' + edit.name:<60} {result:<18}  {why}".rstrip(), flush=True)
+        return result
+
+    def one(crate):
+        began = time.time()
+        edits = [it for it in found[crate] if f"{it.crate}/{it.name}" not in done]
+        fit = [it for it in edits if it.apply({}, f"{TOP}/crates/{crate}") is not None]
+        results = [tell(edit, "doesn't apply", edit.why) for edit in edits if edit not in fit]
+        if fit and not applies:
+            bench = Bench(rtlib, crate, room)
+            if bench.lacks:
+                results += [tell(edit, "not tried", f"the library of {bench.lacks[0]} isn't built, or is older than its text") for edit in fit]
+            else:
+                results += tried(bench, fit, tell)
+            shutil.rmtree(bench.room)
+        return crate, len(edits), collections.Counter(results), time.time() - began
 
     rtlib = None if applies else kit()
-    with tempfile.TemporaryDirectory() as room:
-        for crate, edits in found.items():
-            began, count = time.time(), collections.Counter()
-            edits = [it for it in edits if f"{it.crate}/{it.name}" not in done]
-            fit = [it for it in edits if it.apply({}, f"{TOP}/crates/{crate}") is not None]
-            for edit in [it for it in edits if it not in fit]:
-                tell(edit, "doesn't apply", edit.why)
-            count["doesn't apply"] = len(edits) - len(fit)
-            if fit and not applies:
-                bench = Bench(rtlib, crate, room)
-                if bench.lacks:
-                    sys.exit(print(f"{crate}: the library of {bench.lacks[0]} isn't built, or is older than its text: call `rt lib` there, or run the gate", file=sys.stderr) or 2)
-                count.update(result for result, _ in tried(bench, fit, int(options["--jobs"]), tell).values())
-                shutil.rmtree(bench.room, ignore_errors=True)
-            bad += sum(count[it] for it in ("accepted", "doesn't apply", "not tried"))
-            table.append((crate, len(edits), count, time.time() - began))
+    with tempfile.TemporaryDirectory() as room, concurrent.futures.ThreadPoolExecutor(int(options["--jobs"])) as pool:
+        table = list(pool.map(one, found))
     kinds = ("refused", "refused for a name", "accepted", "doesn't apply", "not tried")
     print(f"{'crate':<24} {'edits':>6}  " + "  ".join(f"{it:>{max(len(it), 7)}}" for it in kinds) + "  seconds")
     for crate, number, count, seconds in table:
         print(f"{crate:<24} {number:>6}  " + "  ".join(f"{count[it]:>{max(len(it), 7)}}" for it in kinds) + f"  {seconds:>7.0f}")
-    return 1 if bad else 0
+    return 1 if any(count[it] for _, _, count, _ in table for it in kinds[2:]) else 0
 
 
 if __name__ == "__main__":
