@@ -10,7 +10,7 @@
 # page      made again by scripts/web.sh from the proved crates, with the same bytes as web/b67.html; it wants the esbuild by which
 #           that was joined (web/README.md)
 # module    each deck of decks/ by each command in the page's module and in PROGRAM: statuses, all that is printed, and the sectors
-# searches  of each deck that is run: images by the module's steps and by its command `image`; searches by one run and state by state
+# searches  of each deck that is run: images from marks and by the command `image`; searches by one run and by a look at each state
 #
 # The last line is `check-web: all the same`, or names the parts that differ or can't be tried. Four minutes on a machine that does
 # nothing else. Status 1 if anything differs, 2 if something is missing: then what can be tried is tried. No part of the gate.

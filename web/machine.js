@@ -11,7 +11,7 @@ import {namesIn, putNames} from './names.js';
 import {textOf} from './program.js';
 
 export const MOST_OPERATORS = 800000000;
-const [FOUND, NOWHERE, NO_CORE, HALTED, BACKING_FULL, NO_OUTPUT, NO_KIND] = [0, 1, 4, 3, 5, 8, 255];
+const [FOUND, NOWHERE, HALTED, NO_CORE, BACKING_FULL, NO_OUTPUT] = [0, 1, 3, 4, 5, 8];
 const [FEWEST_SECTORS, MOST_SECTORS] = [1024, 65536];
 const [LEAST_ROOM, MOST_ROOM] = [1 << 20, 1 << 26];
 const LEAST_REACH = 8192; // operators
@@ -84,7 +84,7 @@ export class Machine {
   // are made while an image is read.
   useSectors(sectors) {
     this.sectors = sectors;
-    this.marks = new Marks(LEAST_REACH + 4 * this.core, this.program.steps ? this.imageRoom + 240 * sectors : Infinity);
+    this.marks = new Marks(LEAST_REACH + 4 * this.core, this.imageRoom + 240 * sectors);
   }
   get imageRoom() {
     return 17 * this.core + 9 * this.sectors;
@@ -158,13 +158,11 @@ export class Machine {
     return this.lives(limit) ? null : this.end();
   }
 
-  // The least count from `from` on, below `most`, at which a kind holds of the next operator; null for none, undefined if the module can't
-  // tell. It is one run, from the start to what is found.
+  // The least count from `from` on, below `most`, at which a kind holds of the next operator; null for none. It is one run, from the start
+  // to what is found.
   find({kind, numbers}, from, most = MOST_OPERATORS) {
-    if (!this.program.finds) return undefined;
     const {status, count} = this.suffices(() => this.program.find(this.body, {core: this.core, kind, numbers, from, most, sectors: this.sectors}));
     if ([FOUND, NOWHERE, NO_CORE, BACKING_FULL].includes(status)) return count;
-    if (status === NO_KIND) return undefined;
     throw new Error(`The search ends with status ${status}: close other pages, or take a smaller core.`);
   }
 
@@ -180,16 +178,16 @@ export class Machine {
       freshCells: freshCells(before, after)};
   }
 
-  // What a search looks at first: who made the operator, what is next, whose words are in core; of each task how many records it has entered,
-  // how high its topmost mark and that of its topmost entered record lie above its stack's base; and the words of the next task's stack. It
-  // is a part of a state’s work, and is compared with nothing: the state that a search comes to is.
+  // What a search looks at first: who made the operator, what is next, whose words are in core; of each task how high its topmost mark and
+  // that of its topmost entered record lie above its stack's base; and the words of the next task's stack. It is a part of a state’s work,
+  // and is compared with nothing: the state that a search comes to is.
   glance(count) {
     const {status, image: text} = count ? this.at(count) : this.atStart();
-    if (status !== HALTED) return {over: true};
+    if (status !== HALTED) return {over: true, marks: {}, entered: {}};
     const image = new Image(text), task = nextTask(image), place = image.placeOf(task).join('@');
     const ofEach = tells => Object.fromEntries(image.tasks.map(it => [it.name, tells(it.records, image.baseOf(it.slot))]));
     return {task: image.lastTask ? `${image.lastJob}.${image.lastTask}` : '', next: {task: task.name, place, ...this.operatorAt(task.job, place)}, present: presentIn(image),
-      depths: ofEach(records => records.filter(it => it.entered).length), words: image.topOf(task)[0] - image.baseOf(task.slot),
+      words: image.topOf(task)[0] - image.baseOf(task.slot),
       marks: ofEach((records, base) => records.at(-1).mark - base), entered: ofEach((records, base) => records.findLast(it => it.entered).mark - base)};
   }
 

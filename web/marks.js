@@ -31,8 +31,4 @@ export class Marks {
     });
     this.kept.splice(uses.indexOf(Math.min(...uses)), 1);
   }
-
-  clear() {
-    this.kept = [];
-  }
 }

@@ -43,8 +43,7 @@ function numberAt({memory}, at) {
 export class Program {
   // Each call has an instance of its own, so a call that is cut off leaves nothing behind.
   constructor(module) {
-    const names = WebAssembly.Module.exports(module).map(it => it.name);
-    Object.assign(this, {module, finds: names.includes('b67_web_find'), steps: names.includes('b67_web_step')});
+    this.module = module;
   }
   instance() {
     return new WebAssembly.Instance(this.module, {}).exports;
@@ -80,7 +79,7 @@ export class Program {
 
   // Looks through the run of a deck, from its start, for the least count of operators, from <= count < most, at which a kind holds of the
   // next operator. `numbers` say more of the kind: of a place four each, job, displacement of the segment, word and syllable; of a height
-  // job, task, height and 0. Status 0 and the count; 1 if there is none; 255 if the module hasn't this kind; else that of a run.
+  // job, task, height and 0. Status 0 and the count; 1 if there is none; else that of a run.
   find(text, {core, kind, numbers = [], from, most, sectors}) {
     const instance = this.instance(), textAt = lend(instance, bytesOf(text)), foundAt = roomFor(instance, 8);
     const [numbersAt] = lend(instance, new Uint8Array(Uint32Array.from(numbers).buffer));

@@ -3,8 +3,8 @@
 //
 // What a search costs. The module looks for a breakpoint, a change of task, the end of a call and the highest stack in one run, from the
 // start to what it finds. It finds the first one; the last one before a moment takes about two such runs for each doubling of the distance
-// (`lastBefore`). Lines, faults and the run's end are found by halving, from marks, in about three runs. Paging, stores and the way back
-// out of a call are looked for state by state, each made from a mark that is near.
+// (`lastBefore`). Lines, faults and the run's end are found by halving, from marks, in about three runs. Paging and stores are looked for
+// state by state, each made from a mark that is near.
 import {endingOf} from './changes.js';
 import {touchesOf} from './lost.js';
 import {placesOf} from './cards.js';
@@ -25,7 +25,6 @@ function briefOf(state) {
     stores: changes.flatMap(it => it.into ?? []), ...touchesOf(changes),
     records: Object.fromEntries(tasks.map(task => [task.name, task.records.length])),
     paging: [...new Set(changes.filter(it => it.kind === 'in' || it.kind === 'out').map(it => it.kind))],
-    depths: Object.fromEntries(tasks.map(task => [task.name, task.records.filter(record => record.level >= 0).length])),
   };
 }
 
@@ -56,6 +55,11 @@ export function lastBefore(first, to) {
   return found;
 }
 
+// What is sought: that a task goes on with its topmost mark at a height above its stack's base, or lower.
+function within(task, height) {
+  return {kind: WITHIN, numbers: [...task.split('.').map(Number), height, 0]};
+}
+
 export class Search {
   constructor(machine, tell) {
     Object.assign(this, {machine, tell, briefs: new Map(), glances: new Map(), sent: new Set(), told: 0});
@@ -80,37 +84,56 @@ export class Search {
     if (kind === 'line') return way > 0 ? this.nextLine(from) : this.lineBefore(from);
     if (kind === 'fault') return way > 0 ? this.nextLine(from, 'ended') : this.lineBefore(from, 'ended');
     if (kind === 'deepest') return this.deepest();
-    const ends = kind === 'over' || kind === 'out', tests = {quick: this.quickOf(kind, from, what), test: this.testOf(kind, from, way, what)};
-    const found = ends ? this.leaves(kind, from, way, tests) : this.asked(kind, from, way, what, tests);
-    return found === undefined ? this.walk(tests, from, way, ends) : found;
+    if (kind === 'over' || kind === 'out') return way > 0 ? this.endOfCall(kind, from) : this.beforeCall(kind, from);
+    if (kind === 'task') return this.asked({kind: SWITCH}, kind, from, way);
+    if (kind === 'stopped') return this.asked({kind: PLACE, numbers: placesOf(what, this.machine.operators)}, kind, from, way, what);
+    return this.walk(kind, from, way, what);
   }
 
-  // A breakpoint or a change of task, by the module; undefined of what it can't tell. First as many states are looked at as cost no more than
-  // the run up to here.
-  asked(kind, from, way, what, tests) {
-    const sought = {stopped: {kind: PLACE, numbers: kind === 'stopped' ? placesOf(what, this.machine.operators) : []}, task: {kind: SWITCH}}[kind];
-    if (!sought) return undefined;
-    const many = Math.min(MOST_NEAR, Math.floor(from / MADE_MEANWHILE)), near = this.walk(tests, from, way, false, many);
+  // A breakpoint or a change of task, by the module. First as many states are looked at as cost no more than the run up to here.
+  asked(sought, kind, from, way, what) {
+    const many = Math.min(MOST_NEAR, Math.floor(from / MADE_MEANWHILE)), near = this.walk(kind, from, way, what, many);
     if (near !== undefined) return near;
-    const first = (low, high) => this.machine.find(sought, low, high);
-    const before = way > 0 ? first(from + many) : lastBefore(first, from - many - 1);
-    return before === null || before === undefined ? before : before + 1;
+    const before = way > 0 ? this.machine.find(sought, from + many) : this.last(sought, from - many - 1);
+    return before === null ? null : before + 1;
+  }
+  // The greatest count below `to` at which a kind holds of the next operator; null for none.
+  last(sought, to) {
+    return lastBefore((low, high) => this.machine.find(sought, low, high), to);
   }
 
-  // The end of a call: of that which the next operator makes (over), or of that in which the last one was made (out). Undefined of what the
-  // module can't tell. It tells when the task goes on below the record that is left; that record is left by the last operator of the task
-  // before that, and is there until then, so this one is found by halving.
-  leaves(kind, from, way, tests) {
-    if (way < 0) return undefined;
-    const near = this.walk(tests, from, way, true, 1);
-    if (near !== undefined) return near;
-    const at = this.glance(kind === 'over' ? from + 1 : from), task = kind === 'over' ? at.task : this.brief(from).task, mark = at.entered[task];
+  // The task whose call is meant: of that which the next operator makes or has left (over), or of that in which the last one was made (out).
+  callerOf(kind, from) {
+    return kind === 'over' && this.glance(from).next?.task || this.brief(from).task;
+  }
+
+  // The end of a call: of that which the next operator makes (over), or of that in which the last one was made (out); null after the run's
+  // end. The module tells when the task goes on below the record that is left; that record is left by the last operator of the task before
+  // that, and is there until then, so this one is found by halving.
+  endOfCall(kind, from) {
+    const [now, then] = [this.glance(from), this.glance(from + 1)], task = this.callerOf(kind, from), mark = (kind === 'over' ? then : now).entered[task];
+    if (now.over) return null;
+    if (kind === 'over' && !(mark > now.entered[task])) return from + 1;
     if (mark === undefined) return this.machine.end();
-    const [job, number] = task.split('.').map(Number), goesOn = this.machine.find({kind: WITHIN, numbers: [job, number, mark - 1, 0]}, from + 1);
-    if (goesOn === undefined) return undefined;
-    const isLeft = count => !(this.glance(count).marks?.[task] >= mark), last = goesOn ?? this.machine.end();
+    const isLeft = count => !(this.glance(count).marks[task] >= mark), last = this.machine.find(within(task, mark - 1), from + 1) ?? this.machine.end();
     const left = isLeft(last - 1) ? halved(isLeft, from, last - 1) : last;
     return kind === 'over' && this.glance(left).task !== task ? this.machine.end() : left;
+  }
+
+  // The last operator before a call: before that which the last operator has left, or that of the task before if it has left none (over); or
+  // before that in which the last one was made (out). The start if there is none.
+  beforeCall(kind, from) {
+    if (from === 0) return 0;
+    const task = this.callerOf(kind, from), [then, now] = [this.glance(from - 1), this.glance(from)], mark = (kind === 'over' ? then : now).entered[task];
+    if (kind === 'out') return mark === undefined ? 0 : this.beforeEntry(task, mark, from);
+    const before = mark > now.entered[task] ? this.beforeEntry(task, mark, from - 1) : from - 1;
+    if (this.glance(before).task === task) return before;
+    return (this.last(within(task, this.machine.core), before) ?? -1) + 1;
+  }
+  // The last count before a record that is there at `to` was entered. It was marked by the last operator that the task made below it.
+  beforeEntry(task, mark, to) {
+    const isEntered = count => this.glance(count).entered[task] >= mark, low = this.last(within(task, mark - 1), to) ?? 0;
+    return isEntered(low) ? low : halved(isEntered, low, to) - 1;
   }
 
   // The count that prints the next line: any, or one that tells an end or a fault.
@@ -134,42 +157,22 @@ export class Search {
   // moment before is looked at by itself.
   deepest() {
     const found = this.machine.find({kind: DEEPEST}, 0);
-    if (found === undefined) return this.highest();
     if (found !== null) return found;
     const last = this.machine.end() - 1, before = last > 0 ? this.machine.find({kind: DEEPEST}, 0, last) : null;
     return before !== null && this.glance(before).words >= this.glance(last).words ? before : last;
   }
 
-  // The same, state by state.
-  highest() {
-    const begun = performance.now();
-    let [found, most] = [0, 0];
-    for (let count = 0; ; count++) {
-      if (performance.now() > this.told + 200) this.say(progressText(count, count, performance.now() - begun));
-      const {over, words} = this.glance(count);
-      if (over) return found;
-      if (words > most) [found, most] = [count, words];
-    }
-  }
-
   // What must hold at a glance for the test of a kind to hold.
-  quickOf(kind, from, what) {
-    const here = this.brief(from).task, next = this.machine.machine(from).next?.task ?? here, depths = this.brief(from).depths;
+  quickOf(kind, what) {
     const made = count => this.glance(count - 1).next;
-    if (kind === 'over') return ({task, depths: now}) => task === next && (now[next] ?? -1) <= (depths[next] ?? -1);
-    if (kind === 'out') return ({depths: now}) => (now[here] ?? -1) < (depths[here] ?? -1);
     if (kind === 'paging') return ({present}, count) => present !== this.glance(count - 1).present;
     if (kind === 'task') return ({task}, count) => task !== this.glance(count - 1).task;
     if (kind === 'store') return (_, count) => /\b(STO[DN]|ENTR)$/.test(made(count)?.text ?? 'ENTR');
     return (_, count) => !made(count) || what.includes(cardKey(made(count)));
   }
-  testOf(kind, from, way, what) {
-    const depth = (count, task) => this.brief(count).depths[task] ?? -1;
-    const here = this.brief(from).task, next = this.machine.machine(from).next?.task ?? here;
-    if (kind === 'over') return count => this.brief(count).task === next && depth(count, next) <= depth(from, next);
-    if (kind === 'out') return count => depth(count, here) < depth(from, here);
+  testOf(kind, what) {
     if (kind === 'paging') return count => this.brief(count).paging.length > 0;
-    if (kind === 'task') return count => count > 0 && this.brief(count).task !== this.brief(count - 1).task;
+    if (kind === 'task') return count => this.brief(count).task !== this.brief(count - 1).task;
     if (kind === 'store') return count => this.brief(count).stores.includes(what);
     return count => what.includes(this.brief(count).card);
   }
@@ -179,19 +182,18 @@ export class Search {
     this.tell(text);
   }
 
-  // Goes from state to state until the test holds. If it never does: to the run's end or its beginning, or nowhere. Undefined if it holds of
-  // none of so many states.
-  walk({quick, test}, from, way, ends, most = Infinity) {
-    const begun = performance.now();
-    for (let count = from + way; ; count += way) {
+  // Goes from state to state until the test of a kind holds. Null if it never does; undefined if it holds of none of so many states.
+  walk(kind, from, way, what, most = Infinity) {
+    const begun = performance.now(), quick = this.quickOf(kind, what), test = this.testOf(kind, what);
+    for (let count = from + way; count > 0; count += way) {
       if (Math.abs(count - from) > most) return undefined;
-      if (count <= 0) return ends ? 0 : null;
       if (performance.now() > this.told + 200) this.say(progressText(Math.abs(count - from), count, performance.now() - begun));
       const glance = this.glance(count);
       if (!glance.over && !quick(glance, count)) continue;
       const brief = this.brief(count), over = brief.count < count;
       if (!over && test(count)) return count;
-      if (over || brief.status !== undefined && way > 0) return ends && brief.count > from ? brief.count : null;
+      if (over || brief.status !== undefined && way > 0) return null;
     }
+    return null;
   }
 }

@@ -1,8 +1,8 @@
-// The page's module: states from marks and searches by one run, against the same from the start and state by state: node searches.mjs PAGE
-// DECKS, called by scripts/check-web.sh.
+// The page's module: states from marks against the same from the start, and searches against a look at each state: node searches.mjs PAGE
+// DECKS [DECK..], called by scripts/check-web.sh.
 //
-// Of each deck that is run: at some counts the whole image, its sectors and its lines, by `step` and by `image`; and each kind of search from
-// some moments, by `find` and by a look at each state. Prints each difference, and at last `N the same, M different`.
+// Of each deck that is run: at some counts the whole image, its sectors and its lines, by `step` and by `image`; and each kind of search that
+// is by `find`, from some moments. Prints each difference, and at last `N the same, M different`.
 import fs from 'node:fs';
 import path from 'node:path';
 import {isDeepStrictEqual} from 'node:util';
@@ -41,26 +41,45 @@ function stopsOf(search, end) {
   return [[cards[1]], [cards[0], cards[2]], ['no card']];
 }
 
-function searches(name, one, other, end) {
-  const asked = [...stopsOf(other, end).map(stops => ['stopped', stops]), ['task', []], ['over', []], ['out', []], ['deepest', []]];
+// What a search comes to, by a look at each state.
+function byStates(search, kind, from, way, what, end) {
+  if (kind === 'deepest') return Array.from({length: end}, (_, count) => search.glance(count).words).reduce((most, words, count, all) => (words > all[most] ? count : most), 0);
+  const task = {over: search.machine.machine(from).next.task, out: search.brief(from).task}[kind];
+  const depth = count => search.machine.machine(count).tasks.find(it => it.name === task)?.records.filter(it => it.level >= 0).length ?? -1;
+  const test = {
+    over: count => search.brief(count).task === task && depth(count) <= depth(from),
+    out: count => depth(count) < depth(from),
+    task: count => search.brief(count).task !== search.brief(count - 1).task,
+    stopped: count => what.includes(search.brief(count).card),
+  }[kind];
+  for (let count = from + way; count > 0 && count <= end; count += way) if (test(count)) return count;
+  if (kind === 'over' || kind === 'out') return way > 0 ? end : 0;
+  return null;
+}
+
+function searches(name, marked, plain, end) {
+  const asked = [...stopsOf(plain, end).map(stops => ['stopped', stops]), ['task', []], ['over', []], ['out', []], ['deepest', []]];
   for (const [kind, what] of asked) for (const from of [0, end >> 2, end >> 1, end - 1]) for (const way of kind === 'deepest' ? [1] : [1, -1]) {
-    const [found, wanted] = [one, other].map(search => search.find(kind, from, way, what));
+    const found = marked.find(kind, from, way, what), wanted = byStates(plain, kind, from, way, what, end);
     wants(found === wanted, `${name}: ${kind} ${what} from ${from}, way ${way}, leads to ${found}, state by state to ${wanted}`);
   }
 }
 
-const program = new Program(moduleOf(page));
-if (!program.finds || !program.steps) {
-  console.log('the page has a module without b67_web_find and b67_web_step');
-  process.exit(2);
+// A machine without marks.
+class Plain extends Machine {
+  useSectors(sectors) {
+    super.useSectors(sectors);
+    this.marks = new Marks(1, Infinity);
+  }
 }
-const bare = Object.assign(Object.create(program), {finds: false, steps: false});
+
+const program = new Program(moduleOf(page));
 for (const name of fs.readdirSync(folder).sort()) {
   const args = path.join(folder, name, 'args'), words = fs.existsSync(args) ? fs.readFileSync(args, 'latin1').split('\n') : [];
   if (words[0] !== 'run' || only.length && !only.includes(name)) continue;
   const text = fs.readFileSync(path.join(folder, name, 'stdin'), 'latin1'), core = Number(words[2]);
-  const [marked, plain] = [program, bare].map(it => new Machine(it, text, core, false));
-  const end = plain.endWithin(LONG) ?? LONG;
+  const [marked, plain] = [Machine, Plain].map(it => new it(program, text, core, false)), end = plain.endWithin(LONG) ?? LONG;
+  marked.useSectors(plain.sectors);
   marked.marks = new Marks(Math.max(2, end >> 4), 1);
   steps(name, marked, plain, end);
   if (end <= SEARCHED) searches(name, new Search(marked, () => {}), new Search(plain, () => {}), end);

@@ -1,7 +1,7 @@
-// How long the page takes: node web/check/times.mjs CHROMIUM PAGE PROGRAM DECKS [long]. For some decks the milliseconds of Run natively and on
-// the page, and of a step forth, a step back and a jump to the middle, least and median; the last ones make 100,000 operators and a million.
-// With `long` instead, of a run of 100,000,003 operators: Run, each kind of search from operator 20, with the operator that it comes to, and
-// steps at operator 20 and at 99,999,990.
+// How long the page takes: node web/check/times.mjs CHROMIUM PAGE PROGRAM DECKS [long [OPERATORS]]. For some decks the milliseconds of Run
+// natively and on the page, and of a step forth, a step back and a jump to the middle, least and median; the last ones make 100,000 operators
+// and a million. With `long` instead a table of one long run, of 100,000,000 operators or of a multiple of 8 that is given, from 2,000 on: Run,
+// searches from its start and the operators that they come to, and steps at operator 20 and ten operators before that number.
 import fs from 'node:fs';
 import os from 'node:os';
 import path from 'node:path';
@@ -9,14 +9,18 @@ import {pathToFileURL} from 'node:url';
 import {Browser} from './browser.mjs';
 import {callNative} from './module.mjs';
 
-const [chromium, page, program, folder, which] = process.argv.slice(2);
+const [chromium, page, program, folder, which, most = 100000000] = process.argv.slice(2);
 const TIMES = 15;
 const room = fs.mkdtempSync(path.join(os.tmpdir(), 'b67-'));
 const LONG = '?JOB LONG\n?LIMIT 100000\n?ASM\nSEGMENT MAIN 2\nZERO\nTOP: VALC 2,2\nONE\nADD\nNAMC 2,2\nSTOD\nBRUN TOP\n?END\n';
 const MILLION = LONG.replace('?LIMIT 100000\n', '');
-const LOOP = 'ONE\nTOP: VALC 2,2\nONE\nADD\nNAMC 2,2\nSTON\nLT48 12499999\nLSEQ\nBRTR TOP\nNOOP\nONE\nONE\nONE\nONE\nONE\nEXIT';
-const LONGEST = `?SWITCH 99999000 2.1\n?JOB LONG\n?LIMIT 100000000\n?ASM\nSEGMENT MAIN 2\n${LOOP}\n?END\n?JOB OTHER\n?ASM\nSEGMENT MAIN 2\nONE\nONE\nEXIT\n?END\n`;
-const [STOP, NEAR, FAR] = ['15', 20, 99999990]; // the card NOOP, and two counts
+// A procedure that is called by operator 21 turns until `operators` are nearly made; a switch and the highest stack come near the end.
+const TURN = 'SEGMENT TURN 3\nONE\nTOP: VALC 3,2\nONE\nADD\nNAMC 3,2\nSTON\nLT48 TURNS\nLSEQ\nBRTR TOP\nEXIT\n';
+const MAIN = `SEGMENT MAIN 2\nMPCW TURN\n${'NOOP\n'.repeat(17)}MKST\nNAMC 2,2\nENTR\nPUSH\n${'ONE\n'.repeat(16)}EXIT\n`;
+const OTHER = `?JOB OTHER\n?ASM\nSEGMENT MAIN 2\n${'NOOP\n'.repeat(30)}EXIT\n?END\n`;
+const longDeck = (name, operators) => `?SWITCH ${operators - 1000} 2.1\n?JOB ${name}\n?LIMIT 100000000\n?ASM\n${MAIN}${TURN.replace('TURNS', (operators - 48) / 8)}?END\n${OTHER}`;
+// Searches from a count: the name, the key, the count.
+const SEARCHES = [['breakpoint', 'Enter', 20], ['change of task', 't', 20], ['over', 's', 20], ['out', 'u', 30], ['highest stack', 'r', 20], ['next line', 'o', 20], ['end', 'End', 20]];
 
 function told(numbers) {
   const sorted = numbers.sort((a, b) => a - b);
@@ -59,26 +63,34 @@ async function measured(name, text, core, middle) {
   console.log(`${name.padEnd(10)} Run natively ${native}, on the page ${run}; forth ${forth}, back ${back}, to a count ${jump}, to an earlier one ${again}`);
 }
 
-// Of the longest run: Run, searches, each in a worker that has seen nothing of the run, and steps.
-async function measuredLong() {
-  const key = name => browser.value(`timed(() => key('${name}'))`), click = id => browser.value(`timed(() => document.getElementById('${id}').click())`);
-  await writes(LONGEST, '4096');
-  console.log(`Run ${(await click('run')).toFixed(0)}`);
-  for (const [name, by] of [['breakpoint', 'Enter'], ['change of task', 't'], ['highest stack', 'r'], ['over', 's'], ['out', 'u'], ['next line', 'o'], ['end', 'End']]) {
-    await writes(LONGEST.replace('?JOB LONG', `?JOB L${by.toUpperCase().slice(0, 4)}`), '4096');
-    await click('step');
-    await browser.value(`timed(() => counted(${NEAR}))`);
-    if (by === 'Enter') await browser.value(`[...document.querySelectorAll('#cards .stop')].find(it => it.textContent === '${STOP}').click()`);
-    console.log(`${name} ${(await key(by)).toFixed(0)}, to ${(await browser.value('b67.state().count')).toLocaleString('en')}`);
+function row(name, from, to, milliseconds) {
+  console.log(`${name.padEnd(16)}${[from, to].map(it => it.toLocaleString('en').padStart(12)).join('')}${milliseconds.padStart(14)}`);
+}
+
+// Of a long run: Run, searches, each in a deck of its own, so that nothing is known of its run, and steps.
+async function measuredLong(operators) {
+  const timed = act => browser.value(`timed(() => ${act})`), key = name => timed(`key('${name}')`), count = () => browser.value('b67.state().count');
+  const begins = async name => {
+    await writes(longDeck(name, operators), '4096');
+    await timed("document.getElementById('step').click()");
+  };
+  row('', 'from', 'to', 'ms');
+  await writes(longDeck('LONG', operators), '4096');
+  for (const name of ['Run', 'Run again']) row(name, '', '', (await timed("document.getElementById('run').click()")).toFixed(0));
+  for (const [k, [name, by, from]] of SEARCHES.entries()) {
+    await begins(`LONG${k}`);
+    await timed(`counted(${from})`);
+    if (by === 'Enter') await browser.value("[...document.querySelectorAll('#cards .card')].find(it => it.textContent === 'PUSH').click()");
+    const took = await key(by);
+    row(name, from, await count(), took.toFixed(0));
   }
-  for (const from of [NEAR, FAR]) {
-    const jump = await browser.value(`timed(() => counted(${from}))`), steps = [];
-    for (const name of ['ArrowRight', 'ArrowLeft']) steps.push(`${name} ${await many(() => key(name))}`);
-    console.log(`at ${from.toLocaleString('en')}: the jump ${jump.toFixed(0)}, ${steps.join(', ')}`);
+  for (const to of [20, operators - 10]) {
+    row('jump', await count(), to, (await timed(`counted(${to})`)).toFixed(0));
+    for (const [name, by] of [['a step forth', 'ArrowRight'], ['a step back', 'ArrowLeft']]) row(name, await count(), '', await many(() => key(by)));
   }
 }
 
-if (which === 'long') await measuredLong();
+if (which === 'long') await measuredLong(Number(most));
 else {
   for (const [name, core, middle] of [['two', '630', 1], ['jensen', '4096', 20], ['dining', '3258', 100], ['manboy', '32768', 500], ['crowd', '1234', 50]])
     await measured(name, fs.readFileSync(path.join(folder, name, 'stdin'), 'latin1'), core, middle);

@@ -1,5 +1,5 @@
-// Searches and changes over runs that docs/TOUR.md describes: stops 4, 7 and 9; each search by a module that looks through runs and goes on
-// from marks, and state by state from the start. B67 names the native program.
+// Searches and changes over runs that docs/TOUR.md describes: stops 4, 7 and 9; a stand-in looks through runs and goes on from marks. B67
+// names the native program.
 import assert from 'node:assert/strict';
 import {after, test} from 'node:test';
 import {setImmediate as turn} from 'node:timers/promises';
@@ -18,8 +18,8 @@ function searchOf(name, program = native) {
   return new Search(new Machine(program, text, core, false), () => {});
 }
 
-// The same by a module that finds and steps, with marks three operators apart.
-function quickOf(name) {
+// The same with the stand-in, and with marks three operators apart.
+function markedOf(name) {
   const search = searchOf(name, new StandIn(native));
   search.machine.marks = new Marks(3, 1);
   return search;
@@ -32,16 +32,17 @@ const FOUND = {
     ['task', 1, 1, null], ['paging', 24, 1, null], ['paging', 27, -1, 24], ['store', 0, 1, 20, '1.1 1 3array'], ['store', 20, 1, null, '1.1 1 3array']],
   switched: [['task', 1, 1, 8], ['task', 8, 1, 14], ['task', 14, -1, 8], ['fault', 0, 1, 13], ['store', 0, 1, 12, '1.1 1 2'],
     ['store', 12, 1, 17, '1.1 1 2'], ['store', 17, -1, 12, '1.1 1 2'], ['store', 17, 1, null, '1.1 1 2']],
-  jensen: [['out', 17, 1, 20], ['over', 16, 1, 20], ['over', 17, 1, 18], ['out', 20, -1, 12], ['out', 321, 1, 322], ['deepest', 40, 1, 32],
+  jensen: [['out', 17, 1, 20], ['over', 16, 1, 20], ['over', 17, 1, 18], ['out', 20, -1, 12], ['out', 12, -1, 0], ['over', 20, -1, 16], ['over', 16, -1, 15],
+    ['out', 321, 1, 322], ['deepest', 40, 1, 32],
     ['stopped', 0, 1, 17, ['24']], ['stopped', 17, 1, 20, ['24', '50']], ['stopped', 21, -1, 20, ['24', '50']], ['stopped', 21, -1, 17, ['24']],
     ['stopped', 0, 1, 33, ['45']], ['stopped', 17, -1, null, ['24']], ['stopped', 17, 1, null, ['400']]],
   fault: [['fault', 0, 1, 69], ['line', 69, -1, 59]],
 };
 
 for (const [name, searches] of Object.entries(FOUND)) {
-  for (const made of [searchOf, quickOf]) test(`${name}: searches, ${made.name}`, async () => {
+  test(`${name}: searches`, async () => {
     await turn();
-    const search = made(name);
+    const search = markedOf(name);
     for (const [kind, from, way, to, what] of searches) assert.equal(search.find(kind, from, way, what ?? []), to, `${kind} from ${from}`);
   });
 }
@@ -60,9 +61,9 @@ for (const [name, lost] of Object.entries(LOST)) {
 test('a state from a mark is that from the start', async () => {
   for (const name of ['two', 'switched', 'fault']) {
     await turn();
-    const {machine} = searchOf(name), quick = quickOf(name).machine;
-    for (const count of [17, 0, 9, 10, 24, 23, 22, 500]) assert.deepEqual(quick.state(count), machine.state(count), `${name} ${count}`);
-    assert.ok(quick.program.stepped > 0, name);
+    const {machine} = searchOf(name), marked = markedOf(name).machine;
+    for (const count of [17, 0, 9, 10, 24, 23, 22, 500]) assert.deepEqual(marked.state(count), machine.state(count), `${name} ${count}`);
+    assert.ok(marked.program.stepped > 0, name);
   }
 });
 

@@ -4,7 +4,7 @@ import {nextTask} from '../machine.js';
 import {openedText} from '../opened.js';
 import {textOf} from '../program.js';
 
-const [HALTED, NOWHERE, NO_KIND] = [3, 1, 255], [SWITCH, WITHIN, DEEPEST] = [1, 2, 3];
+const [NOWHERE, HALTED] = [1, 3], [SWITCH, WITHIN, DEEPEST] = [1, 2, 3];
 
 // Of a machine, by its image, whether a kind holds of the next operator.
 function holds(image, kind, numbers) {
@@ -17,7 +17,7 @@ function holds(image, kind, numbers) {
 // A program with `find` and `step` beside the `call` of another one.
 export class StandIn {
   constructor(program) {
-    Object.assign(this, {program, finds: true, steps: true, runs: new Map(), images: new Map(), stepped: 0});
+    Object.assign(this, {program, runs: new Map(), images: new Map(), stepped: 0});
   }
 
   // Carries out a command; of an image it is remembered from which run it is.
@@ -51,7 +51,6 @@ export class StandIn {
   find(body, {core, kind, numbers = [], from, most, sectors}) {
     const run = {words: ['image', '--core', String(core), '--backing', 'b'], body, how: {sectors, room: 1 << 24}};
     let [found, high] = [null, 0];
-    if (kind > DEEPEST) return {status: NO_KIND, count: null};
     for (let count = from; count < most && (found === null || kind === DEEPEST); count++) {
       const image = this.imageAt(run, count);
       if (!image) break;
