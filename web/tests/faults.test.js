@@ -4,6 +4,7 @@ import {readFileSync} from 'node:fs';
 import {after, test} from 'node:test';
 import {setImmediate as turn} from 'node:timers/promises';
 import {Native} from './native.js';
+import {StandIn} from './stand-in.js';
 import {Desk} from '../worker.js';
 import {fittingCauses, fittingMeaning} from '../faults.js';
 import {refusedWord} from '../refusals.js';
@@ -54,7 +55,7 @@ for (const [name, cards, card, said, causes, head] of FAULTS) {
   test(`${name}: ${cards}`, async () => {
     await turn();
     const desk = new Desk(() => {});
-    desk.program = native;
+    desk.program = new StandIn(native);
     const found = desk.fault({deck: deckOf(cards, head), core: 4096});
     assert.equal(found.name, name);
     if (card) assert.equal(found.operator.card - (head ? 1 : 0), card);
