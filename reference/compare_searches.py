@@ -1,12 +1,11 @@
-"""Searches in random decks by `find_in_deck` of `b67_job`, and by the reference.
+"""Searches in random decks by the page's module, and by the reference.
 
-    python3 compare_searches.py [--seeds 0..200] [--lengths] [--tasks] [--jobs]
+    python3 reference/compare_searches.py [--seeds 0..200] [--lengths] [--tasks] [--jobs]
 
-from the top of the repository, with `rt` on the path. It makes a small program
-of that one function in a folder of its own, beside the crates, and builds and
-runs it by `rt try`, so that nothing need be proved: some two minutes. For each
-deck it seeks places, switches, operators within a height and the deepest stack,
-from several counts on, in a core that suffices and in a small one. It reports
+from the top of the repository, with node on the path. For each deck it seeks
+places, switches, operators within a height and the deepest stack, from several
+counts on, in a core that suffices and in a small one. The module of
+`web/b67.html` answers (`b67_web_find`, by `web/check/finds.mjs`). It reports
 every answer that differs.
 
 The counts of the reference come from a walk over each operator of the run. No
@@ -16,14 +15,13 @@ line of the searched program is used.
 from __future__ import annotations
 
 import argparse
+import json
 import random
-import shutil
 import subprocess
 import sys
 import tempfile
 from collections import Counter
 from dataclasses import dataclass
-from pathlib import Path
 
 from b67ref import programs_of
 from cards import RefusedError, read_deck
@@ -35,107 +33,6 @@ GREATEST_CORE = 1_048_575
 SECTORS = 65_535
 MOST_OPERATORS = 3_000
 QUERIES = 12
-PROGRAM = """//! Searches in decks: each word names a file whose first line is a search, and the rest of which is a deck.
-#![tactic(auto)]
-
-use b67_backing::HonestBacking;
-use b67_io::Tape;
-use b67_job::{CodePlace, Sought, find_in_deck};
-use b67_program::Words;
-use b67_word::{Bytes, Numbers, Place};
-use std::process::ExitCode;
-use std::{fs, io};
-
-fn numbers_of(rt: &HostRuntime, text: &str) -> io::Result<Vec<u64>> {
-    let mut numbers = Vec::new(rt.alloc());
-    for word in text.split(' ') {
-        numbers.push(word.parse::<u64>().unwrap_or(0))?;
-    }
-    Ok(numbers)
-}
-
-fn at(numbers: &[u64], i: usize) -> u64 {
-    if i < numbers.len() { numbers[i] } else { 0 }
-}
-
-fn sought_of(numbers: &[u64]) -> Sought {
-    match at(numbers, 0) {
-        0 => Sought::Place,
-        1 => Sought::Switch,
-        2 => Sought::Within {
-            job: at(numbers, 4) as u8,
-            number: at(numbers, 5) as u32,
-            height: at(numbers, 6) as u32,
-        },
-        _ => Sought::Deepest,
-    }
-}
-
-fn places_of(rt: &HostRuntime, numbers: &[u64]) -> io::Result<Vec<CodePlace>> {
-    let mut places = Vec::new(rt.alloc());
-    if at(numbers, 0) != 0 {
-        return Ok(places);
-    }
-    let mut i = 4;
-    while i + 3 < numbers.len() {
-        places.push(CodePlace {
-            job: numbers[i] as u8,
-            segment: numbers[i + 1] as u16,
-            place: Place {
-                word: numbers[i + 2] as u16,
-                syllable: numbers[i + 3] as u8,
-            },
-        })?;
-        i += 4;
-    }
-    Ok(places)
-}
-
-fn run_file(rt: &HostRuntime, name: &str) -> io::Result<()> {
-    let text = fs::read_to_string(rt, name)?;
-    let (line, deck) = match text.as_str().split_once('\\n') {
-        Some(parts) => parts,
-        None => return Ok(()),
-    };
-    let numbers = numbers_of(rt, line)?;
-    let places = places_of(rt, numbers.as_slice())?;
-    let mut bytes = Bytes::new(rt.alloc());
-    bytes.extend(deck.as_bytes())?;
-    let mut tape = Tape::new(bytes, 4096, Numbers::new(rt.alloc()));
-    let mut backing = HonestBacking::new(rt.alloc(), 65_535)?;
-    let found = find_in_deck(
-        rt.alloc(),
-        at(numbers.as_slice(), 3) as u32,
-        sought_of(numbers.as_slice()),
-        places.as_slice(),
-        at(numbers.as_slice(), 1),
-        at(numbers.as_slice(), 2),
-        &mut tape,
-        &mut backing,
-    );
-    match found {
-        Ok(Some(count)) => println!(rt; "{count}")?,
-        Ok(None) => println!(rt; "none")?,
-        Err(_) => println!(rt; "stops")?,
-    }
-    Ok(())
-}
-
-fn run_files(rt: &HostRuntime) -> io::Result<()> {
-    let names = rt.words(rt.alloc())?;
-    for name in names.as_slice().iter() {
-        run_file(rt, name.as_str())?;
-    }
-    Ok(())
-}
-
-fn main(rt: HostRuntime) -> ExitCode {
-    ExitCode::from(match run_files(&rt) {
-        Ok(()) => 0,
-        Err(_) => 2,
-    })
-}
-"""
 
 
 @dataclass(frozen=True)
@@ -193,9 +90,10 @@ class Query:
     most: int
     words: tuple[int, ...]
 
-    def line(self, core: int) -> str:
-        """The first line of its file."""
-        return " ".join(map(str, (self.kind, self.first, self.most, core, *self.words)))
+    def asked(self, core: int, text: bytes) -> str:
+        """The search, and the deck, as the module is asked."""
+        numbers = [*self.words, 0] if self.kind == 2 else [*self.words]
+        return json.dumps({"core": core, "kind": self.kind, "numbers": numbers, "from": self.first, "most": self.most, "text": text.decode("latin-1")})
 
     def holds(self, look: Look) -> bool:
         """Whether it seeks this operator."""
@@ -233,18 +131,15 @@ def queries_of(dice: random.Random, looks: list[Look]) -> list[Query]:
     return queries
 
 
-def answers_of(top: Path, room: Path, names: list[str]) -> list[str]:
-    """What the program prints for these files. It is built beside a copy of the crates."""
-    shutil.copytree(top / "crates", room / "crates", ignore=shutil.ignore_patterns("out"))
-    (room / "crates" / "b67_seek" / "src").mkdir(parents=True)
-    lines = (top / "crates.txt").read_text() + "\nb67_seek: b67_backing b67_io b67_job b67_program b67_word\n"
-    (room / "crates.txt").write_text(lines)
-    shutil.copy(top / "HANDLES", room / "HANDLES")
-    folder = room / "crates" / "b67_seek"
-    (folder / "src" / "main.rt").write_text(PROGRAM)
-    done = subprocess.run(["rt", "try", "--seconds", "900", "--", *names], cwd=folder, capture_output=True, text=True, check=False)
+def answers_of(asked: list[str]) -> list[str]:
+    """What the page's module answers to these searches."""
+    with tempfile.NamedTemporaryFile("w", encoding="utf-8") as file:
+        file.write("\n".join(asked))
+        file.flush()
+        words = ["node", "--experimental-wasm-memory64", "web/check/finds.mjs", "web/b67.html", file.name]
+        done = subprocess.run(words, capture_output=True, text=True, check=False)
     if done.returncode:
-        sys.exit(done.stdout[-2000:] + done.stderr[-2000:])
+        sys.exit(done.stderr[-2000:])
     return done.stdout.split()
 
 
@@ -255,31 +150,27 @@ def main() -> int:
     add_features(options)
     given = options.parse_args()
     low, high = map(int, given.seeds.split(".."))
-    top = Path.cwd()
-    with tempfile.TemporaryDirectory() as room:
-        names, wanted, queries = [], [], []
-        for seed in range(low, high):
-            text = deck_of_seed(seed, features_of(given))
-            dice = random.Random(seed)
-            for core in (GREATEST_CORE, dice.choice((600, 1_000, 2_000))):
-                try:
-                    run = Walked(text, core)
-                except RefusedError:
-                    continue
-                run.walk()
-                for query in queries_of(dice, run.looks) if run.looks else ():
-                    name = f"{room}/{len(names)}"
-                    Path(name).write_bytes(query.line(core).encode() + b"\n" + text)
-                    names.append(name)
-                    wanted.append(query.answer(run))
-                    queries.append((seed, core, query))
-        printed = answers_of(top, Path(room), names)
+    asked, wanted, queries = [], [], []
+    for seed in range(low, high):
+        text = deck_of_seed(seed, features_of(given))
+        dice = random.Random(seed)
+        for core in (GREATEST_CORE, dice.choice((600, 1_000, 2_000))):
+            try:
+                run = Walked(text, core)
+            except RefusedError:
+                continue
+            run.walk()
+            for query in queries_of(dice, run.looks) if run.looks else ():
+                asked.append(query.asked(core, text))
+                wanted.append(query.answer(run))
+                queries.append((seed, core, query))
+    printed = answers_of(asked)
     kinds = Counter(("place", "switch", "within", "deepest")[it[2].kind] for it in queries)
     wrong = [(it, a, b) for it, a, b in zip(queries, wanted, printed, strict=True) if a != b]
     for it, a, b in wrong[:20]:
         print(*it, "reference", a, "program", b)
     ends = Counter("found" if it.isdecimal() else it for it in wanted)
-    print(f"{len(names)} searches, {dict(kinds)}, {dict(ends)}; {len(wrong)} differ")
+    print(f"{len(asked)} searches, {dict(kinds)}, {dict(ends)}; {len(wrong)} differ")
     return 1 if wrong else 0
 
 
