@@ -4,8 +4,8 @@
 Makes docs/statement.html, or FILE: the statement that one clicks through. It holds the contracts of run_twice, serve_described and
 serve_in_memory, and each definition that they name, down to the model, as they stand in the sources, and beside each where it
 stands. What a name names is found as scripts/trust.py finds it. The page's text and its acts are in scripts/statement/page.html,
-the usual way in way.txt, a sentence for each clause in clauses.txt, the words of the language and of the standard library in
-words.txt. The same sources give the same bytes.
+the usual way in way.txt, a sentence for each clause in clauses.txt, the statuses in statuses.txt, what the page says of fields in
+beside.txt, the words of the language and of the standard library in words.txt. The same sources give the same bytes.
 
 A page isn't made if a name of it leads nowhere: each must be a definition that is shown, a word that is built in, or bound where it
 stands. With --check nothing is written: the status is 1 if docs/statement.html isn't what the sources give; or, by that file alone, if a
@@ -141,6 +141,8 @@ class Page:
         self.over = self.ways_back()
         self.way = self.usual_way()
         self.clauses = self.clauses_in_words()
+        self.statuses = self.statuses_in_words()
+        self.beside = self.words_beside()
         self.most = self.lines_at_most()
 
     def all_fields(self):
@@ -242,14 +244,14 @@ class Page:
         return [over[number] for number in range(len(self.blocks))]
 
     def usual_way(self):
-        """The stops of the usual way: chapter, definition, what to look at, the stop or contract that names it, and 1 if the short way
-        leaves it out."""
+        """The stops of the usual way: chapter, definition, what to look at, the stop or contract that names it, and 0 if it is of the
+        short way, 1 if it lies between its stops, 2 if it is of the second short way."""
         way, chapter, before = [], "", list(self.roots)
         for name, said in rows("way.txt"):
             if name is None:
                 chapter = said
                 continue
-            is_deep, name = name.startswith("+"), name.lstrip("+")
+            kind, name = {"+": 1, "?": 2}.get(name[0], 0), name.lstrip("+?")
             if name not in self.by_name:
                 raise Wrong(f"way.txt: {name} isn't shown")
             number = self.by_name[name]
@@ -257,7 +259,7 @@ class Page:
             if not over or number in before:
                 raise Wrong(f"way.txt: {name} isn't named by what comes before it, or comes twice")
             before.append(number)
-            way.append([chapter, number, said, over[0], int(is_deep)])
+            way.append([chapter, number, said, over[0], kind])
         return way
 
     def clauses_in_words(self):
@@ -268,6 +270,29 @@ class Page:
             if [clause for function, clause in said if function == own] != names:
                 raise Wrong(f"clauses.txt: the clauses of {own} are {', '.join(names)}")
         return said
+
+    def statuses_in_words(self):
+        """The statuses: number, definition, last line, meaning. They are those of which the definitions speak."""
+        shown = {name: set(re.findall(r"status ≡ (\d+)", "\n".join(self.shown[number]["text"]))) for name, number in self.by_name.items()}
+        said = [row for row in rows("statuses.txt") if row[0] is not None]
+        for status, name, _, _ in said:
+            if status not in shown.get(name, ()):
+                raise Wrong(f"statuses.txt: {name} doesn't speak of {status}")
+        if {row[0] for row in said} != set().union(*shown.values()):
+            raise Wrong("statuses.txt: the definitions speak of other statuses")
+        return [[int(status), self.by_name[name], line, meaning] for status, name, line, meaning in said]
+
+    def words_beside(self):
+        """What the page says beside a definition: its number, a field or an empty text, and a sentence."""
+        beside = []
+        for name, said in rows("beside.txt"):
+            if name is None:
+                continue
+            name, _, field = name.partition(".")
+            if name not in self.by_name or field and field not in FIELD.findall("\n".join(self.shown[self.by_name[name]]["text"])):
+                raise Wrong(f"beside.txt: no {name} {field}")
+            beside.append([self.by_name[name], field, said])
+        return beside
 
     def lines_at_most(self):
         """Of each clause with all that it names, how many lines."""
@@ -289,16 +314,20 @@ class Page:
         return [len(block.lines()) for block in self.blocks]
 
     def way_lines(self):
-        """The lines of the two contracts, of these and the short way, and of these and the whole usual way."""
+        """The lines of the two contracts, of these and the short way, of the second short way, and of the contracts and the whole way."""
         counts = self.counts()
         contracts = 0
         for function, main in FUNCTIONS[:2]:
             block, text = trust.statement(function, [main])
             contracts += len(trust.Block(block.path, block.name, block.first, text).lines())
-        return contracts, contracts + sum(counts[stop[1]] for stop in self.way if not stop[4]), contracts + sum(counts[stop[1]] for stop in self.way)
+        each = [sum(counts[stop[1]] for stop in self.way if stop[4] == kind) for kind in range(3)]
+        return contracts, contracts + each[0], each[2], contracts + sum(each)
+
+    def stops(self, kind):
+        return sum(1 for stop in self.way if stop[4] == kind)
 
     def data(self):
-        contracts, on_way, on_whole = self.way_lines()
+        contracts, on_way, on_second, on_whole = self.way_lines()
         counts, main = self.counts(), self.main_numbers()
         return {
             "definitions": [
@@ -308,6 +337,8 @@ class Page:
             ],
             "words": [list(word) for word in self.words],
             "way": self.way,
+            "statuses": self.statuses,
+            "beside": self.beside,
             "contracts": [
                 [self.index[id(block)], [[clause, sentence, self.most[f"{name} {clause}"][0], clause in [main or "-" for main in MAIN[name]]]
                                          for (name, clause), sentence in self.clauses.items() if name == block.name]]
@@ -317,6 +348,7 @@ class Page:
             "main": [int(number in main) for number in range(len(counts))],
             "mainLines": contracts + sum(counts[number] for number in main),
             "wayLines": on_way,
+            "secondWayLines": on_second,
             "wholeWayLines": on_whole,
             "allLines": sum(counts),
         }
@@ -333,13 +365,15 @@ class Page:
             "DECKS_LINES": f"{self.most['run_twice decks'][0]:,}",
             "ALL_LINES": f"{data['allLines']:,}",
             "WHOLE_LINES": f"{data['wholeWayLines']:,}",
-            "STOPS": str(sum(1 for stop in self.way if not stop[4])),
+            "SECOND_LINES": f"{data['secondWayLines']:,}",
+            "STOPS": str(self.stops(0)),
+            "SECOND_STOPS": str(self.stops(2)),
             "ALL_STOPS": str(len(self.way)),
             "NAMES": f"{len(self.blocks):,}",
         }
         for name, value in places.items():
             template = template.replace("{{" + name + "}}", html.escape(value))
-        lost = [name for name in re.findall(r'href="#([^"]+)"', template) if name not in self.by_name]
+        lost = [name for name in re.findall(r'href="#([^"]+)"', template) if name not in self.by_name and f'id="{name}"' not in template]
         if lost:
             raise Wrong("page.html: no definition " + ", ".join(lost))
         if re.search(r"\{\{[A-Z_]+\}\}", template.replace("{{DATA}}", "")):
@@ -347,10 +381,9 @@ class Page:
         return template.replace("{{DATA}}", shown)
 
     def figures(self):
-        contracts, on_way, on_whole = self.way_lines()
-        short = sum(1 for stop in self.way if not stop[4])
+        contracts, on_way, on_second, on_whole = self.way_lines()
         links = sum(1 for shown in self.shown for line in shown["lines"] for part in line if isinstance(part, list))
-        lines = [f"{on_way:6} lines on the short way, with {contracts} of two contracts, in {short} stops", f"{on_whole:6} lines on the whole usual way, in {len(self.way)} stops"]
+        lines = [f"{on_way:6} lines on the short way, with {contracts} of two contracts, in {self.stops(0)} stops", f"{on_second:6} lines on the second short way, of premises, in {self.stops(2)} stops", f"{on_whole:6} lines on the whole usual way, in {len(self.way)} stops"]
         for name, (count, names) in self.most.items():
             lines.append(f"{count:6} lines at most, {names} names: {name}")
         main = self.main_numbers()
@@ -407,8 +440,9 @@ def flaws_of(text):
             reads = len(own) + sum(counts[one] for one in reached)
             if reads != most:
                 yield f"{definitions[number][0]} {clause}: {most} lines are said, and its links lead to {reads}"
-    for name, stops in [("wayLines", [stop for stop in found["way"] if not stop[4]]), ("wholeWayLines", found["way"])]:
-        on_way = found["contractLines"] + sum(counts[stop[1]] for stop in stops)
+    second = [stop for stop in found["way"] if stop[4] == 2]
+    for name, begun, stops in [("wayLines", found["contractLines"], [stop for stop in found["way"] if not stop[4]]), ("secondWayLines", 0, second), ("wholeWayLines", found["contractLines"], found["way"])]:
+        on_way = begun + sum(counts[stop[1]] for stop in stops)
         if on_way != found[name]:
             yield f"the usual way: {found[name]} lines are said, and it has {on_way}"
 

@@ -1,4 +1,5 @@
-// Walks through docs/statement.html in a browser: node walk.mjs BROWSER PAGE [FOLDER]. Each stop of the short way by the key n; each name
+// Walks through docs/statement.html in a browser: node walk.mjs BROWSER PAGE [FOLDER]. Each stop of the short ways by the key n, with a
+// detour; each name
 // that the page shows by its link; that each name leads to what the imports of its file mean; the counts; Back; words by the keyboard;
 // names that are found; deep links. Prints what differs, and ends with status 1 if anything does. With FOLDER pictures are written there.
 import fs from 'node:fs';
@@ -29,24 +30,41 @@ try {
   const shown = () => browser.value("shown === null ? null : definitions[shown][0]");
   const counted = () => browser.value("document.getElementById('count').innerText");
   expect('names that lead to something else than their file means', wrongNames(data), []);
-  // the short way, by one key
-  const short = data.way.filter(stop => !stop[4]);
-  let lines = data.contractLines;
-  for (const [number, stop] of short.entries()) {
+  expect('lines before anything is opened', (await counted()).startsWith('0 lines opened'), true);
+  // the short way and the premises, by one key; a detour skips no stop, and one that it opened isn't opened again
+  const short = data.way.filter(stop => !stop[4]), second = data.way.filter(stop => stop[4] === 2);
+  const detour = data.way.filter(stop => stop[4] === 1).at(-1), met = short[5];
+  const order = [...short.slice(0, 5), ...short.slice(6), ...second];
+  const names = [];
+  let lines = 0;
+  for (const stop of order) {
     await browser.press('n');
     await settled();
-    lines += data.definitions[stop[1]][3];
-    expect(`stop ${number + 1}`, await shown(), data.definitions[stop[1]][0]);
+    names.push(await shown());
+    if (stop === order[1]) for (const other of [detour, met]) {
+      await browser.value(`go(${other[1]})`);
+      await settled();
+      names.push(await shown());
+      if (other === met) lines += data.definitions[other[1]][3];
+    }
+    if (!stop[4]) lines += data.definitions[stop[1]][3];
+    const seen = short.filter(one => names.includes(data.definitions[one[1]][0])).length;
     const said = await counted();
-    expect(`lines at stop ${number + 1}`, said.includes(`${number + 1} of ${short.length} names, ${lines} of ${data.wayLines} lines`), true);
+    expect(`stop ${names.length}`, await shown(), data.definitions[(stop === order[1] ? met : stop)[1]][0]);
+    expect(`lines at stop ${names.length}`, said.includes(`${seen} of ${short.length} names, ${lines} of ${data.wayLines - data.contractLines} lines`), true);
   }
-  expect('lines on the short way', lines, data.wayLines);
+  expect('the stops', names, [...order.slice(0, 2), detour, met, ...order.slice(2)].map(stop => data.definitions[stop[1]][0]));
+  expect('lines on the short way', lines, data.wayLines - data.contractLines);
+  expect('the end of the ways', await browser.value("document.getElementById('next').disabled"), true);
   // Back leads to what was open before, and at last to the beginning
-  for (const stop of [...short.slice(0, -1).reverse(), null]) {
+  for (const name of [...names.slice(0, -1).reverse(), null]) {
     await browser.press('b');
     await settled();
-    expect('Back', await shown(), stop && data.definitions[stop[1]][0]);
+    expect('Back', await shown(), name);
   }
+  // the table of statuses, from the first screen
+  await browser.value("document.querySelector('[data-part=statuses]').click()");
+  expect('the statuses', await browser.value("[...document.querySelectorAll('#statuses[open] td:first-child')].map(one => Number(one.textContent))"), data.statuses.map(one => one[0]));
   // a word that is built in, by the keyboard alone
   await browser.press('n');
   await settled();
@@ -73,13 +91,15 @@ try {
     return wrong;
   })()`);
   expect('definitions by their links', wrong, []);
-  expect('all lines', (await counted()).includes(`${data.mainLines.toLocaleString('en-US')} lines opened`), true);
-  // a name that is found
-  await browser.press('/');
-  for (const letter of 'samel') await browser.press(letter);
-  await browser.press('Enter');
-  await settled();
-  expect('the name that was found', await shown(), 'SameLines');
+  expect('all lines', (await counted()).includes(`${(data.mainLines - data.contractLines).toLocaleString('en-US')} lines opened`), true);
+  // a name that is found, by its beginning, or as it is written: what the theorem rests on comes first
+  for (const [typed, found] of [['samel', 'SameLines'], ['print', 'print'], ['PRINT', 'PRINT'], ['row', 'row@Rows'], ['lines', 'lines']]) {
+    await browser.press('/');
+    for (const letter of typed) await browser.press(letter);
+    await browser.press('Enter');
+    await settled();
+    expect(`the first name for ${typed}`, await shown(), found);
+  }
   await browser.opens(url + '#Took');
   await settled();
   expect('a deep link', await shown(), 'Took');
