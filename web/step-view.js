@@ -6,7 +6,7 @@ import {endingOf} from './changes.js';
 import {showAlgol, showCards, markCards, showPrinted, lineRow} from './draw-cards.js';
 import {showStacks} from './draw-stacks.js';
 import {changesList, showMemory} from './draw-memory.js';
-import {lossText, lostStores} from './lost.js';
+import {lossChange, lostStores} from './lost.js';
 import {showSigns, signsOn} from './signs.js';
 import {briefsOf, showTimeline, windowOf} from './timeline.js';
 import {followedText} from './follow.js';
@@ -84,7 +84,7 @@ export function showLine(session, goes, width = byId('line').clientWidth || 1000
   session.losses = lostStores(known);
   session.signs = signsOn(known, session.losses, known.length > Math.min(window.to, all) - window.from);
   showSigns(byId('signs'), session.signs, goes);
-  if (!session.otherState) putKept(byId('changed'), changesPart(state, changesOf(session)));
+  if (!session.otherState) putKept(byId('changed'), changesPart(state, changesOf(session), goes));
   const deepest = showTimeline(line, {count: state.count, window, briefs, stops, losses: session.losses, width}), depth = depthText(state, deepest);
   if (byId('depth').textContent !== depth) byId('depth').textContent = depth;
   for (const [name, value] of [['now', state.count], ['min', 0], ['max', all]]) set(line, `aria-value${name}`, value);
@@ -97,7 +97,7 @@ export function showLine(session, goes, width = byId('line').clientWidth || 1000
 
 // What the operator changed, and the stores of other tasks that it wrote over.
 export function changesOf({state, losses = []}) {
-  return [...state.changes, ...losses.filter(it => it.at === state.count).map(it => ({kind: 'lost', text: lossText(it)}))];
+  return [...state.changes, ...losses.filter(it => it.at === state.count).map(lossChange)];
 }
 
 // How deep the stack of the running task is, and how deep one gets on the line of time.
@@ -149,8 +149,8 @@ function faultyOf(fault) {
 }
 
 // The list of changes as a part, which stays if the next operator says the same.
-function changesPart(state, changes = state.changes) {
-  return [[JSON.stringify([changes, state.status, state.count === 0]), () => changesList({...state, changes})]];
+function changesPart(state, changes = state.changes, goes = undefined) {
+  return [[JSON.stringify([changes, state.status, state.count === 0]), () => changesList({...state, changes}, goes)]];
 }
 
 // The cell or the array that is followed, and what it holds.

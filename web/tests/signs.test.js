@@ -1,7 +1,7 @@
 // Stores that are lost, the signs of the line of time, and the stack that stays at the left: by data.
 import assert from 'node:assert/strict';
 import {test} from 'node:test';
-import {lossText, lostStores, touchesOf} from '../lost.js';
+import {lossChange, lossText, lostStores, touchesOf} from '../lost.js';
 import {nextOf, signsOn} from '../signs.js';
 import {isRoot, pinnedWidth} from '../pin-stack.js';
 
@@ -14,7 +14,7 @@ function runOf(...operators) {
     const [task, text] = it.split(' ');
     if (text === 'EXIT') records = {...records, [task]: 0};
     if (text === 'MKST') records = {...records, [task]: 1};
-    return {count: k + 1, task, text, records, fetches: text === 'VALC' ? [CELL] : [], puts: text.startsWith('STO') || text === 'ENTR' ? [CELL] : [], paging: [], lines: 0, bad: false};
+    return {count: k + 1, task, card: String(k + 11), text, records, fetches: text === 'VALC' ? [CELL] : [], puts: text.startsWith('STO') || text === 'ENTR' ? [CELL] : [], paging: [], lines: 0, bad: false};
   });
 }
 
@@ -29,7 +29,9 @@ test('stores that are lost', () => {
   assert.deepEqual(lost('1.1 VALC', '1.2 ENTR', '1.1 STOD'), []); // an intrinsic is no store
   assert.deepEqual(lost('1.2 VALC', '1.1 STOD', '1.1 EXIT', '1.1 MKST', '1.2 STOD'), []); // another record's cell
   const [found] = lostStores(runOf('1.1 VALC', '1.2 STOD', '1.1 STOD'));
-  assert.equal(lossText(found), 'that of operator 2, task 1.2: task 1.1 had fetched the number before it, with operator 1');
+  assert.equal(lossText(found), 'that of operator 2, card 12, task 1.2: task 1.1 had fetched the number before it, with operator 1');
+  assert.deepEqual(lossChange(found).moment, {text: 'operator 2, card 12', count: 2});
+  assert.match(lossText({...found, card: '1/2@0:3'}), /^that of operator 2, at 1\/2@0:3, task 1\.2/);
 });
 
 test('what an operator fetched and stored', () => {
