@@ -4,6 +4,7 @@ import {test} from 'node:test';
 import {lossChange, lossText, lostStores, touchesOf} from '../lost.js';
 import {nextOf, signsOn} from '../signs.js';
 import {isRoot, pinnedWidth} from '../pin-stack.js';
+import {depthText} from '../step-view.js';
 
 const CELL = '1.1 1 2';
 
@@ -49,6 +50,13 @@ test('signs of the line of time', () => {
   assert.equal(counts(signsOn([brief(5, {records: {1.1: 1, 1.2: 1}})], [], false)).lost, undefined);
   assert.deepEqual([0, 1, 3].map(now => nextOf([1, 3], now)), [1, 3, 1]);
   assert.deepEqual([0, 1, 3, 9].map(now => nextOf([1, 3], now, -1)), [3, 3, 1, 3]);
+});
+
+test('how deep a stack is, and gets on a line that has all of the run or a part', () => {
+  const state = {tasks: [{name: '1.1', records: [{}]}], last: '1.1'};
+  assert.equal(depthText(state, 35, true), '1 record deep, 35 at most');
+  assert.equal(depthText(state, 35, false), '1 record deep, 35 at most in the part that is drawn');
+  assert.equal(depthText(state, 1, false), '1 record deep');
 });
 
 test('the stack on which all others stand', () => {
