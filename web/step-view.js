@@ -83,7 +83,7 @@ export function showLine(session, goes, width = byId('line').clientWidth || 1000
   const {state, window, briefs, stops, end} = session, line = byId('line'), all = end ?? window.to, known = briefsOf(briefs, window);
   session.losses = lostStores(known);
   const isKnown = known.length > Math.min(window.to, all) - window.from, isWhole = isKnown && window.from === 0 && window.to >= (end ?? Infinity);
-  session.signs = signsOn(known, session.losses, isKnown);
+  session.signs = signsOn(known, session.losses, isKnown, stops);
   showSigns(byId('signs'), session.signs, goes);
   if (!session.otherState) putKept(byId('changed'), changesPart(state, changesOf(session), goes));
   const deepest = showTimeline(line, {count: state.count, window, briefs, stops, losses: session.losses, width}), depth = depthText(state, deepest, isWhole);

@@ -48,6 +48,8 @@ test('signs of the line of time', () => {
   assert.deepEqual(counts(signsOn(briefs, [])), {in: [1, 3], out: [1], line: [2], bad: [4]});
   assert.deepEqual(counts(signsOn([...briefs, brief(5, {records: {1.1: 1, 1.2: 1}})], [{at: 5}, {at: 5}])).lost, [5]);
   assert.equal(counts(signsOn([brief(5, {records: {1.1: 1, 1.2: 1}})], [], false)).lost, undefined);
+  const carded = [brief(1, {card: '9'}), brief(2, {card: '7'}), brief(3, {card: '9'})], stops = cards => counts(signsOn(carded, [], true, new Set(cards))).stop;
+  assert.deepEqual([stops([]), stops(['9']), stops(['8'])], [undefined, [1, 3], []]);
   assert.deepEqual([0, 1, 3].map(now => nextOf([1, 3], now)), [1, 3, 1]);
   assert.deepEqual([0, 1, 3, 9].map(now => nextOf([1, 3], now, -1)), [3, 3, 1, 3]);
 });
