@@ -2,7 +2,9 @@
 import {countOf} from './words.js';
 import {spansText} from './memory.js';
 import {effectOf} from './effect.js';
+import {listed} from './reading.js';
 
+const MOST_TOLD = 3; // of the numbers of an array that leaves core
 const ENDING = /^(\d+\.\d+) ([A-Z].*)$/;
 
 export function endingOf(line) {
@@ -15,12 +17,19 @@ function cameIn(thing, before) {
   return {kind: 'in', text: `${thing.text}, ${countOf(thing.words, 'word')}, to address ${thing.at}, ${from}`};
 }
 
+// What an array holds, in a few words: its first numbers that aren't 0.
+function numbersText({numbers}) {
+  if (!numbers.length) return 'It held zeros only';
+  const told = numbers.slice(0, MOST_TOLD).map(([n, number]) => `${number} in element ${n}`), more = numbers.length - told.length;
+  return `It held ${listed(told)}${more ? ', and more' : ''}`;
+}
+
 function wentOut(thing, before) {
-  if (thing.kind !== 'array') return {kind: 'out', text: `${thing.text}, ${countOf(thing.words, 'word')}; not written, since the backing has it`};
+  if (thing.kind !== 'array') return {kind: 'out', text: `${thing.text}, ${countOf(thing.words, 'word')}; not written, since the backing has it${thing.kind === 'row' ? `. ${numbersText(before)}` : ''}`};
   if (!thing.chain.length) return {kind: 'gone', text: `${thing.text}: its area is given up`};
   const first = before.chain.length ? '' : ', which it takes now', led = before.copies.some(copy => !copy.absent);
   const copies = led ? '' : '. No copy led into core, so none is turned';
-  return {kind: 'out', text: `${thing.text}, ${countOf(thing.words, 'word')}, to sectors ${spansText(thing.chain)}${first}${copies}`};
+  return {kind: 'out', text: `${thing.text}, ${countOf(thing.words, 'word')}, to sectors ${spansText(thing.chain)}${first}. ${numbersText(before)}${copies}`};
 }
 
 // A name for a cell as couples name it, with its record.

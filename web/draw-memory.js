@@ -18,11 +18,18 @@ export function wordOf(kind) {
   return CHANGES[kind][1];
 }
 
-export function changesList({changes, status, count}) {
+// The text of a change; `goes` leads to some counts, as that of an operator which it names.
+function changeParts({text, moment}, goes) {
+  if (!moment) return ` ${text}`;
+  const at = text.indexOf(moment.text), button = element('button', {type: 'button', class: 'key moment', title: 'go there', onclick: () => goes([moment.count])}, moment.text);
+  return [` ${text.slice(0, at)}`, button, text.slice(at + moment.text.length)];
+}
+
+export function changesList({changes, status, count}, goes) {
   if (count === 0) return element('p', {class: 'dim'}, 'Nothing has run yet.');
   const over = status === undefined ? [] : element('li', {class: 'dim'}, 'The run is over.');
   if (!changes.length && status === undefined) return element('p', {class: 'dim'}, 'Nothing but the place of the next operator.');
-  return element('ul', {class: 'changes'}, changes.map(({kind, text}) => element('li', {}, chip(CHANGES[kind][0], CHANGES[kind][1]), ` ${text}`)), over);
+  return element('ul', {class: 'changes'}, changes.map(it => element('li', {}, chip(CHANGES[it.kind][0], CHANGES[it.kind][1]), changeParts(it, goes))), over);
 }
 
 // The bar: each part is as wide as the root of its words, so that small ones are seen.

@@ -36,6 +36,13 @@ export function followedText(state, followed) {
   return cell ? `${name}: ${cell.text}` : `${name} isn’t there now`;
 }
 
+// Of a cell that is followed and leads to an array, how the array is followed; empty for any other.
+export function arrayBehind(state, followed) {
+  if (!isCell(followed)) return '';
+  const led = [followed, cellFollowed(state, followed)?.to], thing = state.things.find(it => it.kind !== 'code' && led.includes(it.cell));
+  return thing ? `The cell leads to ${thing.text}: a click on its name, under Core and backing, follows that.` : '';
+}
+
 // All that can be followed, in the order in which the key chooses: the cells of each task from the bottom up, then the arrays.
 function choices(state) {
   const cells = state.tasks.flatMap(task => task.records.filter(record => record.level >= 0)

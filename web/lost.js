@@ -41,25 +41,34 @@ function forget(cells, records) {
 }
 
 // The stores that are lost, of a part of a run without gaps: `at` is the operator that writes over one, `lost` the one that had stored,
-// `by` its task, and `fetched` the operator with which the other task had fetched.
+// `by` its task, `card` its card, or its place in a job without cards, and `fetched` the operator with which the other task had fetched.
 export function lostStores(briefs) {
   const cells = new Map(), found = [];
   const cellOf = name => cells.get(name) ?? cells.set(name, {seen: new Map(), last: null}).get(name);
-  for (const {count, task, text, records, fetches, puts} of briefs) {
+  for (const {count, task, card, text, records, fetches, puts} of briefs) {
     forget(cells, records);
     for (const name of fetches) cellOf(name).seen.set(task, count);
     if (!STORES.test(text)) continue;
     for (const name of puts) {
       const cell = cellOf(name), {seen, last} = cell, fetched = seen.get(task);
-      if (last && last.task !== task && fetched < last.count) found.push({at: count, lost: last.count, by: last.task, fetched, task});
+      if (last && last.task !== task && fetched < last.count) found.push({at: count, lost: last.count, by: last.task, card: last.card, fetched, task});
       seen.delete(task);
-      cell.last = {count, task};
+      cell.last = {count, task, card};
     }
   }
   return found;
 }
 
-// The same as a change of the operator that writes over a store.
-export function lossText({lost, by, fetched, task}) {
-  return `that of operator ${lost}, task ${by}: task ${task} had fetched the number before it, with operator ${fetched}`;
+// The operator whose store is lost, by its card.
+function loserOf({lost, card}) {
+  return `operator ${lost}, ${card.includes('/') ? 'at' : 'card'} ${card}`;
+}
+
+export function lossText(loss) {
+  return `that of ${loserOf(loss)}, task ${loss.by}: task ${loss.task} had fetched the number before it, with operator ${loss.fetched}`;
+}
+
+// The same as a change of the operator that writes over a store; `moment` is the part of the text that leads to another count.
+export function lossChange(loss) {
+  return {kind: 'lost', text: lossText(loss), moment: {text: loserOf(loss), count: loss.lost}};
 }

@@ -10,12 +10,13 @@ const SIGNS = [
 ];
 export const LOST_SIGN = '⊘';
 
-// Of each kind the counts at which it stands on the line of time; `losses` are the stores that are lost there. That none is lost is said
-// of a line that is known as a whole.
-export function signsOn(briefs, losses, isWhole = true) {
+// Of each kind the counts at which it stands on the line of time; `losses` are the stores that are lost there, `stops` the breakpoints. That none is
+// lost is said of a line that is known as a whole.
+export function signsOn(briefs, losses, isWhole = true, stops = new Set()) {
   const tasks = new Set(briefs.flatMap(it => Object.keys(it.records)));
   const all = SIGNS.map(sign => ({...sign, counts: briefs.filter(sign.holds).map(it => it.count)}));
   if (tasks.size > 1 && (isWhole || losses.length)) all.push({kind: 'lost', sign: LOST_SIGN, none: 'no store is lost', one: 'store lost', many: 'stores lost', counts: [...new Set(losses.map(it => it.at))]});
+  if (stops.size) all.push({kind: 'stop', sign: '▮', none: 'an operator at a breakpoint', one: 'operator at a breakpoint', many: 'operators at breakpoints', counts: briefs.filter(it => stops.has(it.card)).map(it => it.count)});
   return all;
 }
 

@@ -6,7 +6,7 @@ import {endingOf} from './changes.js';
 import {showAlgol, showCards, markCards, showPrinted, lineRow} from './draw-cards.js';
 import {showStacks} from './draw-stacks.js';
 import {changesList, showMemory} from './draw-memory.js';
-import {lossText, lostStores} from './lost.js';
+import {lossChange, lostStores} from './lost.js';
 import {showSigns, signsOn} from './signs.js';
 import {briefsOf, showTimeline, windowOf} from './timeline.js';
 import {followedText} from './follow.js';
@@ -82,10 +82,11 @@ export function showLine(session, goes, width = byId('line').clientWidth || 1000
   session.window = windowOf(session.state.count, session.end, session.window);
   const {state, window, briefs, stops, end} = session, line = byId('line'), all = end ?? window.to, known = briefsOf(briefs, window);
   session.losses = lostStores(known);
-  session.signs = signsOn(known, session.losses, known.length > Math.min(window.to, all) - window.from);
+  const isKnown = known.length > Math.min(window.to, all) - window.from, isWhole = isKnown && window.from === 0 && window.to >= (end ?? Infinity);
+  session.signs = signsOn(known, session.losses, isKnown, stops);
   showSigns(byId('signs'), session.signs, goes);
-  if (!session.otherState) putKept(byId('changed'), changesPart(state, changesOf(session)));
-  const deepest = showTimeline(line, {count: state.count, window, briefs, stops, losses: session.losses, width}), depth = depthText(state, deepest);
+  if (!session.otherState) putKept(byId('changed'), changesPart(state, changesOf(session), goes));
+  const deepest = showTimeline(line, {count: state.count, window, briefs, stops, losses: session.losses, width}), depth = depthText(state, deepest, isWhole);
   if (byId('depth').textContent !== depth) byId('depth').textContent = depth;
   for (const [name, value] of [['now', state.count], ['min', 0], ['max', all]]) set(line, `aria-value${name}`, value);
   set(line, 'aria-valuetext', `${state.count} of ${end ?? 'many'} operators`);
@@ -97,13 +98,13 @@ export function showLine(session, goes, width = byId('line').clientWidth || 1000
 
 // What the operator changed, and the stores of other tasks that it wrote over.
 export function changesOf({state, losses = []}) {
-  return [...state.changes, ...losses.filter(it => it.at === state.count).map(it => ({kind: 'lost', text: lossText(it)}))];
+  return [...state.changes, ...losses.filter(it => it.at === state.count).map(lossChange)];
 }
 
-// How deep the stack of the running task is, and how deep one gets on the line of time.
-function depthText({tasks, last}, deepest) {
+// How deep the stack of the running task is, and how deep one gets on the line of time, of which all of the run may be drawn.
+export function depthText({tasks, last}, deepest, isWhole) {
   const records = tasks.find(task => task.name === last)?.records.length;
-  return records ? `${countOf(records, 'record')} deep${deepest > 1 ? `, ${deepest} at most` : ''}` : '';
+  return records ? `${countOf(records, 'record')} deep${deepest > 1 ? `, ${deepest} at most${isWhole ? '' : ' in the part that is drawn'}` : ''}` : '';
 }
 
 export function showDeck(session, toggle, help) {
@@ -149,8 +150,8 @@ function faultyOf(fault) {
 }
 
 // The list of changes as a part, which stays if the next operator says the same.
-function changesPart(state, changes = state.changes) {
-  return [[JSON.stringify([changes, state.status, state.count === 0]), () => changesList({...state, changes})]];
+function changesPart(state, changes = state.changes, goes = undefined) {
+  return [[JSON.stringify([changes, state.status, state.count === 0]), () => changesList({...state, changes}, goes)]];
 }
 
 // The cell or the array that is followed, and what it holds.

@@ -6,7 +6,7 @@ import {algolOf} from './algol.js';
 import {hasJob} from './cards.js';
 import {NO_JOB} from './commands.js';
 import {showResult} from './deck-view.js';
-import {nameOfFollowed} from './follow.js';
+import {arrayBehind, nameOfFollowed} from './follow.js';
 import {sentenceOf, speak} from './speech.js';
 import {nextOf} from './signs.js';
 import {changesOf, showDeck, showLine, showMoment} from './step-view.js';
@@ -29,7 +29,8 @@ function keepState({states, faults}, core, state) {
 function nothingFound(kind, way, state, followed) {
   const things = {line: 'No line is printed', paging: 'There is no paging', task: 'No other task runs', fault: 'No task ends', stopped: 'No breakpoint is met',
     store: `Nothing is stored into ${followed && nameOfFollowed(state, followed)}`, over: 'No operator is made', out: 'No operator is made', deepest: 'No stack is higher'};
-  return `${things[kind]} ${way > 0 ? 'after' : 'before'} this moment, so the page stays here.`;
+  const advice = kind === 'store' && followed ? arrayBehind(state, followed) : '';
+  return `${things[kind]} ${way > 0 ? 'after' : 'before'} this moment, so the page stays here.${advice && ` ${advice}`}`;
 }
 
 export class Steps {

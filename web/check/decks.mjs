@@ -80,7 +80,8 @@ export async function signs(it) {
     return (await it.click(`[data-sign=${kind}]`)).count;
   };
   await it.opens('switched,685,0');
-  it.wants(await counts('lost') === 17 && /that of operator 12, task 1\.2/.test(await it.shown('#changed li')), `the sign of a store that is lost: ${told(await it.shown('#changed li'))}`);
+  it.wants(await counts('lost') === 17 && /that of operator 12, card 33, task 1\.2/.test(await it.shown('#changed li')), `the sign of a store that is lost: ${told(await it.shown('#changed li'))}`);
+  it.wants((await it.click('#changed .moment')).count === 12, 'the operator whose store is lost leads elsewhere');
   it.wants((await it.pressed('switched', it.deck('switched'), 'x', true)).count === 17, 'x with shift leads away from the one store that is lost');
   await it.opens('task:4.2');
   await it.until("document.querySelector('[data-sign=lost]')");

@@ -7,7 +7,7 @@ import {fileURLToPath} from 'node:url';
 import {hashOf, placeOf} from '../address.js';
 import {cardsOf, placesOf} from '../cards.js';
 import {endingOf} from '../changes.js';
-import {followedText, nextChoice} from '../follow.js';
+import {arrayBehind, followedText, nextChoice} from '../follow.js';
 import {partOf, startOf} from '../cards-area.js';
 import {numbersForRead, withNumbers} from '../deck-view.js';
 import {decksOf, GROUPS, START} from '../decks.js';
@@ -223,6 +223,8 @@ test('what is followed', () => {
   });
   for (const [followed, text] of [['1.1 1 2', 'cell 2,2, in record 1 of task 1.1: 7'], ['1.1 1 3array', 'array 2,3'],
     ['1.2 1 2', 'cell 2 of record 1 of task 1.2 isn’t there now'], ['1.1 1 4array', 'the array isn’t there now']]) assert.equal(followedText(state, followed), text);
+  assert.match(arrayBehind(state, '1.1 1 3'), /^The cell leads to array 2,3: a click on its name/);
+  for (const followed of ['1.1 1 2', '1.1 1 3array', '1.1 9 2']) assert.equal(arrayBehind(state, followed), '');
 });
 
 test('lessons lead to moments of decks that are there', () => {

@@ -79,8 +79,8 @@ test('the last of several numbers before one', () => {
 
 // What a count changed, and the card of its operator.
 const CHANGED = [
-  ['two', 20, 25, /^array 2,2 .* to sectors 2 to 8, which it takes now\. No copy led into core, so none is turned$/],
-  ['two', 23, 28, /^array 2,3 .* to sectors 9 to 15, which it takes now\./],
+  ['two', 20, 25, /^array 2,2 .* to sectors 2 to 8, which it takes now\. It held 11 in element 5\. No copy led into core, so none is turned$/],
+  ['two', 23, 28, /^array 2,3 .* to sectors 9 to 15, which it takes now\. It held 12 in element 6\b/],
   ['two', 20, 25, /^element 6 of array 2,3 .*: 0 becomes 12$/],
   ['switched', 8, 29, /^1\.2 runs, after 1\.1$/],
   ['switched', 12, 33, /^cell 2,2, in record 1 of task 1\.1: 0 becomes 1$/],

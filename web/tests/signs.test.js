@@ -1,9 +1,10 @@
 // Stores that are lost, the signs of the line of time, and the stack that stays at the left: by data.
 import assert from 'node:assert/strict';
 import {test} from 'node:test';
-import {lossText, lostStores, touchesOf} from '../lost.js';
+import {lossChange, lossText, lostStores, touchesOf} from '../lost.js';
 import {nextOf, signsOn} from '../signs.js';
 import {isRoot, pinnedWidth} from '../pin-stack.js';
+import {depthText} from '../step-view.js';
 
 const CELL = '1.1 1 2';
 
@@ -14,7 +15,7 @@ function runOf(...operators) {
     const [task, text] = it.split(' ');
     if (text === 'EXIT') records = {...records, [task]: 0};
     if (text === 'MKST') records = {...records, [task]: 1};
-    return {count: k + 1, task, text, records, fetches: text === 'VALC' ? [CELL] : [], puts: text.startsWith('STO') || text === 'ENTR' ? [CELL] : [], paging: [], lines: 0, bad: false};
+    return {count: k + 1, task, card: String(k + 11), text, records, fetches: text === 'VALC' ? [CELL] : [], puts: text.startsWith('STO') || text === 'ENTR' ? [CELL] : [], paging: [], lines: 0, bad: false};
   });
 }
 
@@ -29,7 +30,9 @@ test('stores that are lost', () => {
   assert.deepEqual(lost('1.1 VALC', '1.2 ENTR', '1.1 STOD'), []); // an intrinsic is no store
   assert.deepEqual(lost('1.2 VALC', '1.1 STOD', '1.1 EXIT', '1.1 MKST', '1.2 STOD'), []); // another record's cell
   const [found] = lostStores(runOf('1.1 VALC', '1.2 STOD', '1.1 STOD'));
-  assert.equal(lossText(found), 'that of operator 2, task 1.2: task 1.1 had fetched the number before it, with operator 1');
+  assert.equal(lossText(found), 'that of operator 2, card 12, task 1.2: task 1.1 had fetched the number before it, with operator 1');
+  assert.deepEqual(lossChange(found).moment, {text: 'operator 2, card 12', count: 2});
+  assert.match(lossText({...found, card: '1/2@0:3'}), /^that of operator 2, at 1\/2@0:3, task 1\.2/);
 });
 
 test('what an operator fetched and stored', () => {
@@ -45,8 +48,17 @@ test('signs of the line of time', () => {
   assert.deepEqual(counts(signsOn(briefs, [])), {in: [1, 3], out: [1], line: [2], bad: [4]});
   assert.deepEqual(counts(signsOn([...briefs, brief(5, {records: {1.1: 1, 1.2: 1}})], [{at: 5}, {at: 5}])).lost, [5]);
   assert.equal(counts(signsOn([brief(5, {records: {1.1: 1, 1.2: 1}})], [], false)).lost, undefined);
+  const carded = [brief(1, {card: '9'}), brief(2, {card: '7'}), brief(3, {card: '9'})], stops = cards => counts(signsOn(carded, [], true, new Set(cards))).stop;
+  assert.deepEqual([stops([]), stops(['9']), stops(['8'])], [undefined, [1, 3], []]);
   assert.deepEqual([0, 1, 3].map(now => nextOf([1, 3], now)), [1, 3, 1]);
   assert.deepEqual([0, 1, 3, 9].map(now => nextOf([1, 3], now, -1)), [3, 3, 1, 3]);
+});
+
+test('how deep a stack is, and gets on a line that has all of the run or a part', () => {
+  const state = {tasks: [{name: '1.1', records: [{}]}], last: '1.1'};
+  assert.equal(depthText(state, 35, true), '1 record deep, 35 at most');
+  assert.equal(depthText(state, 35, false), '1 record deep, 35 at most in the part that is drawn');
+  assert.equal(depthText(state, 1, false), '1 record deep');
 });
 
 test('the stack on which all others stand', () => {
