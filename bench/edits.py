@@ -175,8 +175,8 @@ class Bench:
         self.lacks = [it.name for it in self.crate.below() if not is_built(it)]
         os.makedirs(self.room)
 
-    def check(self, texts, number):
-        """What a check of the crate with these texts prints, and its status."""
+    def check(self, texts, number, more=()):
+        """What a check of the crate with these texts, and more words, prints, and its status."""
         at = f"{self.room}/{number}"
         for part in self.rtlib.PARTS:
             if os.path.isdir(f"{self.folder}/{part}"):
@@ -190,7 +190,7 @@ class Bench:
             shutil.copytree(begin, f"{at}/kept", symlinks=True)
         else:
             os.makedirs(f"{at}/kept")
-        words = [self.rtlib.RATTLE, "check", *self.crate.words(["--jobs", "1"], keeps=False), "--incremental", f"{at}/kept"]
+        words = [self.rtlib.RATTLE, "check", *self.crate.words(["--jobs", "1"], keeps=False), "--incremental", f"{at}/kept", *more]
         ran = subprocess.run(words, cwd=at, stdin=subprocess.DEVNULL, stdout=subprocess.PIPE, stderr=subprocess.STDOUT, errors="replace")
         if number == "first":
             os.rename(f"{at}/kept", seed)
