@@ -171,8 +171,8 @@ class Bench:
         if os.path.isdir(f"{self.folder}/out/incremental"):
             shutil.copytree(f"{self.folder}/out/incremental", f"{self.room}/kept", symlinks=True)
 
-    def check(self, texts, functions):
-        """What a check of these functions of the crate with these texts prints, and its status; without functions, of all."""
+    def check(self, texts, functions, more=()):
+        """What a check of these functions of the crate with these texts, and more words, prints, and its status; without functions, of all."""
         at = f"{self.room}/texts"
         for part in self.rtlib.PARTS:
             if os.path.isdir(f"{self.folder}/{part}"):
@@ -180,7 +180,7 @@ class Bench:
         for file, text in texts.items():
             with open(f"{at}/{file}", "w", encoding="utf-8") as out:
                 out.write(text)
-        words = [self.rtlib.RATTLE, "check", *self.crate.words(["--jobs", "1"], keeps=False), "--incremental", f"{self.room}/kept"]
+        words = [self.rtlib.RATTLE, "check", *self.crate.words(["--jobs", "1"], keeps=False), "--incremental", f"{self.room}/kept", *more]
         words += [word for it in sorted(functions) for word in ("--only", it)]
         ran = subprocess.run(words, cwd=at, stdin=subprocess.DEVNULL, stdout=subprocess.PIPE, stderr=subprocess.STDOUT, errors="replace")
         shutil.rmtree(at)
