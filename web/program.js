@@ -2,6 +2,7 @@
 import {SECTOR} from './words.js';
 
 const MOST_WORDS = 5;
+const BYTE = 255; // a status is a byte; what the module leaves above it means nothing
 const SECTOR_BYTES = 8 * SECTOR;
 const encoder = new TextEncoder();
 const latin = new TextDecoder('latin1');
@@ -53,7 +54,7 @@ export class Program {
   // status, what is printed, and the sectors.
   prints(instance, sectors, room, calls) {
     const [sectorsAt, count] = lendSectors(instance, sectors), linesAt = roomFor(instance, room), printedAt = roomFor(instance, 8);
-    const status = calls(sectorsAt, count, linesAt, BigInt(room), printedAt), {buffer} = instance.memory;
+    const status = calls(sectorsAt, count, linesAt, BigInt(room), printedAt) & BYTE, {buffer} = instance.memory;
     return {
       status,
       bytes: new Uint8Array(buffer, Number(linesAt), numberAt(instance, printedAt)),
@@ -83,7 +84,7 @@ export class Program {
   find(text, {core, kind, numbers = [], from, most, sectors}) {
     const instance = this.instance(), textAt = lend(instance, bytesOf(text)), foundAt = roomFor(instance, 8);
     const [numbersAt] = lend(instance, new Uint8Array(Uint32Array.from(numbers).buffer));
-    const status = instance.b67_web_find(core, kind, numbersAt, BigInt(numbers.length), BigInt(from), BigInt(most), ...textAt, sectors, foundAt);
+    const status = instance.b67_web_find(core, kind, numbersAt, BigInt(numbers.length), BigInt(from), BigInt(most), ...textAt, sectors, foundAt) & BYTE;
     return {status, count: status === 0 ? numberAt(instance, foundAt) : null};
   }
 }
