@@ -244,22 +244,27 @@ class Page:
         return [over[number] for number in range(len(self.blocks))]
 
     def usual_way(self):
-        """The stops of the usual way: chapter, definition, what to look at, the stop or contract that names it, and 0 if it is of the
-        short way, 1 if it lies between its stops, 2 if it is of the second short way."""
-        way, chapter, before = [], "", list(self.roots)
+        """The stops of the usual way: chapter, or part of the second short way, definition, what to look at, the stop or contract that
+        names it, and 0 if it is of the short way, 1 if it lies between its stops, 2 if it is of the second short way."""
+        way, chapter, part, before = [], "", "", []
         for name, said in rows("way.txt"):
             if name is None:
                 chapter = said
+                continue
+            if name == "?":
+                part = said
                 continue
             kind, name = {"+": 1, "?": 2}.get(name[0], 0), name.lstrip("+?")
             if name not in self.by_name:
                 raise Wrong(f"way.txt: {name} isn't shown")
             number = self.by_name[name]
-            over = [stop for stop in reversed(before) if number in self.links(stop)]
-            if not over or number in before:
+            # the last stop that names it, of the short way if it is of that; else the first contract that does
+            own = [stop for stop, of in reversed(before) if of == kind == 0]
+            over = [stop for stop in own + [stop for stop, _ in reversed(before)] + self.roots if number in self.links(stop)]
+            if not over or number in [stop for stop, _ in before]:
                 raise Wrong(f"way.txt: {name} isn't named by what comes before it, or comes twice")
-            before.append(number)
-            way.append([chapter, number, said, over[0], kind])
+            before.append((number, kind))
+            way.append([part if kind == 2 else chapter, number, said, over[0], kind])
         return way
 
     def clauses_in_words(self):
@@ -272,15 +277,19 @@ class Page:
         return said
 
     def statuses_in_words(self):
-        """The statuses: number, definition, last line, meaning. They are those of which the definitions speak."""
+        """The statuses: number, definitions, last line, meaning. They are those of which the definitions speak, and the definitions those
+        of the two main clauses that speak of it, or another one if none does."""
         shown = {name: set(re.findall(r"status ≡ (\d+)", "\n".join(self.shown[number]["text"]))) for name, number in self.by_name.items()}
-        said = [row for row in rows("statuses.txt") if row[0] is not None]
-        for status, name, _, _ in said:
-            if status not in shown.get(name, ()):
-                raise Wrong(f"statuses.txt: {name} doesn't speak of {status}")
+        said, main = [row for row in rows("statuses.txt") if row[0] is not None], self.main_numbers()
+        for status, names, _, _ in said:
+            speak = {name for name, found in shown.items() if status in found}
+            own = {name for name in speak if self.by_name[name] in main}
+            named = set(names.split(" "))
+            if not named <= speak or own and named != own:
+                raise Wrong(f"statuses.txt: of {status} speak {', '.join(sorted(own or speak))}")
         if {row[0] for row in said} != set().union(*shown.values()):
             raise Wrong("statuses.txt: the definitions speak of other statuses")
-        return [[int(status), self.by_name[name], line, meaning] for status, name, line, meaning in said]
+        return [[int(status), [self.by_name[name] for name in names.split(" ")], line, meaning] for status, names, line, meaning in said]
 
     def words_beside(self):
         """What the page says beside a definition: its number, a field or an empty text, and a sentence."""

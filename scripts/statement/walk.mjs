@@ -1,7 +1,7 @@
 // Walks through docs/statement.html in a browser: node walk.mjs BROWSER PAGE [FOLDER]. Each stop of the short ways by the key n, with a
-// detour; each name
-// that the page shows by its link; that each name leads to what the imports of its file mean; the counts; Back; words by the keyboard;
-// names that are found; deep links. Prints what differs, and ends with status 1 if anything does. With FOLDER pictures are written there.
+// detour, and the crumbs over it; each name that the page shows by its link; that each name leads to what the imports of its file mean;
+// the counts; the end of the ways; Back, also from a contract; words by the keyboard; names that are found; deep links. Prints what
+// differs, and ends with status 1 if anything does. With FOLDER pictures are written there.
 import fs from 'node:fs';
 import path from 'node:path';
 import {pathToFileURL} from 'node:url';
@@ -36,6 +36,9 @@ try {
   const detour = data.way.filter(stop => stop[4] === 1).at(-1), met = short[5];
   const order = [...short.slice(0, 5), ...short.slice(6), ...second];
   const names = [];
+  const overs = new Map(data.way.map(stop => [stop[1], stop[3]])), contracts = data.contracts.map(one => one[0]);
+  const wayTo = one => (contracts.includes(one) ? [] : [...wayTo(overs.get(one)), data.definitions[overs.get(one)][0]]);
+  const crumbs = () => browser.value("pathTo(shown).map(one => definitions[one][0])");
   let lines = 0;
   for (const stop of order) {
     await browser.press('n');
@@ -51,17 +54,58 @@ try {
     const seen = short.filter(one => names.includes(data.definitions[one[1]][0])).length;
     const said = await counted();
     expect(`stop ${names.length}`, await shown(), data.definitions[(stop === order[1] ? met : stop)[1]][0]);
+    if (stop !== order[1]) expect(`crumbs at stop ${names.length}`, await crumbs(), wayTo(stop[1]));
     expect(`lines at stop ${names.length}`, said.includes(`${seen} of ${short.length} names, ${lines} of ${data.wayLines - data.contractLines} lines`), true);
   }
   expect('the stops', names, [...order.slice(0, 2), detour, met, ...order.slice(2)].map(stop => data.definitions[stop[1]][0]));
   expect('lines on the short way', lines, data.wayLines - data.contractLines);
-  expect('the end of the ways', await browser.value("document.getElementById('next').disabled"), true);
+  // each stop of the short way names the next one that it can: no crumb leads over what only lies between, where another would do
+  for (const stop of short) {
+    const before = data.way.slice(0, data.way.indexOf(stop)).filter(one => !one[4] && data.definitions[one[1]][5].some(line => typeof line !== 'string' && line.some(part => part[1] === stop[1])));
+    if (before.length) expect(`what names ${data.definitions[stop[1]][0]}`, stop[3], before.at(-1)[1]);
+  }
+  const ended = () => browser.value("[document.getElementById('next').disabled, document.querySelector('.acts .main').innerText, document.querySelector('.acts .main').disabled]");
+  expect('the end of the ways', await ended(), [true, 'Both short ways are done', true]);
   // Back leads to what was open before, and at last to the beginning
   for (const name of [...names.slice(0, -1).reverse(), null]) {
     await browser.press('b');
     await settled();
     expect('Back', await shown(), name);
+    if (name) expect(`the end of the ways, at ${name}`, await ended(), [true, 'Both short ways are done', true]);
   }
+  // from a contract that a crumb names Back leads to what was open
+  await browser.value(`go(${short[1][1]})`);
+  await settled();
+  await browser.value("document.querySelector('.path a[data-root]').click()");
+  await settled();
+  expect('a contract by its crumb', [await shown(), await browser.value("document.getElementById('back').disabled")], [null, false]);
+  await browser.press('b');
+  await settled();
+  expect('Back from a contract', await shown(), data.definitions[short[1][1]][0]);
+  await browser.press('b');
+  await settled();
+  // the crumb is the definition in which a name was clicked, or found
+  for (const [inside, found] of [['answers', 'result'], ['after_from', 'next'], ['lines_from', 'next']]) {
+    await browser.value(`go(place.get('${inside}'))`);
+    await settled();
+    if (found === 'result') await browser.value(`document.getElementById('search').value = 'result', drawFound(), take(hits.findIndex(hit => hit.name === 'result' && hit.word === undefined))`);
+    else await browser.value(`[...document.querySelectorAll('#side .code a')].find(one => one.textContent === '${found}').click()`);
+    await settled();
+    expect(`the crumb of ${found}`, [await shown(), (await crumbs()).at(-1)], [found, inside]);
+  }
+  await browser.press('b');
+  await browser.press('b');
+  await settled();
+  expect('Back, and the crumb of then', [await shown(), (await crumbs()).at(-1)], ['next', 'after_from']);
+  await browser.value("beginAgain()");
+  // typing in Find scrolls nothing
+  await browser.value('scrollTo(0, 700)');
+  await browser.press('/');
+  for (const letter of 'isone') await browser.press(letter);
+  await settled();
+  expect('the place while a name is typed', await browser.value('scrollY'), 700);
+  await browser.press('Escape');
+  await browser.value('scrollTo(0, 0)');
   // the table of statuses, from the first screen
   await browser.value("document.querySelector('[data-part=statuses]').click()");
   expect('the statuses', await browser.value("[...document.querySelectorAll('#statuses[open] td:first-child')].map(one => Number(one.textContent))"), data.statuses.map(one => one[0]));
