@@ -1,4 +1,4 @@
-/* What a machine allows: the operators of four loops of this folder as one switch in C, with the checks that the rules ask for: room,
+/* What a machine allows: the operators of four loops of this folder as one switch in C, with the checks that these loops need: room,
    cells that are there, tags, whole numbers within their range, indexes. Nothing is paged or proved, and one task runs. The code is
    read syllable by syllable. `switch LOOP TURNS`, where LOOP is counting, locals, calls or elements; it prints the operators made. */
 #include <inttypes.h>

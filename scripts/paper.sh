@@ -30,7 +30,14 @@ export SOURCE_DATE_EPOCH TZ=UTC
 cp paper*.svg paper.css "$room/"
 grep -v '^<!--' PAPER.md | sed -E 's/\[([^]]*)\]\([A-Za-z./]+\.md[^)]*\)/\1/g' |
     pandoc -f gfm -t html5 -s --wrap=none --metadata title='Paging changes no line' --metadata lang=en --css paper.css |
-    sed '/<header id="title-block-header">/,/<\/header>/d; s/^<p><em>Figure/<p class="caption"><em>Figure/' >"$room/paper.html"
+    sed '/<header id="title-block-header">/,/<\/header>/d; s/^<p><em>Figure/<p class="caption"><em>Figure/; s/<code>?/<code class="card">?/g' |
+    awk '# each line of a listing by itself, so that what is too long for the page goes on further in
+        { first = ""; last = ""; line = $0
+          if (match(line, /^<pre[^>]*><code[^>]*>/)) { inside = 1; first = substr(line, 1, RLENGTH); line = substr(line, RLENGTH + 1) }
+          if (inside && match(line, /<\/code><\/pre>.*$/)) { last = substr(line, RSTART); line = substr(line, 1, RSTART - 1) }
+          if (inside && !(last && line == "")) line = "<span>" (line == "" ? " " : line) "</span>"
+          printf "%s%s%s%s", first, line, last, inside && !last ? "" : "\n"
+          if (last) inside = 0 }' >"$room/paper.html"
 (cd "$room" && weasyprint -q paper.html paper.pdf)
 cp "$room/paper.pdf" "$file.part"
 mv "$file.part" "$file"
