@@ -1,5 +1,5 @@
 // What each key and each button of the steps does.
-import {byId} from './elements.js';
+import {byId, isNarrow} from './elements.js';
 import {cardKey} from './search.js';
 import {nextChoice} from './follow.js';
 import {showHelp} from './help.js';
@@ -32,6 +32,7 @@ export function toggleLessons(page, shown = byId('lessons').hidden) {
   panel.hidden = !shown;
   byId('lessons-button').setAttribute('aria-pressed', String(!panel.hidden));
   if (shown) panel.querySelector('summary')?.focus({preventScroll: true});
+  if (shown && isNarrow()) panel.scrollIntoView();
   page.steps.redraw();
 }
 

@@ -19,7 +19,7 @@ function cardRow(card, number, toggle, help) {
   const command = card.startsWith('?'), at = command ? -1 : card.indexOf(';');
   const kind = command ? 'command' : /^(SEGMENT|ROW)/.test(card) ? 'heading' : '';
   const text = at >= 0 ? [card.slice(0, at), element('span', {class: 'comment'}, card.slice(at))] : [card || ' '];
-  const made = row(String(number), kind, String(number), `card ${number}`, text, toggle), said = help(card);
+  const made = row(String(number), kind, String(number), `card ${number}`, text, toggle), said = [at >= 0 && card.slice(at), help(card)].filter(Boolean).join('\n');
   if (said) made.lastChild.title = said;
   return made;
 }

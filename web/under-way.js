@@ -8,7 +8,7 @@ function numbered(count) {
 // While it computes, after so many seconds; `at` and the run's `end` may be unknown.
 export function underWayText(seconds, at, end) {
   const lasts = seconds ? `computing for ${seconds} s` : 'computing';
-  if (at !== null) return `${lasts}, at ${numbered(at)}${end ? ` of ${end.toLocaleString('en')}` : ''}; Esc stops`;
+  if (at !== null) return `${lasts}, at ${numbered(at)}${end ? ` of ${end.toLocaleString('en')}` : ''}`;
   return seconds < 3 ? lasts : `${lasts}; an endless loop ends at its ?LIMIT, or by Stop`;
 }
 

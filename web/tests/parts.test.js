@@ -230,8 +230,8 @@ test('what is followed', () => {
 
 test('what is told while something is computed, and after Stop', () => {
   assert.deepEqual([[0, null, 27], [2, null, 27], [4, null, null], [4, 5210, null], [4, 5210, 12000]].map(it => underWayText(...it)),
-    ['computing', 'computing for 2 s', 'computing for 4 s; an endless loop ends at its ?LIMIT, or by Stop', 'computing for 4 s, at operator 5,210; Esc stops',
-      'computing for 4 s, at operator 5,210 of 12,000; Esc stops']);
+    ['computing', 'computing for 2 s', 'computing for 4 s; an endless loop ends at its ?LIMIT, or by Stop', 'computing for 4 s, at operator 5,210',
+      'computing for 4 s, at operator 5,210 of 12,000']);
   assert.equal(stoppedText(4, {none: 'There is no paging', from: 20, at: 5210}), 'Stopped. There is no paging from operator 20 to operator 5,210.');
   assert.match(stoppedText(4), /^Stopped after 4 s, before it was done;/);
   assert.match(stoppedText(0), /^Stopped, before it was done;/);
