@@ -80,7 +80,7 @@ export function showTimeline(picture, {count, window, briefs, stops, losses, wid
     shown = {briefs, frame, counts: new Set(), columns: drawn('g'), names: drawn('g'), losses: drawn('g'), cursor: drawn('path', {class: 'cursor'})};
     shownIn.set(picture, shown);
     set(picture, 'viewBox', `0 0 ${width} 44`);
-    put(picture, shown.columns, shown.names, shown.losses, shown.cursor);
+    put(picture, shown.columns, shown.names, shown.cursor, shown.losses);
   }
   const before = shown.counts.size;
   for (let at = window.from; at <= window.to; at++) {
