@@ -1,5 +1,5 @@
 // What each key and each button of the steps does.
-import {byId} from './elements.js';
+import {byId, isNarrow} from './elements.js';
 import {cardKey} from './search.js';
 import {nextChoice} from './follow.js';
 import {showHelp} from './help.js';
@@ -32,6 +32,7 @@ export function toggleLessons(page, shown = byId('lessons').hidden) {
   panel.hidden = !shown;
   byId('lessons-button').setAttribute('aria-pressed', String(!panel.hidden));
   if (shown) panel.querySelector('summary')?.focus({preventScroll: true});
+  if (shown && isNarrow()) panel.scrollIntoView();
   page.steps.redraw();
 }
 
@@ -77,10 +78,10 @@ const STEPS = {
   tenForth: page => page.steps.goBy(10),
   tenBack: page => page.steps.goBy(-10),
   first: page => page.guard(() => page.steps.goTo(0)),
-  last: page => page.guard(async () => page.steps.goTo(await page.steps.ask('end', {}))),
-  before: page => page.guard(async () => page.steps.goTo(await page.steps.ask('firstFault', {}) - 1)),
+  last: page => page.steps.toEnd('end', 0, 'There is no end'),
+  before: page => page.steps.toEnd('firstFault', 1, 'There is no fault and no end'),
   ...Object.fromEntries(['over', 'out', 'line', 'paging', 'task', 'store', 'fault', 'stopped', 'deepest'].map(kind => [kind, (page, way) => page.steps.find(kind, way)])),
-  lost: ({steps}, way) => steps.lost(way),
+  lost: ({steps}, way) => steps.along('lost', way, 'No store is lost on this line of time, so the page stays here.'),
   stoppedBack: page => page.steps.find('stopped', -1),
   follow: ({steps}, way) => steps.follows(steps.view.walked && way > 0 && steps.view.walked.split(' ').length === 3 ? steps.view.walked : nextChoice(steps.session.state, steps.view.followed, way)),
   stop: ({steps}) => steps.toggle(cardKey(steps.session.state.next ?? steps.session.state.operator)),

@@ -2,6 +2,8 @@
 // no worker, the same work is done in the page, which then can't answer while it computes.
 import {Desk} from './worker.js';
 
+export const STOPPED = 'stopped'; // the reason that Stop gives to what was asked
+
 export class Client {
   // `source` is the script's text, `bytes` the module's; `hear` gets what the worker tells unasked, `busy` whether it works.
   constructor(source, bytes, {compares, hear, busy}) {
@@ -15,17 +17,17 @@ export class Client {
     if (!this.desk) {
       const problem = await this.startWorker().then(() => null, it => it);
       this.works ||= !problem;
-      if (!problem || problem.message === 'stopped') return;
+      if (!problem || problem.message === STOPPED) return;
       if (this.works) throw problem;
       this.worker?.terminate();
       this.worker = null;
     }
-    this.desk = new Desk(message => this.hear(message));
+    this.desk = new Desk(message => this.takes(message));
     await this.ask('start', {bytes: this.bytes, compares: this.compares});
   }
   async startWorker() {
     this.worker = new Worker(this.address);
-    this.worker.onmessage = ({data}) => (data.id ? this.answered(data) : this.hear(data));
+    this.worker.onmessage = ({data}) => this.takes(data);
     this.worker.onerror = event => this.failAll(event.message ?? 'the worker has failed');
     return this.ask('start', {bytes: this.bytes, compares: this.compares});
   }
@@ -34,10 +36,21 @@ export class Client {
     const id = ++this.number;
     this.busy(this.asked.size + 1);
     return new Promise((resolve, reject) => {
-      this.asked.set(id, {resolve, reject});
+      this.asked.set(id, {resolve, reject, begun: performance.now()});
       if (this.desk) setTimeout(() => this.desk.answers(id, ask, data).then(message => this.answered(message)), 15);
       else this.worker.postMessage({id, ask, data});
     });
+  }
+
+  // An answer, what the worker tells unasked, or how far it has come with a question.
+  takes(data) {
+    if (data.id) this.answered(data);
+    else if (!('far' in data)) this.hear(data);
+    else if (this.asked.has(data.of)) this.asked.get(data.of).far = data.far;
+  }
+  // How far the question has come that is being answered, the oldest one; null if that isn't told.
+  get far() {
+    return this.asked.values().next().value?.far ?? null;
   }
 
   answered({id, result, problem}) {
@@ -50,7 +63,7 @@ export class Client {
   }
 
   failAll(reason) {
-    for (const {reject} of this.asked.values()) reject(new Error(reason));
+    for (const {reject, begun, far = null} of this.asked.values()) reject(Object.assign(new Error(reason), {far, seconds: Math.floor((performance.now() - begun) / 1000)}));
     this.asked.clear();
     this.busy(0);
   }
@@ -58,7 +71,7 @@ export class Client {
   // Ends what is computed, at once.
   stop() {
     this.worker?.terminate();
-    this.failAll('stopped');
+    this.failAll(STOPPED);
     return this.start();
   }
 }

@@ -1,5 +1,5 @@
 // The course on the page: the panel of lessons and sheets with their tasks and marks, and the bar of the task that is being done.
-import {byId, element, put} from './elements.js';
+import {byId, element, isNarrow, put} from './elements.js';
 import {COURSE, TASKS} from './course.js';
 import {packedHand, sameElsewhere} from './handin.js';
 import {showHelp} from './help.js';
@@ -169,7 +169,7 @@ export class Course {
   unfolds(id, task) {
     this.page.showLessons(true);
     byId(id).open = true;
-    if (task && matchMedia('(max-width:800px)').matches) return scrollTo(0, 0);
+    if (task && isNarrow()) return scrollTo(0, 0);
     (task ? document.querySelector(`[data-task="${task.id}"]`) : byId(id)).scrollIntoView({block: task ? 'nearest' : 'start'});
   }
 

@@ -19,7 +19,7 @@ function cardRow(card, number, toggle, help) {
   const command = card.startsWith('?'), at = command ? -1 : card.indexOf(';');
   const kind = command ? 'command' : /^(SEGMENT|ROW)/.test(card) ? 'heading' : '';
   const text = at >= 0 ? [card.slice(0, at), element('span', {class: 'comment'}, card.slice(at))] : [card || ' '];
-  const made = row(String(number), kind, String(number), `card ${number}`, text, toggle), said = help(card);
+  const made = row(String(number), kind, String(number), `card ${number}`, text, toggle), said = [at >= 0 && card.slice(at), help(card)].filter(Boolean).join('\n');
   if (said) made.lastChild.title = said;
   return made;
 }
@@ -72,7 +72,8 @@ export function markCards(box, state, stops, faulty) {
   list.state = state;
   if (isNew) bringRow(box, state.operator ?? state.next);
   const now = rowOf(box, cardKey(state.operator)), next = rowOf(box, cardKey(state.next)), shown = now ?? next;
-  const {scrollTop, clientHeight} = box, at = shown?.offsetTop; // asked before anything changes
+  const {scrollTop, clientHeight} = box, at = shown?.offsetTop, moved = isNew || list.height !== clientHeight; // asked before anything changes
+  list.height = clientHeight;
   for (const row of box.querySelectorAll('.now, .next, .faulty')) {
     row.classList.remove('now', 'next', 'faulty');
     row.removeAttribute('aria-current');
@@ -83,7 +84,7 @@ export function markCards(box, state, stops, faulty) {
   rowOf(box, faulty ? cardKey(faulty) : '')?.classList.add('faulty');
   for (const row of box.querySelectorAll('.stopped')) if (!stops.has(row.dataset.key)) markStop(row, false);
   for (const key of stops) markStop(rowOf(box, key), true);
-  if (isNew && shown && (at < scrollTop + 20 || at > scrollTop + clientHeight - 60)) box.scrollTop = at - clientHeight / 2;
+  if (moved && shown && (at < scrollTop + 20 || at > scrollTop + clientHeight - 60)) box.scrollTop = at - clientHeight / 2;
 }
 
 // The text in ALGOL beside the cards: the line of the operator just made, and that of the next one.

@@ -21,6 +21,11 @@ export function byId(id) {
   return document.getElementById(id);
 }
 
+// Whether all parts stand below each other, as on a phone; the same widths and heights stand in page.css.
+export function isNarrow() {
+  return matchMedia('(max-width:800px),(max-height:480px)').matches;
+}
+
 export function put(box, ...children) {
   box.replaceChildren(...children.flat(Infinity).filter(child => child !== null && child !== undefined && child !== false));
 }

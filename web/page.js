@@ -1,7 +1,7 @@
 // The page: what is open, what is told, and which of its parts does what. commands.js runs decks, steps.js shows moments, places.js has
 // the addresses.
 import {byId, element, put} from './elements.js';
-import {Client} from './client.js';
+import {Client, STOPPED} from './client.js';
 import {Commands} from './commands.js';
 import {Course} from './course-view.js';
 import {decksOf} from './decks.js';
@@ -18,6 +18,7 @@ import {perform, toggleLessons} from './acts.js';
 import {Places} from './places.js';
 import {SheetEditor} from './sheet-view.js';
 import {Steps} from './steps.js';
+import {stoppedText, underWayText} from './under-way.js';
 
 const [LEAST_CORE, MOST_CORE] = [256, 1048575];
 const BUSY_MILLISECONDS = 200; // after which the page says that it computes
@@ -45,7 +46,7 @@ export class Page {
   async begin() {
     const bytes = Uint8Array.from(atob(byId('module').textContent.replace(/\s/g, '')), c => c.charCodeAt(0));
     this.client = new Client(byId('script').textContent, bytes, {
-      compares: /[?&]compare/.test(location.search), hear: it => this.hear(it), busy: many => this.busy(many),
+      compares: /[?&]compare/.test(location.search), hear: it => this.steps.hear(it), busy: many => this.busy(many),
     });
     this.lists();
     const can = globalThis.WebAssembly?.validate(bytes);
@@ -74,8 +75,10 @@ export class Page {
 
   // ------------------------------------------------------------ what is told
 
-  say(text) {
-    byId('message').textContent = text;
+  // Says something; with a count also a button that leads there.
+  say(text, count) {
+    const button = () => element('button', {type: 'button', onclick: () => this.guard(() => this.steps.goTo(count))}, `Go to operator ${count.toLocaleString('en')}`);
+    put(byId('message'), text, count === undefined ? null : [' ', button()]);
     byId('message').hidden = !text;
   }
 
@@ -85,20 +88,12 @@ export class Page {
     clearInterval(this.clock);
     this.clock = null;
     byId('busy').hidden = true;
-    this.progress = '';
     if (!many) return;
     const begun = performance.now();
     this.clock = setInterval(() => {
-      const seconds = Math.floor((performance.now() - begun) / 1000);
       byId('busy').hidden = false;
-      byId('progress').textContent = this.progress || (seconds < 3 ? 'computing' : `computing for ${seconds} s; an endless loop ends at its ?LIMIT, or by Stop`);
+      byId('progress').textContent = underWayText(Math.floor((performance.now() - begun) / 1000), this.client.far, this.steps.shown?.end);
     }, BUSY_MILLISECONDS);
-  }
-
-  // What the worker tells unasked: progress, states made ahead, and briefs for the time line.
-  hear(told) {
-    if (told.progress) this.progress = told.progress;
-    else this.steps.hear(told);
   }
 
   // Carries out something that may fail; the reason is one sentence on the page.
@@ -110,7 +105,7 @@ export class Page {
       return await work();
     } catch (problem) {
       if (problem instanceof NamesRefused) this.refuses(problem);
-      else this.say(problem.message === 'stopped' ? 'Stopped. Change the deck or the count and go on.' : problem.message);
+      else this.say(problem.message === STOPPED ? stoppedText(problem.seconds) : problem.message, problem.goes);
     } finally {
       this.working--;
     }

@@ -1,5 +1,5 @@
 // Places: what an address leads to, and the address of what is open. addresses.js takes them apart.
-import {byId} from './elements.js';
+import {byId, isNarrow} from './elements.js';
 import {hashOf, placeOf} from './address.js';
 import {START} from './decks.js';
 import {USUAL_CORE} from './editor.js';
@@ -29,7 +29,7 @@ export class Places {
     if (!this.isShown(place)) await page.guard(() => this.open(place));
     page.course.takesUp(history.state?.task);
     page.hand.tells(hash);
-    if (matchMedia('(max-width:800px)').matches) scrollTo(0, 0);
+    if (isNarrow()) scrollTo(0, 0);
   }
 
   // Without an address: the first deck, and for whoever is new a way in.

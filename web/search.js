@@ -34,11 +34,6 @@ export function cardKey(operator) {
   return operator.card ? String(operator.card) : `${operator.task.split('.')[0]}/${operator.place}`;
 }
 
-// How far a search has come, and how fast.
-function progressText(many, count, milliseconds) {
-  return `${many.toLocaleString('en')} operators looked through, at ${count.toLocaleString('en')}; ${Math.round(many / milliseconds * 1000)} in a second, Esc stops`;
-}
-
 // The greatest number below `to` at which something holds, null for none; `first` gives the least one from one number on, below another.
 // It asks in windows that double, backwards from `to`, and then halves the one in which something was found.
 export function lastBefore(first, to) {
@@ -94,6 +89,7 @@ export class Search {
   asked(sought, kind, from, way, what) {
     const many = Math.min(MOST_NEAR, Math.floor(from / MADE_MEANWHILE)), near = this.walk(kind, from, way, what, many);
     if (near !== undefined) return near;
+    this.tell(null);
     const before = way > 0 ? this.machine.find(sought, from + many) : this.last(sought, from - many - 1);
     return before === null ? null : before + 1;
   }
@@ -139,7 +135,7 @@ export class Search {
   // The count that prints the next line: any, or one that tells an end or a fault.
   nextLine(from, which) {
     const {machine} = this, now = machine.linesAt(from, which);
-    return machine.linesAt(MOST_OPERATORS, which) > now ? least(count => machine.linesAt(count, which) > now, from + 1) : null;
+    return machine.linesAt(MOST_OPERATORS, which) > now ? least(this.telling(count => machine.linesAt(count, which) > now), from + 1) : null;
   }
 
   // The count that printed the last such line before `from`.
@@ -150,7 +146,11 @@ export class Search {
 
   // The count of the first fault, or else of the end.
   firstFault() {
-    return this.nextLine(0, 'faulted') ?? this.machine.end();
+    return this.nextLine(0, 'faulted') ?? this.end();
+  }
+  end() {
+    const {machine} = this;
+    return machine.last ??= least(this.telling(count => !machine.lives(count)));
   }
 
   // The first count at which the stack of the task that goes on has more words than at any other. Where a run stops for want of core, the
@@ -177,17 +177,26 @@ export class Search {
     return count => what.includes(this.brief(count).card);
   }
 
-  say(text) {
+  // Tells how far the search has come: up to a count, or back to it, it has found nothing.
+  tells(count) {
     this.told = performance.now();
-    this.tell(text);
+    this.tell(count);
+  }
+  // A test that tells where it doesn't hold.
+  telling(test) {
+    return count => {
+      const holds = test(count);
+      if (!holds) this.tells(count);
+      return holds;
+    };
   }
 
   // Goes from state to state until the test of a kind holds. Null if it never does; undefined if it holds of none of so many states.
   walk(kind, from, way, what, most = Infinity) {
-    const begun = performance.now(), quick = this.quickOf(kind, what), test = this.testOf(kind, what);
+    const quick = this.quickOf(kind, what), test = this.testOf(kind, what);
     for (let count = from + way; count > 0; count += way) {
       if (Math.abs(count - from) > most) return undefined;
-      if (performance.now() > this.told + 200) this.say(progressText(Math.abs(count - from), count, performance.now() - begun));
+      if (performance.now() > this.told + 200) this.tells(count - way);
       const glance = this.glance(count);
       if (!glance.over && !quick(glance, count)) continue;
       const brief = this.brief(count), over = brief.count < count;

@@ -1,5 +1,5 @@
 // The signs of the line of time: how often each stands on it, and a button that leads to the next one.
-import {element, putKept} from './elements.js';
+import {element, putKept, set} from './elements.js';
 import {countOf} from './words.js';
 
 const SIGNS = [
@@ -25,14 +25,15 @@ export function nextOf(counts, now, way = 1) {
   return way > 0 ? counts.find(count => count > now) ?? counts[0] : counts.findLast(count => count < now) ?? counts.at(-1);
 }
 
-function signPart({kind, sign, none, one, many = `${one}s`, counts}, goes) {
+function signPart({kind, sign, none, one, many = `${one}s`, counts}, isKnown, goes) {
   const mark = element('span', {class: kind}, sign);
   if (!counts.length) return element('span', {}, mark, ` ${none}`);
   const title = `to the next one: operator${counts.length > 1 ? 's' : ''} ${counts.slice(0, 12).join(', ')}${counts.length > 12 ? ' …' : ''}`;
-  return element('button', {type: 'button', class: 'key', title, 'data-sign': kind, onclick: () => goes(counts)}, mark, ` ${countOf(counts.length, one, many)}`);
+  return element('button', {type: 'button', class: 'key', title, 'data-sign': kind, onclick: () => goes(kind)}, mark, ` ${countOf(counts.length, one, many)}${isKnown ? '' : ' so far'}`);
 }
 
-// Shows them below the line of time; `goes` leads to the next of some counts.
-export function showSigns(box, signs, goes) {
-  putKept(box, [...signs.map(it => [JSON.stringify([it.kind, it.counts]), () => signPart(it, goes)]), ['tall', () => element('span', {}, 'the taller, the more records')]]);
+// Shows them below the line of time, which may not be known as a whole yet; `goes` leads to the next of a kind.
+export function showSigns(box, signs, isKnown, goes) {
+  set(box, 'aria-busy', !isKnown);
+  putKept(box, [...signs.map(it => [JSON.stringify([it.kind, it.counts, isKnown]), () => signPart(it, isKnown, goes)]), ['tall', () => element('span', {}, 'the taller, the more records')]]);
 }

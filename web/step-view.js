@@ -77,14 +77,15 @@ function showCount(session) {
   put(byId('of'), end === null ? 'operators' : `of ${end.toLocaleString('en')} operators`);
 }
 
-// The line of time, its signs, and what changed, since the line tells which stores are lost. `goes` leads to the next of some counts.
-export function showLine(session, goes, width = byId('line').clientWidth || 1000) {
+// The line of time, its signs, and what changed, since the line tells which stores are lost. `goes` leads to the next of some counts, `along`
+// to the next sign of a kind.
+export function showLine(session, {goes, along}, width = byId('line').clientWidth || 1000) {
   session.window = windowOf(session.state.count, session.end, session.window);
   const {state, window, briefs, stops, end} = session, line = byId('line'), all = end ?? window.to, known = briefsOf(briefs, window);
   session.losses = lostStores(known);
   const isKnown = known.length > Math.min(window.to, all) - window.from, isWhole = isKnown && window.from === 0 && window.to >= (end ?? Infinity);
-  session.signs = signsOn(known, session.losses, isKnown, stops);
-  showSigns(byId('signs'), session.signs, goes);
+  Object.assign(session, {isKnown, signs: signsOn(known, session.losses, isKnown, stops)});
+  showSigns(byId('signs'), session.signs, isKnown, along);
   if (!session.otherState) putKept(byId('changed'), changesPart(state, changesOf(session), goes));
   const deepest = showTimeline(line, {count: state.count, window, briefs, stops, losses: session.losses, width}), depth = depthText(state, deepest, isWhole);
   if (byId('depth').textContent !== depth) byId('depth').textContent = depth;
@@ -118,7 +119,7 @@ function measured() {
 }
 
 // Draws all of a session's state.
-export function showMoment(session, view, rows, {act, goes}) {
+export function showMoment(session, view, rows, {act, ...ways}) {
   const {state, stops} = session, fault = faultShown(session), shown = state.remains ?? state;
   document.body.classList.toggle('two', Boolean(session.otherState));
   byId('pair').hidden = !session.otherState;
@@ -140,7 +141,7 @@ export function showMoment(session, view, rows, {act, goes}) {
   }
   showFollowed(state, view);
   showWalked(state, view);
-  showLine(session, goes, line);
+  showLine(session, ways, line);
 }
 
 // The operator whose card is marked as faulty: of a program that ran out of its segment the last one there.

@@ -4,12 +4,14 @@ import {perform} from './acts.js';
 import {cardKey} from './search.js';
 import {algolOf} from './algol.js';
 import {hasJob} from './cards.js';
+import {STOPPED} from './client.js';
 import {NO_JOB} from './commands.js';
 import {showResult} from './deck-view.js';
 import {arrayBehind, nameOfFollowed} from './follow.js';
 import {sentenceOf, speak} from './speech.js';
 import {nextOf} from './signs.js';
 import {changesOf, showDeck, showLine, showMoment} from './step-view.js';
+import {stoppedText} from './under-way.js';
 import {cellWords, nextCell} from './walk.js';
 
 const MOST_FILLED = 65536;
@@ -25,12 +27,16 @@ function keepState({states, faults}, core, state) {
   return state;
 }
 
+// What there isn't if a search of a kind finds nothing.
+function thingsOf(state, followed) {
+  return {line: 'No line is printed', paging: 'There is no paging', task: 'No other task runs', fault: 'No task ends', stopped: 'No breakpoint is met',
+    store: `Nothing is stored into ${followed && nameOfFollowed(state, followed)}`, over: 'No operator is made', out: 'No operator is made', deepest: 'No stack is higher'};
+}
+
 // What was looked for in vain, in a sentence.
 function nothingFound(kind, way, state, followed) {
-  const things = {line: 'No line is printed', paging: 'There is no paging', task: 'No other task runs', fault: 'No task ends', stopped: 'No breakpoint is met',
-    store: `Nothing is stored into ${followed && nameOfFollowed(state, followed)}`, over: 'No operator is made', out: 'No operator is made', deepest: 'No stack is higher'};
   const advice = kind === 'store' && followed ? arrayBehind(state, followed) : '';
-  return `${things[kind]} ${way > 0 ? 'after' : 'before'} this moment, so the page stays here.${advice && ` ${advice}`}`;
+  return `${thingsOf(state, followed)[kind]} ${way > 0 ? 'after' : 'before'} this moment, so the page stays here.${advice && ` ${advice}`}`;
 }
 
 export class Steps {
@@ -138,22 +144,49 @@ export class Steps {
       if (kind === 'stopped' && !session.stops.size) throw new Error('No breakpoint is set: click a card, or press b.');
       if (kind === 'store' && !view.followed) throw new Error('Nothing is followed yet: click a cell or the name of an array, or press v until it is marked; n then goes to the next store.');
       const mine = ++this.turn;
-      const state = await this.ask('find', {kind, from, way, what: kind === 'store' ? view.followed : [...session.stops], end: session.end});
+      const data = {kind, from, way, what: kind === 'store' ? view.followed : [...session.stops], end: session.end};
+      const state = await this.seeks('find', data, from, thingsOf(session.state, view.followed)[kind]);
       if (mine !== this.turn || session !== this.session) return;
       if (!state) throw new Error(nothingFound(kind, way, session.state, view.followed));
       await this.showState(keepState(session, session.core, state));
     });
   }
 
-  // Goes to the next of some counts of the line of time.
-  goesAlong(counts, way = 1) {
-    return this.page.guard(() => this.goTo(nextOf(counts, this.session.state.count, way)));
+  // Asks for what a search finds from a count. If it is stopped on its way, the error says how far it came, where there isn't what `none` says,
+  // and leads there.
+  seeks(name, data, from, none) {
+    return this.ask(name, data).catch(problem => {
+      const {message, far} = problem;
+      if (message !== STOPPED || far === null || far === from) throw problem;
+      throw Object.assign(new Error(stoppedText(0, {none, from, at: far})), {goes: far});
+    });
   }
-  // Goes to the next store that is lost, of those on the line of time.
-  lost(way) {
-    const {counts = []} = this.session.signs.find(it => it.kind === 'lost') ?? {};
-    if (counts.length && !document.body.classList.contains('hides-lost')) return this.goesAlong(counts, way);
-    return this.page.guard(() => { throw new Error(counts.length ? 'Which store is lost is what this exercise asks.' : 'No store is lost on this line of time, so the page stays here.'); });
+  // Goes to the end of the run, or before its first fault: to so many operators before what is found.
+  toEnd(name, before, none) {
+    return this.page.guard(async () => this.goTo(await this.seeks(name, {}, 0, none) - before));
+  }
+
+  // Goes to the next of some counts.
+  goesAmong(counts, way = 1) {
+    return this.goTo(nextOf(counts, this.session.wanted ?? this.session.state.count, way));
+  }
+  // Goes to the next sign of a kind on the line of time; where there is none the page says `none`. What the line doesn't tell yet is made first.
+  along(kind, way = 1, none = 'This sign doesn’t stand on this line of time, so the page stays here.') {
+    return this.page.guard(async () => {
+      const {session} = this, mine = ++this.turn;
+      if (!session.isKnown) await this.knowsLine();
+      if (mine !== this.turn || session !== this.session) return;
+      const {counts = []} = session.signs.find(it => it.kind === kind) ?? {};
+      if (!counts.length) throw new Error(none);
+      if (kind === 'lost' && document.body.classList.contains('hides-lost')) throw new Error('Which store is lost is what this exercise asks.');
+      await this.goesAmong(counts, way);
+    });
+  }
+  // Lets the worker make at once what the line of time lacks, and draws it.
+  async knowsLine() {
+    const {session} = this, {window: {from, to}, end} = session;
+    await this.ask('line', {from, to: Math.min(to, end ?? to)});
+    if (session === this.session) showLine(session, this.ways);
   }
 
   async stopped() {
@@ -196,7 +229,11 @@ export class Steps {
   draws() {
     const {page, session} = this;
     byId('what').title = page.lexicon.ofCard(session.state.operator?.text ?? '');
-    showMoment(session, this.view, page.rows, {act: act => perform(page, act), goes: counts => this.goesAlong(counts)});
+    showMoment(session, this.view, page.rows, {act: act => perform(page, act), ...this.ways});
+  }
+  // The ways that lead from what is drawn: to the next of some counts, and to the next sign of a kind.
+  get ways() {
+    return {goes: counts => this.page.guard(() => this.goesAmong(counts)), along: kind => this.along(kind)};
   }
   redraw() {
     if (this.shown) this.draws();
@@ -229,7 +266,7 @@ export class Steps {
   later() {
     this.drawing ??= setTimeout(() => {
       this.drawing = null;
-      if (this.shown) showLine(this.session, counts => this.goesAlong(counts));
+      if (this.shown) showLine(this.session, this.ways);
     }, 60);
   }
 

@@ -29,6 +29,7 @@ export class Desk {
   async answers(id, ask, data) {
     try {
       if (ask !== 'start') await this.ready;
+      this.number = id;
       return {id, result: await this[ask](data)};
     } catch (problem) {
       return {id, problem: String(problem.message ?? problem)};
@@ -56,7 +57,7 @@ export class Desk {
     this.deck = deck;
     if (!this.searches.has(core)) {
       const machine = new Machine(this.program, deck, core, this.compares);
-      this.searches.set(core, new Search(machine, text => this.post({progress: text})));
+      this.searches.set(core, new Search(machine, far => this.post({far, of: this.number})));
     }
     return this.searches.get(core);
   }
@@ -112,7 +113,7 @@ export class Desk {
     return count === null ? null : this.state({deck, core, end, count});
   }
   end({deck, core}) {
-    return this.search(deck, core).machine.end();
+    return this.search(deck, core).end();
   }
   firstFault({deck, core}) {
     return this.search(deck, core).firstFault();
@@ -123,6 +124,12 @@ export class Desk {
     Object.assign(this, {ahead: ahead.map(it => ({...it, deck})), wanted: {deck, core, from, to}});
     if (!this.ticks) setTimeout(() => this.tick());
     this.ticks = true;
+  }
+
+  // Makes and sends at once the briefs of the counts from..to that the page hasn't.
+  line(wanted) {
+    this.wanted = wanted;
+    while (this.wanted) this.makeBriefs();
   }
 
   // Makes one state, or some briefs; questions come in between.

@@ -48,6 +48,19 @@ export async function stops(it) {
   it.wants(!(await browser.value('b67.under()')).desk, 'after Stop three times the page itself computes');
   await browser.press('Escape');
   await it.state();
+  await stopsOnTheWay(it);
+}
+
+// A search that is stopped says how far it has come, and leads there.
+async function stopsOnTheWay(it) {
+  await it.browser.press('g');
+  it.wants((await it.state()).count === 1, 'the segment comes into core elsewhere');
+  await it.browser.press('g');
+  await it.until("/at operator ([2-9]|1[\\d,])/.test(document.getElementById('progress').textContent)");
+  await it.browser.press('Escape');
+  const {message} = await it.state(), found = /^Stopped\. There is no paging from operator 1 to operator ([\d,]+)\. Go to operator \1$/.exec(message);
+  const {count} = found ? await it.click('#message button') : {};
+  it.wants(found && count === Number(found[1].replaceAll(',', '')), `a search that is stopped says ${told(message)}, and leads to ${count}`);
 }
 
 export async function bad_input(it) {

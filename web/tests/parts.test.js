@@ -22,6 +22,7 @@ import {Marks} from '../marks.js';
 import {spansText} from '../memory.js';
 import {explained, statusText, tablesOf} from '../messages.js';
 import {isPacked, packed, unpacked} from '../share.js';
+import {stoppedText, underWayText} from '../under-way.js';
 import {coupleText, numberText} from '../words.js';
 import {decks} from './native.js';
 
@@ -225,6 +226,15 @@ test('what is followed', () => {
     ['1.2 1 2', 'cell 2 of record 1 of task 1.2 isn’t there now'], ['1.1 1 4array', 'the array isn’t there now']]) assert.equal(followedText(state, followed), text);
   assert.match(arrayBehind(state, '1.1 1 3'), /^The cell leads to array 2,3: a click on its name/);
   for (const followed of ['1.1 1 2', '1.1 1 3array', '1.1 9 2']) assert.equal(arrayBehind(state, followed), '');
+});
+
+test('what is told while something is computed, and after Stop', () => {
+  assert.deepEqual([[0, null, 27], [2, null, 27], [4, null, null], [4, 5210, null], [4, 5210, 12000]].map(it => underWayText(...it)),
+    ['computing', 'computing for 2 s', 'computing for 4 s; an endless loop ends at its ?LIMIT, or by Stop', 'computing for 4 s, at operator 5,210',
+      'computing for 4 s, at operator 5,210 of 12,000']);
+  assert.equal(stoppedText(4, {none: 'There is no paging', from: 20, at: 5210}), 'Stopped. There is no paging from operator 20 to operator 5,210.');
+  assert.match(stoppedText(4), /^Stopped after 4 s, before it was done;/);
+  assert.match(stoppedText(0), /^Stopped, before it was done;/);
 });
 
 test('lessons lead to moments of decks that are there', () => {

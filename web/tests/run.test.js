@@ -13,14 +13,14 @@ import {lastBefore, Search} from '../search.js';
 const native = new Native(process.env.B67 ?? 'b67');
 after(() => native.close());
 
-function searchOf(name, program = native) {
+function searchOf(name, program = native, tell = () => {}) {
   const {text, core} = decks().find(deck => deck.name === name);
-  return new Search(new Machine(program, text, core, false), () => {});
+  return new Search(new Machine(program, text, core, false), tell);
 }
 
 // The same with the stand-in, and with marks three operators apart.
-function markedOf(name) {
-  const search = searchOf(name, new StandIn(native));
+function markedOf(name, tell) {
+  const search = searchOf(name, new StandIn(native), tell);
   search.machine.marks = new Marks(3, 1);
   return search;
 }
@@ -44,6 +44,21 @@ for (const [name, searches] of Object.entries(FOUND)) {
     await turn();
     const search = markedOf(name);
     for (const [kind, from, way, to, what] of searches) assert.equal(search.find(kind, from, way, what ?? []), to, `${kind} from ${from}`);
+  });
+}
+
+// Up to where a search has found nothing is told on its way to what it finds.
+const TOLD = {two: [['line', 0, 26], ['fault', 0, 27], ['paging', 1, 17]], switched: [['store', 0, 12, '1.1 1 2']]};
+
+for (const [name, searches] of Object.entries(TOLD)) {
+  test(`${name}: how far a search is`, () => {
+    const told = [], search = markedOf(name, count => told.push(count));
+    for (const [kind, from, to, what] of searches) {
+      search.told = -1e9; // a walk tells from its beginning on
+      search.find(kind, from, 1, what ?? []);
+      assert.ok(told.length && told.every(count => count >= from && count < to), `${kind}: ${told.splice(0)}`);
+      told.length = 0;
+    }
   });
 }
 
