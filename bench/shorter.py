@@ -1,16 +1,18 @@
 #!/usr/bin/env python3
-"""usage: shorter.py [--lists] [--steps N] CRATE|CRATE/FILE
+"""usage: shorter.py [--lists] [--answers] [--steps N] CRATE|CRATE/FILE
 
 Makes the proofs of a crate's lemmas shorter, or those of one of its proof files: `grind` stands in the place of a long clause, of
 what follows the first lets of one, or of all clauses of a lemma that doesn't call itself. No statement changes. It works where the
-libraries below the crate are built, as the gate or `rt lib` left them, on a copy of the crate's text. Each round is one check:
+libraries below the crate are built, as the gate or `rt lib` left them, on a copy of the crate's text. With --answers it makes the
+answers of functions shorter, not the lemmas. Each round is one check:
 
 1. Copies of each lemma stand behind it, each with one text that is tried. What is checked is one small function whose answers
    import every proof file, so no other function is proved. Of what passes within N steps (25000, if not said) the texts with the
    fewest lines win, then those with the fewest names.
 2. Each name of a list is left out in turn; then together those that weren't needed.
 3. The texts stand in the place of what they replace. Those that are refused there are undone, until none is.
-4. The whole crate is checked. What is refused is undone, at most three times.
+4. Names that the new texts no longer say go from the imports, but in files where that is refused.
+5. The whole crate is checked. What is refused is undone, at most three times.
 
 The shorter texts come into the tree only if the whole crate was proved with them. A text has fewer lines than what it replaces, and no line
 above 160 columns that is longer than each of those. Lines with a comment among them are left as they are. Prints a line for each
@@ -344,22 +346,24 @@ class Room:
     """A crate on whose proof files texts are tried."""
 
     def __init__(self, bench, files, steps):
-        self.bench, self.files, self.steps = bench, files, steps
-        answers = glob.glob(f"{bench.folder}/proofs/**/Answers.antt", recursive=True)
+        self.bench, self.files, self.steps, self.sparse = bench, files, steps, set()
+        answers = answer_files(bench.folder)
         if not answers:
             sys.exit(print(f"{bench.name}: no function with answers, under which its proof files could be checked", file=sys.stderr) or 2)
         self.answers = os.path.relpath(min(answers, key=os.path.getsize), bench.folder)
 
     def check(self, texts, whole=False):
-        """The errors of a check with these texts, each as its file and line; of a small function and all proof files, or of the whole crate."""
-        texts, more = dict(texts), []
-        if not whole:
+        """The errors of a check with these texts, each as its file and line: of the functions whose answers are tried, of a small function and all
+        proof files, or of the whole crate."""
+        texts, tried = dict(texts), [self.path(it) for it in self.files if is_answers(it.path)]
+        if not whole and not tried:
             below = [os.path.relpath(it, f"{self.bench.folder}/proofs")[: -len(".antt")].replace("/", ".") for it in proof_files(self.bench.folder)]
             file = file_at(f"{self.bench.folder}/{self.answers}")
             place = max((it.last for it in file.blocks if it.kind == "use" and not indentation(file.lines[it.first])), default=0)
             more_lines = [f"use Rattle.{self.bench.name}.proofs.{it} as Shorter{number}" for number, it in enumerate(below)]
             texts[self.answers] = "\n".join([*file.lines[:place], *more_lines, *file.lines[place:]]) + "\n"
-            more = ["--only", "::".join(self.answers.split("/")[1:-1]), "--allow-holes"]
+        functions = ["::".join(it.split("/")[1:-1]) for it in tried or [self.answers]]
+        more = [] if whole else ["--allow-holes", *(word for it in functions for word in ("--only", it))]
         said, status = self.bench.check(texts, (), more)
         last = said.rstrip().split("\n")[-1]
         if not (last.startswith("logic=") if whole else re.search(r"^only=[1-9]", said, re.M)):
@@ -395,8 +399,16 @@ class Room:
             lines = file.with_arith()
             for it in mine:
                 lines[it.first : it.last] = it.lines()
-            texts[self.path(file)] = "\n".join(lines) + "\n"
+            texts[self.path(file)] = "\n".join(without_imports(file.lines, lines) if self.path(file) in self.sparse else lines) + "\n"
         return texts
+
+    def clear_imports(self, chosen):
+        """From here on the imports of files go without the names that their chosen texts don't say, but where that is refused."""
+        self.sparse = {self.path(it.file) for it in chosen}
+        while self.sparse and (errors := self.check(self.written(chosen))):
+            refused = {path for path, _ in errors} & self.sparse or set(self.sparse)
+            print(f"imports: {len(self.sparse)} files, {len(refused)} as they were", flush=True)
+            self.sparse -= refused
 
     def suspects(self, chosen, texts, path, line):
         """What of the chosen may be why a line is refused: its own block's, else what that block names, else all."""
@@ -421,6 +433,32 @@ class Room:
                 return chosen
             chosen = [it for it in chosen if it not in undone]
         return []
+
+
+def without_imports(old, new):
+    """The new lines, without the names in their imports that the old lines said and the new ones don't."""
+
+    def said(lines):
+        return set(re.findall(r"[\w'◌-]+", "\n".join(re.sub(r"[.()\[\]{},;]", " ", it) for it in lines if not USE.match(it))))
+
+    gone, left = said(old) - said(new), []
+    for line in new:
+        module, items, alias = found.groups() if (found := USE.match(line)) and line.startswith("use ") else ("", None, "")
+        names = [it.strip() for it in (items or "").split(",")]
+        kept = [it for it in names if "◌" in it or it.split(" as ")[-1].split(".")[-1] not in gone]
+        if module and (not kept or items is None and (alias or module.split(".")[-1]) in gone):
+            continue
+        left.append(line if len(kept) == len(names) else f"use {module}.{{{', '.join(kept)}}}")
+    return left
+
+
+def is_answers(path):
+    return os.path.basename(path) == "Answers.antt"
+
+
+def answer_files(folder):
+    """The files with the answers of the crate's functions."""
+    return sorted(glob.glob(f"{folder}/proofs/**/Answers.antt", recursive=True))
 
 
 def proof_files(folder):
@@ -466,6 +504,7 @@ def shortened(room):
     chosen = best_of(passed)
     print(f"tried: {len(tries)} texts for {len({it.block for it in tries})} lemmas; {len(passed)} are proved, {len(chosen)} chosen", flush=True)
     chosen = room.settled(thinned(room, chosen))
+    room.clear_imports(chosen)
     return room.settled(chosen, whole=True, turns=3)
 
 
@@ -518,10 +557,10 @@ def lines_of_proofs(folder, texts):
     return found
 
 
-def shorten(crate, name, steps):
+def shorten(crate, name, steps, files_of):
     """Shortens a crate's proofs, or those of one file, in the tree; the status."""
     folder = f"{TOP}/crates/{crate}"
-    files = [file_at(it) for it in proof_files(folder) if name in ("", os.path.relpath(it, f"{folder}/proofs")[: -len(".antt")])]
+    files = [file_at(it) for it in files_of(folder) if name in ("", os.path.relpath(it, f"{folder}/proofs")[: -len(".antt")])]
     with tempfile.TemporaryDirectory() as place:
         bench = edits.Bench(edits.kit(), crate, place)
         if bench.lacks:
@@ -541,15 +580,15 @@ def shorten(crate, name, steps):
 
 
 def main(given):
-    steps, wants_lists = 25000, "--lists" in given
-    given = [it for it in given if it != "--lists"]
+    steps, wants_lists, files_of = 25000, "--lists" in given, answer_files if "--answers" in given else proof_files
+    given = [it for it in given if it not in ("--lists", "--answers")]
     if given[:1] == ["--steps"] and re.fullmatch(r"[1-9]\d{0,8}", "".join(given[1:2])):
         steps, given = int(given[1]), given[2:]
     crate, _, name = "".join(given[:1]).partition("/")
-    known = [os.path.relpath(it, f"{TOP}/crates/{crate}/proofs")[: -len(".antt")] for it in proof_files(f"{TOP}/crates/{crate}")]
+    known = [os.path.relpath(it, f"{TOP}/crates/{crate}/proofs")[: -len(".antt")] for it in files_of(f"{TOP}/crates/{crate}")]
     if len(given) != 1 or not re.fullmatch(r"\w+", crate) or not known or name not in ("", *known):
         return print(__doc__.splitlines()[0], file=sys.stderr) or 2
-    return lists(crate) or 0 if wants_lists else shorten(crate, name, steps)
+    return lists(crate) or 0 if wants_lists else shorten(crate, name, steps, files_of)
 
 
 if __name__ == "__main__":
