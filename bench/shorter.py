@@ -360,7 +360,8 @@ class Room:
             below = [os.path.relpath(it, f"{self.bench.folder}/proofs")[: -len(".antt")].replace("/", ".") for it in proof_files(self.bench.folder)]
             file = file_at(f"{self.bench.folder}/{self.answers}")
             place = max((it.last for it in file.blocks if it.kind == "use" and not indentation(file.lines[it.first])), default=0)
-            more_lines = [f"use Rattle.{self.bench.name}.proofs.{it} as Shorter{number}" for number, it in enumerate(below)]
+            modules = (f"Rattle.{self.bench.name}.proofs.{it}" for it in below)
+            more_lines = [f"use {it} as Shorter{number}" for number, it in enumerate(modules) if it not in file.aliases.values()]
             texts[self.answers] = "\n".join([*file.lines[:place], *more_lines, *file.lines[place:]]) + "\n"
         functions = ["::".join(it.split("/")[1:-1]) for it in tried or [self.answers]]
         more = [] if whole else ["--allow-holes", *(word for it in functions for word in ("--only", it))]
