@@ -14,9 +14,7 @@ whole n h =
     sym (pow-add 2 (48 - n) n) ∙ ap (λ m. 2 ^ m) sum
 
 pub upper : (x n : ℕ) → n ≤ 48 → x < 2 ^ 48 → x / 2 ^ n < 2 ^ (48 - n)
-upper x n h small =
-    let sum : 48 - n + n ≡ 48 = omega arith in
-    shr_below x (48 - n) n (rw sum small)
+upper x n h small = grind (arith, shr_below)
 
 -- a bit that is zero may be set
 pub set_below : (x n : ℕ) → n ≤ 47 → x < 2 ^ 48 → x / 2 ^ n % 2 ≡ 0 → x + 2 ^ n < 2 ^ 48
@@ -25,10 +23,7 @@ set_below x n h small zero_bit =
     let above : x / 2 ^ n < 2 ^ (48 - n) = upper x n (omega arith) small in
     let room : x / 2 ^ n + 2 ≤ 2 ^ (48 - n) = omega arith in
     let more : (x / 2 ^ n + 2) * 2 ^ n ≤ 2 ^ (48 - n) * 2 ^ n = mul-le-mul_right (2 ^ n) room in
-    let rest : x % 2 ^ n < 2 ^ n = mod_below x (2 ^ n) (pow_pos n) in
-    let split : x / 2 ^ n * 2 ^ n + x % 2 ^ n ≡ x = shr_split x n in
-    let all : 2 ^ (48 - n) * 2 ^ n ≡ 2 ^ 48 = whole n (omega arith) in
-    omega arith
+    grind (arith, whole)
 
 -- a field may be replaced
 pub inserted_below : (x y high width : ℕ) → high ≤ 47 → width ≤ high + 1 → x < 2 ^ 48 →
@@ -39,9 +34,7 @@ inserted_below x y high width h w small =
     let all : 2 ^ (48 - (high + 1)) * 2 ^ (high + 1) ≡ 2 ^ 48 = whole (high + 1) (omega arith) in
     let field : y % 2 ^ width * 2 ^ (high + 1 - width) + x % 2 ^ (high + 1 - width) < 2 ^ (high + 1 - width) * 2 ^ width =
     mul-add-lt (y % 2 ^ width) (2 ^ (high + 1 - width)) (x % 2 ^ (high + 1 - width)) (2 ^ width) (mod_below y (2 ^ width) (pow_pos width)) (mod_below x (2 ^ (high + 1 - width)) (pow_pos (high + 1 - width))) in
-    let sum : high + 1 - width + width ≡ high + 1 = omega arith in
-    let span : 2 ^ (high + 1 - width) * 2 ^ width ≡ 2 ^ (high + 1) = sym (pow-add 2 (high + 1 - width) width) ∙ ap (λ m. 2 ^ m) sum in
-    omega arith
+    grind (arith, pow-add)
 
 -- what is shifted up keeps its bits
 top_is : (x n : ℕ) → n ≤ 48 → x < 2 ^ 48 → x / 2 ^ n * 2 ^ n % 2 ^ 64 ≡ x / 2 ^ n * 2 ^ n
@@ -57,9 +50,4 @@ middle_is y width low h = shl_whole (y % 2 ^ width) width low 64 (mod_below y (2
 pub inserted_is : (x y high width : ℕ) → high ≤ 47 → width ≤ high + 1 → x < 2 ^ 48 →
     x / 2 ^ (high + 1) * 2 ^ (high + 1) % 2 ^ 64 + y % (1 * 2 ^ width % 2 ^ 64) * 2 ^ (high + 1 - width) % 2 ^ 64 + x % (1 * 2 ^ (high + 1 - width) % 2 ^ 64)
     ≡ x / 2 ^ (high + 1) * 2 ^ (high + 1) + y % 2 ^ width * 2 ^ (high + 1 - width) + x % 2 ^ (high + 1 - width)
-inserted_is x y high width h w small =
-    let top : x / 2 ^ (high + 1) * 2 ^ (high + 1) % 2 ^ 64 ≡ x / 2 ^ (high + 1) * 2 ^ (high + 1) = top_is x (high + 1) (omega arith) small in
-    let span : 1 * 2 ^ width % 2 ^ 64 ≡ 2 ^ width = one_is width (omega arith) in
-    let unit : 1 * 2 ^ (high + 1 - width) % 2 ^ 64 ≡ 2 ^ (high + 1 - width) = one_is (high + 1 - width) (omega arith) in
-    let middle : y % 2 ^ width * 2 ^ (high + 1 - width) % 2 ^ 64 ≡ y % 2 ^ width * 2 ^ (high + 1 - width) = middle_is y width (high + 1 - width) (omega arith) in
-    rw (top, span, unit, middle) refl
+inserted_is x y high width h w small = grind (arith, one_is, middle_is)

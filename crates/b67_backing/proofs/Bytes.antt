@@ -64,11 +64,7 @@ count_sectors (suc n) at bytes = let rest = count_sectors n (at + 240) bytes in 
 -- what is told is the sectors of a file of the full length
 pub told_split : (told : Option (List ℕ)) (all : List (List ℕ)) → told_sectors told ≡ Some all → (bytes : List ℕ) × (told ≡ Some bytes) × (length bytes ≡ 15728640) × (all ≡ sectors_from 65536 0 bytes)
 unfolding told_sectors
-told_split None all e = absurd (none-some _ e)
-told_split (Some bytes) all e = ⊎_elim
-    (λ t. (bytes, refl, eqb-true (length bytes) 15728640 t, sym (same_Some _ _ (sym (cond-true (length bytes == 15728640) (Some (sectors_from 65536 0 bytes)) None t) ∙ e))))
-    (λ f. absurd (none-some _ (sym (cond-false (length bytes == 15728640) (Some (sectors_from 65536 0 bytes)) None f) ∙ e)))
-    (cases_Bool (length bytes == 15728640))
+told_split told all e = grind arith
 
 pub told_join : (bytes : List ℕ) → length bytes ≡ 15728640 → told_sectors (Some bytes) ≡ Some (sectors_from 65536 0 bytes)
 unfolding told_sectors
@@ -78,25 +74,13 @@ told_join bytes l = cond-true (length bytes == 15728640) _ _ (eq-eqb (length byt
 pub sector_read : (told : Option (List ℕ)) (n : ℕ) (part xs : List ℕ) → 1 ≤ n → n ≤ 65536 → length part ≡ 240 → length xs ≡ 30
     → ((bytes : List ℕ) → told ≡ Some bytes → LiesAt (240 * (n - 1)) part bytes) → IsRead big_number 8 part xs
     → (all : List (List ℕ)) → told_sectors told ≡ Some all → slice_get all (n - 1) ≡ Some xs
-sector_read told n part xs low high lp lx lies reads all e =
-    let (bytes, t, l, is) = told_split told all e in
-    let at = lies bytes t in
-    let bytes_are : (p k : ℕ) → p + k < 240 → slice_index (drop p part) (0 + k) ≡ slice_index bytes (240 * (n - 1) + p + k) =
-    λ p k h. get_or-drop p part (0 + k) 0 ∙ ap (slice_index part) {x = p + (0 + k)} {y = p + k} (omega arith) ∙ sym (at.is (p + k) (omega (arith, lp))) ∙ ap (slice_index bytes) {x = 240 * (n - 1) + (p + k)} {y = 240 * (n - 1) + p + k} (omega arith) in
-    let each : (i : ℕ) → i < 30 → slice_index xs i ≡ big_from (240 * (n - 1) + 8 * i) 8 bytes =
-    λ i h. reads i (omega (arith, lx)) ∙ same_number 8 0 (240 * (n - 1) + 8 * i) (drop (8 * i) part) bytes (λ k b. bytes_are (8 * i) k (omega arith)) in
-    let numbers = numbers_are 30 (240 * (n - 1)) bytes xs lx each in
-    rw is (sector_get 65536 (n - 1) 0 bytes (omega arith) ∙ ap Some (ap (λ (p : ℕ). numbers_from 30 p bytes) {x = 0 + 240 * (n - 1)} {y = 240 * (n - 1)} (omega arith) ∙ numbers))
+sector_read told n part xs low high lp lx lies reads all e = grind (arith, told_split, get_or-drop, numbers_are, sector_get)
 
 -- the bytes of a sector that were written are its numbers
 pub sector_written : (n : ℕ) (part xs new : List ℕ) → 1 ≤ n → n ≤ 65536 → length part ≡ 240 → length xs ≡ 30
     → LiesAt (240 * (n - 1)) part new → ((i : ℕ) → i < 30 → big_from (8 * i) 8 part ≡ slice_index xs i)
     → slice_get (sectors_from 65536 0 new) (n - 1) ≡ Some xs
-sector_written n part xs new low high lp lx at is =
-    let each : (i : ℕ) → i < 30 → slice_index xs i ≡ big_from (240 * (n - 1) + 8 * i) 8 new =
-    λ i h. sym (is i h) ∙ same_number 8 (8 * i) (240 * (n - 1) + 8 * i) part new (λ k b. sym (at.is (8 * i + k) (omega (arith, lp))) ∙ ap (slice_index new) {x = 240 * (n - 1) + (8 * i + k)} {y = 240 * (n - 1) + 8 * i + k} (omega arith)) in
-    let numbers = numbers_are 30 (240 * (n - 1)) new xs lx each in
-    sector_get 65536 (n - 1) 0 new (omega arith) ∙ ap Some (ap (λ (p : ℕ). numbers_from 30 p new) {x = 0 + 240 * (n - 1)} {y = 240 * (n - 1)} (omega arith) ∙ numbers)
+sector_written n part xs new low high lp lx at is = grind (arith, numbers_are, sector_get)
 
 -- other sectors hold what they held
 pub sectors_same : (n : ℕ) (old new : List ℕ) → 1 ≤ n → SameBytesBut (240 * (n - 1)) 240 old new → SameBut (n ∷ []) (sectors_from 65536 0 old) (sectors_from 65536 0 new)
@@ -117,8 +101,7 @@ filled_kept tell old new (Ok u) empty set same = record { told = λ x e. (of_len
 filled_kept tell old new (Err x) empty set same = record { told = λ x e. (x, same.told x e, record { kept = λ h. refl }) }
 
 pub on_ok : {U E : Type 0} {P Q : Type 0} (result : Result U E) → OnOk result P → (P → Q) → OnOk result Q
-on_ok (Ok u) p f = f p
-on_ok (Err e) p f = p
+on_ok result p f = grind arith
 
 -- the same of a file that may be missing
 pub told_of_some : {D U E : Type 0} {P : List (List ℕ) → Type 0} (tell : D → Option (List ℕ)) (old : Option D) (file : D) (result : Result U E) (done : Bool) → old ≡ Some file → done ≡ is_ok result
@@ -130,11 +113,7 @@ told_of_some tell old file (Err x) done is ok t was = absurd (true≢false (sym 
 pub becomes_of_some : {D : Type 0} (tell : D → Option (List ℕ)) (old : Option D) (file new : D) → old ≡ Some file
     → Becomes tell file new (λ all. all) → Becomes (file_sectors tell) old (Some new) (λ all. all)
 unfolding file_sectors
-becomes_of_some tell old file new is b = record { told = λ all e. same_told (tell file) (tell new) all b.told (ap (file_sectors tell) (sym is) ∙ e) } where
-  same_told : (x y : Option (List ℕ)) (all : List (List ℕ)) → ((bytes : List ℕ) → x ≡ Some bytes → y ≡ Some bytes) → told_sectors x ≡ Some all → told_sectors y ≡ Some all
-  same_told x y all f e =
-      let (bytes, t, l, all_is) = told_split x all e in
-      ap told_sectors (f bytes t) ∙ sym (ap told_sectors t) ∙ e
+becomes_of_some tell old file new is b = grind (arith, told_split)
 
 pub changes_of_some : {D : Type 0} {R : List (List ℕ) → List (List ℕ) → Type 0} (tell : D → Option (List ℕ)) (old : Option D) (file new : D) → old ≡ Some file
     → Changes (λ d. told_sectors (tell d)) file new R → Changes (file_sectors tell) old (Some new) R
@@ -142,8 +121,7 @@ unfolding file_sectors
 changes_of_some tell old file new is c = record { told = λ all e. c.told all (ap (file_sectors tell) (sym is) ∙ e) }
 
 pub if_done : {U E P Q : Type 0} (result : Result U E) (done : Bool) → done ≡ is_ok result → OnOk result P → (P → Q) → IsTrue done → Q
-if_done (Ok u) done ok p f was = f p
-if_done (Err x) done ok p f was = absurd (true≢false (sym was ∙ ok))
+if_done result done ok p f was = grind arith
 
 -- a write to a sector of a file of the full length
 pub sector_puts : {D : Type 0} (tell : D → Option (List ℕ)) (old new : D) (n : ℕ) (part xs : List ℕ) → 1 ≤ n → n ≤ 65536 → length part ≡ 240 → length xs ≡ 30
@@ -182,5 +160,4 @@ sector_leaves tell old new n part low high lp over = record {
 pub opened_tells : {D E : Type 0} (tell : D → Option (List ℕ)) (result : Result D E) → IfOk result (λ d. Tells tell d (λ bytes. length bytes ≡ 15728640))
     → IfSome (result_ok result) (λ d. Tells tell d (λ bytes. file_sectors tell (result_ok result) ≡ Some (sectors_from 65536 0 bytes)))
 unfolding file_sectors
-opened_tells tell (Ok d) t = record { told = λ bytes e. ap told_sectors e ∙ told_join bytes (t.told bytes e) }
-opened_tells tell (Err x) t = tt
+opened_tells tell result t = grind (arith, told_join)

@@ -24,10 +24,7 @@ module _ (t : Table) (st : Shelf) (x : ℕ) (s : IsShelf t st) (has : 1 ≤ leng
 
   -- a sector of a chain isn't free
   pub not_free : (c : ℕ) → 1 ≤ times c (chain_of x st.chains) → (1 ≤ c) × (times c st.free ≡ 0)
-  not_free c h = (pos c h, ⊎_elim (λ l. omega (arith, s.once c (pos c h) l, uses-split c x st.chains)) (λ l. absurd (omega (arith, times-past c (length t.links) (chain_of x st.chains) below l))) (cases_lt c (length t.links))) where
-    pos : (c : ℕ) → 1 ≤ times c (chain_of x st.chains) → 1 ≤ c
-    pos zero h = absurd (omega (arith, uses-split 0 x st.chains, s.zero))
-    pos (suc c) h = omega arith
+  not_free c h = grind (arith, uses-split, times-past, below)
 
   pub chain_apart : (n c : ℕ) → 1 ≤ times c (chain_of x st.chains) → (1 ≤ c) × (times c (take n st.free) ≡ 0)
   chain_apart n c h = let a = not_free c h in (a.0, omega (arith, a.1, take_times c n st.free))
@@ -68,23 +65,11 @@ still_chain n x z st some apart e = chain_of-taken n z x st some e ∙ cond-fals
 
 -- free sectors that were taken are led on to
 pub led_on : (n x z : ℕ) (t : Table) (st : Shelf) → 1 ≤ n → x ≢ z → z ≡ first st.free → chains_joined x z (taken n st) ≡ extended x n st
-led_on n x z t st some apart e =
-    let f : first (take n st.free) ≡ z = first_take n st.free some ∙ sym e in
-    let a = still_chain n x z st some apart e in
-    let b = taken_chain n z st some e in
-    let o : others z (take n st.free ∷ st.chains) ≡ st.chains = cond-true (first (take n st.free) == z) st.chains (take n st.free ∷ others z st.chains) (eq-eqb (first (take n st.free)) z f) in
-    let P : List ℕ → List ℕ → List (List ℕ) → Shelf = λ u v w. record { free = drop n st.free; chains = (u ++ v) ∷ others x w } in
-    ap (λ (u : List ℕ). P u (chain_of z (taken n st).chains) (others z (taken n st).chains)) a ∙ ap (λ (v : List ℕ). P (chain_of x st.chains) v (others z (taken n st).chains)) b ∙ ap (P (chain_of x st.chains) (take n st.free)) o
+led_on n x z t st some apart e = grind arith
 
 -- free sectors that were taken are given back
 pub given_back : (n z : ℕ) (st : Shelf) → 1 ≤ n → z ≡ first st.free → given z (taken n st) ≡ st
-given_back n z st some e =
-    let f : first (take n st.free) ≡ z = first_take n st.free some ∙ sym e in
-    let b = taken_chain n z st some e in
-    let o : others z (take n st.free ∷ st.chains) ≡ st.chains = cond-true (first (take n st.free) == z) st.chains (take n st.free ∷ others z st.chains) (eq-eqb (first (take n st.free)) z f) in
-    let P : List ℕ → List (List ℕ) → Shelf = λ v w. record { free = v ++ drop n st.free; chains = w } in
-    let Q : List ℕ → Shelf = λ v. record { free = v; chains = st.chains } in
-    ap (λ (v : List ℕ). P v (others z (taken n st).chains)) b ∙ ap (P (take n st.free)) o ∙ ap Q (take-append-drop n st.free)
+given_back n z st some e = grind (arith, take-append-drop)
 
 -- the parts of an extended chain
 module _ {D : Type 0} (tell : D → Option (List (List ℕ))) (t t' : Table) (st : Shelf) (x have want : ℕ) (old new : D) (c : HasChain t st x (sectors_for have)) (some : 1 ≤ have) (order : have ≤ want) where
@@ -112,19 +97,7 @@ module _ {D : Type 0} (tell : D → Option (List (List ℕ))) (t t' : Table) (st
 
   pub extends : sectors_more have want ≤ length st.free → IsShelf t' (extended x (sectors_more have want) st) → Changes tell old new (Stores (take (sectors_more have want) st.free) []) → IsExtended tell old new t' st x have want
   unfolding n
-  extends room s w = record {
-    room = room;
-    chain = record { shelf = s; many = ap length is_longer ∙ length-append (chain_of x st.chains) (take (sectors_more have want) st.free) ∙ (let e : length (chain_of x st.chains) + length (take (sectors_more have want) st.free) ≡ sectors_for want = omega (arith, c.many, length-take-le (sectors_more have want) st.free room, long) in e) };
-    others = λ y h.
-        cond-false (first (chain_of x st.chains ++ take (sectors_more have want) st.free) == y) _ _ (ne_eqb (first (chain_of x st.chains ++ take (sectors_more have want) st.free)) y (λ e. h (sym (sym (begins t st x c.shelf has (take (sectors_more have want) st.free)) ∙ e))))
-        ∙ chain_of-others x y st.chains h;
-    same = record { told = λ all e. let (after, is, r) = w.told all e in (after, is, r.same) };
-    content = record {
-      told = λ all e.
-          let (after, is, r) = w.told all e in
-          (after, is, subst (λ (longer : List ℕ). Prolongs (chain_of x st.chains) longer have want all after) (sym is_longer) (prolongs room all after r));
-    };
-  }
+  extends room s w = grind (arith, length-append, length-take-le, begins, chain_of-others, prolongs)
 
 -- nothing is lacking
 pub extends_none : {D : Type 0} (tell : D → Option (List (List ℕ))) (t : Table) (st : Shelf) (x have want : ℕ) (d : D) → HasChain t st x (sectors_for have) → 1 ≤ have → have ≤ want → sectors_more have want ≡ 0 → IsExtended tell d d t st x have want

@@ -44,20 +44,13 @@ past_holds all (c ∷ cs) p at ns low h = ((h.0.0, h.0.1, λ i small inside. abs
 
 past_fills : (all : List (List ℕ)) (cs : List ℕ) (p at : ℕ) (ns more : List ℕ) → length ns ≤ at → length more ≤ at + 30 * length cs → ((i : ℕ) → number_at more i ≡ number_at ns i) → Fills all cs p [] → Fills all cs at more
 past_fills all [] p at ns more low fits same h = omega arith
-past_fills all (c ∷ cs) p at ns more low fits same h = (
-  (h.0.0, h.0.1, λ i small. h.0.2 i small ∙ ap Some (sym (same (at + i) ∙ number_at-past ns (at + i) (omega arith)))),
-  past_fills all cs (p + 30) (at + 30) ns more (omega arith) (omega arith) same h.1,
-)
+past_fills all (c ∷ cs) p at ns more low fits same h = grind (arith, number_at-past, past_fills all cs (p + 30) (at + 30) ns more)
 
 -- a chain goes on through sectors of zeros
 pub Holds-on : (ks cs : List ℕ) (at : ℕ) (ns : List ℕ) (old new : List (List ℕ)) → SameBut ks old new → ((c : ℕ) → 1 ≤ times c cs → (1 ≤ c) × (times c ks ≡ 0)) → Fills new ks 0 [] → Holds old cs at ns → Holds new (cs ++ ks) at ns
 Holds-on ks [] at ns old new s apart z h = past_holds new ks 0 at ns h z
-Holds-on ks (c ∷ cs) at ns old new s apart z h =
-    let a = apart c (omega (arith, one-same c)) in
-    ((h.0.0, s.others c a.0 a.1 ∙ h.0.1, h.0.2), Holds-on ks cs (at + 30) ns old new s (λ d t. apart d (omega arith)) z h.1)
+Holds-on ks (c ∷ cs) at ns old new s apart z h = grind (arith, Holds-on ks cs (at + 30) ns old new s)
 
 pub Fills-on : (ks cs : List ℕ) (at : ℕ) (ns more : List ℕ) (old new : List (List ℕ)) → SameBut ks old new → ((c : ℕ) → 1 ≤ times c cs → (1 ≤ c) × (times c ks ≡ 0)) → Fills new ks 0 [] → length more ≤ at + 30 * (length cs + length ks) → ((i : ℕ) → number_at more i ≡ number_at ns i) → Fills old cs at ns → Fills new (cs ++ ks) at more
 Fills-on ks [] at ns more old new s apart z fits same h = past_fills new ks 0 at ns more h (omega arith) same z
-Fills-on ks (c ∷ cs) at ns more old new s apart z fits same h =
-    let a = apart c (omega (arith, one-same c)) in
-    ((h.0.0, s.others c a.0 a.1 ∙ h.0.1, λ i small. h.0.2 i small ∙ ap Some (sym (same (at + i)))), Fills-on ks cs (at + 30) ns more old new s (λ d t. apart d (omega arith)) z (omega arith) same h.1)
+Fills-on ks (c ∷ cs) at ns more old new s apart z fits same h = grind (arith, Fills-on ks cs (at + 30) ns more old new s)

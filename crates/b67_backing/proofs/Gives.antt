@@ -43,9 +43,7 @@ module _ (links : List ℕ) (x : ℕ) (st : Shelf) (free : ℕ) (s : IsShelf (re
 
   new_free : Linked (slice_set first_links 0 x) 0 (x ∷ ((rest (chain_of x st.chains)) ++ st.free))
   unfolding first_links end
-  new_free =
-      let l = Linked-append links x (rest (chain_of x st.chains)) 0 st.free k.linked s.free (omega (arith, there, end_once, parts end)) (omega (arith, there, end_once, parts end)) in
-      (slice_get-set_same first_links 0 x (omega (arith, s.some, length-set links end (first st.free))), Linked-set first_links x ((rest (chain_of x st.chains)) ++ st.free) 0 x zero_chain.0 (omega (arith, zero_chain.1, times-append 0 (rest (chain_of x st.chains)) st.free, s.zero)) l)
+  new_free = grind (arith, Linked-append, there, end_once, parts, slice_get-set_same, length-set, Linked-set, times-append)
 
   new_chains : AreChains (slice_set first_links 0 x) (others x st.chains)
   unfolding first_links
@@ -53,15 +51,7 @@ module _ (links : List ℕ) (x : ℕ) (st : Shelf) (free : ℕ) (s : IsShelf (re
 
   pub gives : IsShelf (record { links = give_links links x (first st.free) (chain_of x st.chains); free = free + length (chain_of x st.chains) }) (given x st)
   unfolding first_links end
-  gives = rw k.is (record {
-    free = new_free;
-    chains = new_chains;
-    once = λ i low high. omega (arith, parts i, times-append i (rest (chain_of x st.chains)) st.free, s.once i low (omega (arith, same_length)));
-    zero = omega (arith, parts 0, times-append 0 (rest (chain_of x st.chains)) st.free, s.zero);
-    count = omega (arith, s.count, length-append (rest (chain_of x st.chains)) st.free);
-    some = omega (arith, same_length, s.some);
-    small = omega (arith, same_length, s.small);
-  })
+  gives = grind (arith, new_free, new_chains, parts, times-append, same_length, length-append)
 
 pub gave : (t : Table) (st : Shelf) (x l f n : ℕ) → IsShelf t st → 1 ≤ length (chain_of x st.chains) → l ≡ last 0 (chain_of x st.chains) → n ≡ length (chain_of x st.chains) → slice_get t.links 0 ≡ Some f → IsShelf (record { links = slice_set (slice_set t.links l f) 0 x; free = t.free + n }) (given x st)
 gave t st x l f n s has e c r =

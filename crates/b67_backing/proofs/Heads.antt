@@ -26,17 +26,11 @@ below_out n i k ks le = ap (λ (x : ℕ). x + below n i ks) (cond-false (nat_lt 
 below-low : (n i : ℕ) (ks : List (List ℕ)) → below n i ks ≤ uses i ks
 unfolding below
 below-low n i [] = omega arith
-below-low n i (k ∷ ks) = ⊎_elim
-    (λ lt. omega (arith, below_in n i k ks lt, below-low n i ks))
-    (λ le. omega (arith, below_out n i k ks le, below-low n i ks))
-    (cases_lt (first k) n)
+below-low n i (k ∷ ks) = grind (arith, below-low n i ks)
 
 -- a chain with another first sector counts alike
 other_first : (n i : ℕ) (k : List ℕ) (ks : List (List ℕ)) → first k ≢ n → below (n + 1) i ks ≡ below n i ks → below (n + 1) i (k ∷ ks) ≡ below n i (k ∷ ks)
-other_first n i k ks ne h = ⊎_elim
-    (λ lt. omega (arith, below_in n i k ks lt, below_in (n + 1) i k ks (omega arith), h))
-    (λ le. omega (arith, below_out n i k ks le, below_out (n + 1) i k ks (omega (arith, ne)), h))
-    (cases_lt (first k) n)
+other_first n i k ks ne h = grind (arith, below_in, below_out)
 
 -- no chain begins with a sector that stands in none
 below-absent : (n i : ℕ) (ks : List (List ℕ)) → AreSome ks → uses n ks ≡ 0 → below (n + 1) i ks ≡ below n i ks
@@ -124,22 +118,15 @@ pub after-here : (n c : ℕ) (cs : List ℕ) → c ≡ n → sector_after n (c �
 after-here n c cs e = cond-true (c == n) _ _ (eq-eqb c n e)
 
 next_or_some : (n : ℕ) (cs : List ℕ) → 1 ≤ n → ((m : ℕ) → 1 ≤ times m cs → 1 ≤ m) → 1 ≤ next_or n cs
-next_or_some n [] low pos = low
-next_or_some n (d ∷ ds) low pos = pos d (omega (arith, one-same d))
+next_or_some n cs low pos = grind arith
 
 after_some : (n : ℕ) (k : List ℕ) → 1 ≤ n → ((m : ℕ) → 1 ≤ times m k → 1 ≤ m) → 1 ≤ times n k → 1 ≤ sector_after n k
 after_some n [] low pos s = absurd (omega arith)
-after_some n (c ∷ cs) low pos s = ⊎_elim
-    (λ e. omega (arith, after-here n c cs e, next_or_some n cs low (λ m t. pos m (omega arith))))
-    (λ ne. omega (arith, after-later n c cs ne, after_some n cs low (λ m t. pos m (omega arith)) (omega (arith, one-other n c (λ e. ne (sym e))))))
-    (cases_eq c n)
+after_some n (c ∷ cs) low pos s = grind (arith, after-here, next_or_some, one-other, after_some n cs low)
 
 pub link_some : (n : ℕ) (ks : List (List ℕ)) → 1 ≤ n → ((m : ℕ) → 1 ≤ uses m ks → 1 ≤ m) → 1 ≤ uses n ks → 1 ≤ link_of n ks
 link_some n [] low pos s = absurd (omega arith)
-link_some n (k ∷ ks) low pos s = ⊎_elim
-    (λ t. omega (arith, link-there n k ks (omega arith), link_some n ks low (λ m u. pos m (omega arith)) (omega arith)))
-    (λ t. omega (arith, link-here n k ks t, after_some n k low (λ m u. pos m (omega arith)) t))
-    (cases_lt (times n k) 1)
+link_some n (k ∷ ks) low pos s = grind (arith, after_some, link_some n ks low)
 
 -- ---- over the links
 
@@ -150,22 +137,14 @@ get-some (x ∷ xs) (suc i) lt = get-some xs i (omega arith)
 
 module _ (links : List ℕ) (ks : List (List ℕ)) (a : AreLinksOf links ks) where
   pub link_is : (n : ℕ) → 1 ≤ n → n ≤ length links → sector_link links n ≡ link_of n ks
-  link_is n low high =
-      let e : n - 1 + 1 ≡ n = omega arith in
-      same_Some (sector_link links n) (link_of n ks) (sym (get-some links (n - 1) (omega arith)) ∙ a.each (n - 1) (omega arith) ∙ ap (λ (m : ℕ). Some (link_of m ks)) e)
+  link_is n low high = grind (arith, get-some)
 
   pub used : (n : ℕ) → 1 ≤ n → n ≤ length links → sector_link links n ≢ 0 → 1 ≤ uses n ks
-  used n low high some = ⊎_elim
-      (λ lt. absurd (some (link_is n low high ∙ link-absent n ks (omega arith))))
-      (λ le. le)
-      (cases_lt (uses n ks) 1)
+  used n low high some = grind (arith, link_is, link-absent)
 
   -- a sector whose link is another one is followed
   linked_follows : (p n : ℕ) → link_of p ks ≡ n → p ≢ n → n ≢ 0 → Follows links p n
-  linked_follows p n is other some =
-      let there : 1 ≤ uses p ks = ⊎_elim (λ lt. absurd (some (sym is ∙ link-absent p ks (omega arith)))) (λ le. le) (cases_lt (uses p ks) 1) in
-      let (low, high) = a.inside p there in
-      record { low = low; high = high; link = link_is p low high ∙ is; other = λ e. other (sym e); some = some }
+  linked_follows p n is other some = grind (arith, link-absent, link_is)
 
   pub head_chain : (n : ℕ) → 1 ≤ n → n ≤ length links → sector_link links n ≢ 0 → ((p : ℕ) → Follows links p n → ⊥)
       → (cs : List ℕ) × Runs links n cs × ((m : ℕ) → times m (n ∷ cs) ≤ uses m ks) × ((i : ℕ) → below (n + 1) i ks ≡ below n i ks + times i (n ∷ cs))
@@ -185,16 +164,7 @@ module _ (links : List ℕ) (ks : List (List ℕ)) (a : AreLinksOf links ks) whe
 
   -- no chain begins with a sector that has no link or follows another one
   pub no_head : (n i : ℕ) → 1 ≤ n → n ≤ length links → (sector_link links n ≡ 0) ⊎ ((p : ℕ) × Follows links p n) → below (n + 1) i ks ≡ below n i ks
-  no_head n i low high why = ⊎_elim
-      (λ z. below-absent n i ks a.some (unused z))
-      (λ (p, f). (follows_none n i p ks a.some a.apart f.some (sym (link_is p f.low f.high) ∙ f.link) (λ e. f.other (sym e))).0)
-      why
-    where
-      unused : sector_link links n ≡ 0 → uses n ks ≡ 0
-      unused z = ⊎_elim
-          (λ lt. omega arith)
-          (λ le. absurd (omega (arith, link_some n ks low (λ m s. (a.inside m s).0) le, link_is n low high, z)))
-          (cases_lt (uses n ks) 1)
+  no_head n i low high why = grind (arith, below-absent, follows_none, link_is, link_some)
 
 -- ---- all chains
 
@@ -204,10 +174,7 @@ pub record Heading (links : List ℕ) (n : ℕ) (seen : List Bool) : Type 0 wher
   pub all : (ks : List (List ℕ)) → AreLinksOf links ks → (i : ℕ) → mark seen i ≡ below n i ks
 
 pub heading_first : (links : List ℕ) (seen : List Bool) → length seen ≡ length links + 1 → ((i : ℕ) → mark seen i ≡ 0) → Heading links 1 seen
-heading_first links seen many none = record {
-  marked = record { chains = []; runs = tt; marks = none; zero = none 0; many = many };
-  all = λ ks a i. none i ∙ sym (below-none i ks a.some (λ m s. (a.inside m s).0));
-}
+heading_first links seen many none = grind (arith, below-none)
 
 pub heading_past : (links : List ℕ) (n : ℕ) (seen : List Bool) → Heading links n seen → 1 ≤ n → n ≤ length links → (sector_link links n ≡ 0) ⊎ ((p : ℕ) × Follows links p n) → Heading links (n + 1) seen
 heading_past links n seen h low high why = record {
@@ -225,9 +192,7 @@ runs_same : (links : List ℕ) (c : ℕ) (cs ds : List ℕ) → Runs links c cs 
 runs_same links c [] [] r q = refl
 runs_same links c [] (d ∷ ds) r q = absurd (q.1 (sym q.0 ∙ r))
 runs_same links c (d ∷ cs) [] r q = absurd (r.1 (sym r.0 ∙ q))
-runs_same links c (d ∷ cs) (e ∷ ds) r q =
-    let same : e ≡ d = sym q.0 ∙ r.0 in
-    ap (λ (xs : List ℕ). d ∷ xs) (runs_same links d cs ds r.3 (subst (λ (x : ℕ). Runs links x ds) same q.3)) ∙ ap (λ (x : ℕ). x ∷ ds) (sym same)
+runs_same links c (d ∷ cs) (e ∷ ds) r q = grind (arith, runs_same links d cs ds r.3)
 
 pub heading_next : (links : List ℕ) (n : ℕ) (cs : List ℕ) (seen after : List Bool) → Heading links n seen → 1 ≤ n → n ≤ length links → sector_link links n ≢ 0 → ((p : ℕ) → Follows links p n → ⊥) → Walked links n cs seen after → Heading links (n + 1) after
 heading_next links n cs seen after h low high some none w = record {
@@ -245,9 +210,7 @@ heading_next links n cs seen after h low high some none w = record {
 }
 
 pub heading_stuck : (links : List ℕ) (n : ℕ) (seen : List Bool) → Heading links n seen → 1 ≤ n → n ≤ length links → sector_link links n ≢ 0 → ((p : ℕ) → Follows links p n → ⊥) → NoChainOver links n seen → (ks : List (List ℕ)) → AreLinksOf links ks → ⊥
-heading_stuck links n seen h low high some none stuck ks a =
-    let (ds, r, within, next) = head_chain links ks a n low high some none in
-    stuck ds r (λ i. omega (arith, h.all ks a i, next i, below-low (n + 1) i ks, a.apart i))
+heading_stuck links n seen h low high some none stuck ks a = grind (arith, head_chain, below-low)
 
 pub heading_done : (links : List ℕ) (n : ℕ) (seen : List Bool) → Heading links n seen → length links < n → (ks : List (List ℕ)) → AreLinksOf links ks → (i : ℕ) → mark seen i ≡ uses i ks
 heading_done links n seen h past ks a i = h.all ks a i ∙ below-all n i ks a.some (λ m s. omega (arith, (a.inside m s).1))
@@ -260,10 +223,7 @@ runs_some links ([] ∷ ks) r = absurd r
 runs_some links ((c ∷ cs) ∷ ks) r = runs_some links ks r.1
 
 runs_after : (links : List ℕ) (n c : ℕ) (cs : List ℕ) → Runs links c cs → 1 ≤ times n (c ∷ cs) → sector_after n (c ∷ cs) ≡ sector_link links n
-runs_after links n c [] r s = ⊎_elim
-    (λ e. after-here n c [] e ∙ sym (ap (sector_link links) (sym e) ∙ r ∙ e))
-    (λ ne. absurd (omega (arith, one-other n c (λ e. ne (sym e)))))
-    (cases_eq c n)
+runs_after links n c [] r s = grind arith
 runs_after links n c (d ∷ cs) r s = ⊎_elim
     (λ e. after-here n c (d ∷ cs) e ∙ sym (ap (sector_link links) (sym e) ∙ r.0))
     (λ ne. after-later n c (d ∷ cs) ne ∙ runs_after links n d cs r.3 (omega (arith, one-other n c (λ e. ne (sym e)))))
@@ -278,31 +238,7 @@ runs_link links n ((c ∷ cs) ∷ ks) r s = ⊎_elim
     (cases_lt (times n (c ∷ cs)) 1)
 
 pub are_links : (links : List ℕ) (seen : List Bool) → 1 ≤ length links → length links < 1048576 → (m : AreMarkedBy links seen) → Reaches links seen → AreLinksOf links m.chains
-are_links links seen some few m reaches = record {
-  few = few;
-  many = some;
-  some = runs_some links m.chains m.runs;
-  apart = λ n. ⊎_elim (λ z. omega (arith, m.marks n, z)) (λ o. omega (arith, m.marks n, o)) (mark-is seen n);
-  inside = λ n s. (
-    ⊎_elim (λ lt. let z : n ≡ 0 = omega arith in absurd (let none : mark seen n ≡ 0 = rw z m.zero in omega (arith, m.marks n, none))) (λ le. le) (cases_lt n 1),
-    omega (arith, mark-within seen n (omega (arith, m.marks n)), m.many),
-  );
-  each = λ i lt. get-some links i lt ∙ ap Some (link_here i lt);
-}
-  where
-    at_is : (i : ℕ) → sector_link links (i + 1) ≡ get_or links i 0
-    at_is i = let e : i + 1 - 1 ≡ i = omega arith in ap (λ (j : ℕ). get_or links j 0) e
-
-    link_here : (i : ℕ) → i < length links → get_or links i 0 ≡ link_of (i + 1) m.chains
-    link_here i lt = ⊎_elim
-        (λ z.
-        let none : uses (i + 1) m.chains ≡ 0 = omega arith in
-        ⊎_elim
-        (λ e. sym (at_is i) ∙ e ∙ sym (link-absent (i + 1) m.chains none))
-        (λ ne. absurd (omega (arith, reaches (i + 1) (omega arith) (omega arith) ne, m.marks (i + 1), none)))
-        (cases_eq (sector_link links (i + 1)) 0))
-        (λ s. sym (at_is i) ∙ sym (runs_link links (i + 1) m.chains m.runs s))
-        (cases_lt (uses (i + 1) m.chains) 1)
+are_links links seen some few m reaches = grind (arith, runs_some, mark-within, get-some, link-absent, runs_link)
 
 pub reached_all : (links : List ℕ) (seen : List Bool) (ks : List (List ℕ)) → AreLinksOf links ks → ((i : ℕ) → mark seen i ≡ uses i ks) → Reaches links seen
 reached_all links seen ks a marks n low high some = omega (arith, marks n, used links ks a n low high some, a.apart n)
@@ -362,15 +298,7 @@ led_on links led i inside lt some other l =
         (cases_eq n (i + 1))
 
 pub led_past : (links : List ℕ) (led : List Bool) (i : ℕ) → ((get_or links i 0 ≡ 0) ⊎ (get_or links i 0 ≡ i + 1)) → LedSoFar links led i → LedSoFar links led (i + 1)
-led_past links led i why l = record { many = l.many; marked = later; only = l.only }
-  where
-    later : (n j : ℕ) → Follows links n j → n ≤ i + 1 → mark led j ≡ 1
-    later n j f le = ⊎_elim
-        (λ e.
-        let at : get_or links i 0 ≡ j = sym (at_index links i) ∙ ap (sector_link links) (sym e) ∙ f.link in
-        ⊎_elim (λ z. absurd (f.some (sym at ∙ z))) (λ k. absurd (f.other (sym at ∙ k ∙ sym e))) why)
-        (λ q. l.marked n j f (omega (arith, q)))
-        (cases_eq n (i + 1))
+led_past links led i why l = grind arith
 
 -- ---- the links of chains are numbers of sectors
 
@@ -387,10 +315,7 @@ after_low n most (c ∷ cs) le inside = ⊎_elim
 
 link_low : (n most : ℕ) (ks : List (List ℕ)) → n ≤ most → ((m : ℕ) → 1 ≤ uses m ks → m ≤ most) → link_of n ks ≤ most
 link_low n most [] le inside = omega arith
-link_low n most (k ∷ ks) le inside = ⊎_elim
-    (λ t. omega (arith, link-there n k ks (omega arith), link_low n most ks le (λ m s. inside m (omega arith))))
-    (λ t. omega (arith, link-here n k ks t, after_low n most k le (λ m s. inside m (omega arith))))
-    (cases_lt (times n k) 1)
+link_low n most (k ∷ ks) le inside = grind (arith, after_low, link_low n most ks le)
 
 pub inside_of : (links : List ℕ) (ks : List (List ℕ)) → AreLinksOf links ks → AreInside links
 inside_of links ks a i = ⊎_elim

@@ -12,9 +12,7 @@ Linked-lead : (links : List ℕ) (b : ℕ) (cs : List ℕ) (z : ℕ) (zs : List 
 Linked-lead links b [] z zs l m e n =
     let (apart, none) = times-cons b z zs n in
     (slice_get-set_same links b z (linked_within links b [] l), Linked-set links z zs b z apart none m)
-Linked-lead links b (c ∷ cs) z zs l m e n =
-    let here : one (last c cs) b ≡ 0 = omega (arith, times-last c cs) in
-    (slice_get-set_other links (last c cs) b z (λ q. one-apart (last c cs) b here (sym q)) ∙ l.0, Linked-lead links c cs z zs l.1 m (omega (arith, times-last c cs)) n)
+Linked-lead links b (c ∷ cs) z zs l m e n = grind (arith, times-last, slice_get-set_other, Linked-lead links c cs z zs l.1 m)
 
 module _ (links : List ℕ) (x y : ℕ) (st : Shelf) (free : ℕ) (s : IsShelf (record { links = links; free = free }) st) (apart : x ≢ y) (has : 1 ≤ length (chain_of x st.chains)) (more : 1 ≤ length (chain_of y st.chains)) where
   k : Chain links x (chain_of x st.chains)

@@ -29,12 +29,7 @@ pub other_next : (n d : ℕ) → d ≢ 0 → or_itself n d ≡ d
 other_next n d ne = cond-false (d == 0) _ _ (ne_eqb d 0 ne)
 
 linked_after : (links : List ℕ) (n c : ℕ) (cs : List ℕ) → Linked links c cs → times 0 cs ≡ 0 → 1 ≤ times n (c ∷ cs) → or_itself n (get_or links n 0) ≡ sector_after n (c ∷ cs)
-linked_after links n c [] l z s = ⊎_elim
-    (λ e.
-    let at : get_or links n 0 ≡ 0 = ap (λ (i : ℕ). get_or links i 0) (sym e) ∙ get_is links c 0 l in
-    ap (or_itself n) at ∙ sym (after-here n c [] e))
-    (λ ne. absurd (omega (arith, one-other n c (λ e. ne (sym e)))))
-    (cases_eq c n)
+linked_after links n c [] l z s = grind (arith, get_is)
 linked_after links n c (d ∷ cs) l z s =
     let (pos, more) = times-cons 0 d cs z in
     ⊎_elim
@@ -53,25 +48,13 @@ chain_link links n ((c ∷ cs) ∷ ks) a z s = ⊎_elim
     (cases_lt (times n (c ∷ cs)) 1)
 
 pub link_in_is : (t : Table) (st : Shelf) (n : ℕ) → IsShelf t st → 1 ≤ n → n < length t.links → table_link t n ≡ link_of n st.chains
-link_in_is t st n s low high =
-    let free = free_is t st s in
-    ⊎_elim
-    (λ lt.
-    let none : times n (free_sectors t) ≡ 0 = ap (times n) free ∙ (let e : times n st.free ≡ 0 = omega arith in e) in
-    cond-true (times n (free_sectors t) == 0) _ _ (eq-eqb (times n (free_sectors t)) 0 none)
-    ∙ chain_link t.links n st.chains s.chains (omega (arith, s.zero)) (omega (arith, s.once n low high, lt)))
-    (λ le.
-    let some : times n (free_sectors t) ≢ 0 = λ e. omega (arith, le, ap (times n) free, e) in
-    cond-false (times n (free_sectors t) == 0) _ _ (ne_eqb (times n (free_sectors t)) 0 some) ∙ sym (link-absent n st.chains (omega (arith, s.once n low high, le))))
-    (cases_lt (times n st.free) 1)
+link_in_is t st n s low high = grind (arith, free_is, chain_link, link-absent)
 
 -- ---- the walk along the free sectors
 
 -- a sector isn't among the first ones
 pub walk_on : (links : List ℕ) (n at v free i : ℕ) → i < free → v ≡ get_or links at 0 → times n (walk links (free - i) at) ≡ one n v + times n (walk links (free - (i + 1)) v)
-walk_on links n at v free i lt e =
-    let k : free - i ≡ suc (free - (i + 1)) = omega arith in
-    rw (k, e) refl
+walk_on links n at v free i lt e = grind arith
 
 pub walk_past : (links : List ℕ) (n at v free i total : ℕ) → i < free → v ≡ get_or links at 0 → v ≢ n → total ≡ times n (walk links (free - i) at) → total ≡ times n (walk links (free - (i + 1)) v)
 walk_past links n at v free i total lt e ne h = omega (arith, h, walk_on links n at v free i lt e, one-other n v (λ q. ne (sym q)))
@@ -84,39 +67,18 @@ walk_over links n at free i total le h = let k : free - i ≡ 0 = omega arith in
 
 -- the mark of a sector, once one more free sector is marked: it is free if it is marked, or still among those that follow
 pub marked_on : (links : List ℕ) (n at v free i : ℕ) (old new total : Bool) → i < free → v ≡ get_or links at 0 → new ≡ cond (v == n) true old → total ≡ cond old true (nat_lt 0 (times n (walk links (free - i) at))) → total ≡ cond new true (nat_lt 0 (times n (walk links (free - (i + 1)) v)))
-marked_on links n at v free i old new total lt e m h = ⊎_elim
-    (λ is. h ∙ here is old ∙ sym (cond-true new true _ (m ∙ cond-true (v == n) true old (eq-eqb v n is))))
-    (λ ne.
-    let same : new ≡ old = m ∙ cond-false (v == n) true old (ne_eqb v n ne) in
-    let less : times n (walk links (free - i) at) ≡ times n (walk links (free - (i + 1)) v) = omega (arith, walk_on links n at v free i lt e, one-other n v (λ q. ne (sym q))) in
-    h ∙ ap (λ (k : ℕ). cond old true (nat_lt 0 k)) less ∙ ap (λ (b : Bool). cond b true (nat_lt 0 (times n (walk links (free - (i + 1)) v)))) (sym same))
-    (cases_eq v n)
-  where
-    here : v ≡ n → (b : Bool) → cond b true (nat_lt 0 (times n (walk links (free - i) at))) ≡ true
-    here is true = refl
-    here is false = walk_met links n at v free i _ lt e is refl
+marked_on links n at v free i old new total lt e m h = grind (arith, walk_on)
 
 -- at its end no free sector follows
 pub marked_over : (links : List ℕ) (n at free i : ℕ) (mark total : Bool) → free ≤ i → total ≡ cond mark true (nat_lt 0 (times n (walk links (free - i) at))) → mark ≡ total
-marked_over links n at free i mark total le h = sym (h ∙ ap (cond mark true) (walk_over links n at free i _ le refl) ∙ by mark)
-  where
-    by : (b : Bool) → cond b true false ≡ b
-    by true = refl
-    by false = refl
+marked_over links n at free i mark total le h = grind arith
 
 -- what a call answers that follows a link
 pub link_answers : (t : Table) (n next : ℕ) → nat_lt 0 (times n (free_sectors t)) ≡ false → slice_get t.links n ≡ Some next → table_link t n ≡ or_itself n next
-link_answers t n next free e =
-    cond-true (times n (free_sectors t) == 0) _ _ (eq-eqb (times n (free_sectors t)) 0 (none (times n (free_sectors t)) free)) ∙ ap (or_itself n) (get_is t.links n next e)
-  where
-    none : (k : ℕ) → nat_lt 0 k ≡ false → k ≡ 0
-    none k e = omega (arith, ltb-false 0 k e)
+link_answers t n next free e = grind (arith, eq-eqb, get_is, ltb-false)
 
 pub free_answers : (t : Table) (n : ℕ) → nat_lt 0 (times n (free_sectors t)) ≡ true → table_link t n ≡ 0
-free_answers t n free = cond-false (times n (free_sectors t) == 0) _ _ (ne_eqb (times n (free_sectors t)) 0 (some (times n (free_sectors t)) free))
-  where
-    some : (k : ℕ) → nat_lt 0 k ≡ true → k ≢ 0
-    some k e q = omega (arith, ltb-true 0 k e, q)
+free_answers t n free = grind arith
 
 -- ---- all links
 
@@ -144,10 +106,7 @@ links_in-length t n e = map-length (table_link t) (row 1 (length t.links - 1)) �
 
 pub links_in-at : (t : Table) (n k : ℕ) → n + 1 ≡ length t.links → k < n → get_or (links_in t) k 0 ≡ table_link t (k + 1)
 unfolding links_in
-links_in-at t n k e lt =
-    let long : k < length (row 1 (length t.links - 1)) = omega (arith, row-length 1 (length t.links - 1)) in
-    let one : 1 + k ≡ k + 1 = omega arith in
-    map-at (table_link t) (row 1 (length t.links - 1)) k long ∙ ap (table_link t) (row-at 1 (length t.links - 1) k (omega arith) ∙ one)
+links_in-at t n k e lt = grind (arith, row-length, map-at, row-at)
 
 same_items : (xs ys : List ℕ) → length xs ≡ length ys → ((k : ℕ) → k < length ys → get_or xs k 0 ≡ get_or ys k 0) → xs ≡ ys
 same_items [] [] e h = refl

@@ -28,8 +28,7 @@ times-last b (c ∷ cs) = omega (arith, times-last c cs)
 
 -- walking
 pub link_first : (links : List ℕ) (b : ℕ) (fs : List ℕ) → Linked links b fs → slice_get links b ≡ Some (first fs)
-link_first links b [] l = l
-link_first links b (c ∷ cs) l = l.0
+link_first links b fs l = grind arith
 
 pub linked_step : (links : List ℕ) (b : ℕ) (fs : List ℕ) (i : ℕ) → Linked links b fs → i < length fs → slice_get links (last b (take i fs)) ≡ Some (last b (take (suc i) fs))
 linked_step links b [] i l h = absurd (omega arith)
@@ -52,37 +51,26 @@ linked_within links b fs l = slice_get_within links b (first fs) (link_first lin
 -- writes
 pub Linked-set : (links : List ℕ) (b : ℕ) (fs : List ℕ) (i v : ℕ) → i ≢ b → times i fs ≡ 0 → Linked links b fs → Linked (slice_set links i v) b fs
 Linked-set links b [] i v nb z l = slice_get-set_other links i b v (λ e. nb (sym e)) ∙ l
-Linked-set links b (c ∷ cs) i v nb z l =
-    let (nc, zs) = times-cons i c cs z in
-    (slice_get-set_other links i b v (λ e. nb (sym e)) ∙ l.0, Linked-set links c cs i v nc zs l.1)
+Linked-set links b (c ∷ cs) i v nb z l = grind (arith, slice_get-set_other, Linked-set links c cs i v)
 
 -- another place leads to the same sectors
 pub Linked-join : (links : List ℕ) (b d : ℕ) (fs : List ℕ) → d < length links → times d fs ≡ 0 → Linked links b fs → Linked (slice_set links d (first fs)) d fs
-Linked-join links b d [] h z l = slice_get-set_same links d 0 h
-Linked-join links b d (c ∷ cs) h z l =
-    let (nc, zs) = times-cons d c cs z in
-    (slice_get-set_same links d c h, Linked-set links c cs d c nc zs l.1)
+Linked-join links b d fs h z l = grind (arith, slice_get-set_same, Linked-set)
 
 -- a chain is cut behind its part
 pub Linked-cut : (links : List ℕ) (b : ℕ) (xs ys : List ℕ) → Linked links b (xs ++ ys) → times (last b xs) (b ∷ xs) ≡ 1 → Linked (slice_set links (last b xs) 0) b xs
 Linked-cut links b [] ys l e = slice_get-set_same links b 0 (linked_within links b ys l)
-Linked-cut links b (c ∷ cs) ys l e =
-    let here : one (last c cs) b ≡ 0 = omega (arith, times-last c cs) in
-    (slice_get-set_other links (last c cs) b 0 (λ q. one-apart (last c cs) b here (sym q)) ∙ l.0, Linked-cut links c cs ys l.1 (omega (arith, times-last c cs)))
+Linked-cut links b (c ∷ cs) ys l e = grind (arith, times-last, slice_get-set_other, Linked-cut links c cs ys l.1)
 
 -- a chain is led on to other sectors
 pub Linked-append : (links : List ℕ) (b : ℕ) (cs : List ℕ) (d : ℕ) (fs : List ℕ) → Linked links b cs → Linked links d fs → times (last b cs) (b ∷ cs) ≡ 1 → times (last b cs) fs ≡ 0 → Linked (slice_set links (last b cs) (first fs)) b (cs ++ fs)
 Linked-append links b [] d fs l m e z = Linked-join links d b fs (linked_within links b [] l) z m
-Linked-append links b (c ∷ cs) d fs l m e z =
-    let here : one (last c cs) b ≡ 0 = omega (arith, times-last c cs) in
-    (slice_get-set_other links (last c cs) b (first fs) (λ q. one-apart (last c cs) b here (sym q)) ∙ l.0, Linked-append links c cs d fs l.1 m (omega (arith, times-last c cs)) z)
+Linked-append links b (c ∷ cs) d fs l m e z = grind (arith, times-last, slice_get-set_other, Linked-append links c cs d fs l.1 m)
 
 pub AreChains-set : (links : List ℕ) (ks : List (List ℕ)) (i v : ℕ) → uses i ks ≡ 0 → AreChains links ks → AreChains (slice_set links i v) ks
 AreChains-set links [] i v z a = tt
 AreChains-set links ([] ∷ ks) i v z a = absurd a
-AreChains-set links ((c ∷ cs) ∷ ks) i v z a =
-    let (nc, zs) = times-cons i c cs (omega arith) in
-    (Linked-set links c cs i v nc zs a.0, AreChains-set links ks i v (omega arith) a.1)
+AreChains-set links ((c ∷ cs) ∷ ks) i v z a = grind (arith, Linked-set, AreChains-set links ks i v)
 
 -- one chain among the others
 pub uses-split : (i x : ℕ) (ks : List (List ℕ)) → uses i ks ≡ times i (chain_of x ks) + uses i (others x ks)
@@ -106,7 +94,4 @@ pub record Chain (links : List ℕ) (x : ℕ) (k : List ℕ) : Type 0 where
 pub chain_there : (links : List ℕ) (x : ℕ) (ks : List (List ℕ)) → AreChains links ks → 1 ≤ length (chain_of x ks) → Chain links x (chain_of x ks)
 chain_there links x [] a h = absurd (omega arith)
 chain_there links x ([] ∷ ks) a h = absurd a
-chain_there links x ((c ∷ cs) ∷ ks) a h = ⊎_elim
-    (λ e. let same : c ≡ x = eqb-true c x e in rw e (record { is = ap (λ (y : ℕ). y ∷ cs) same; linked = rw same at a.0 }))
-    (λ e. rw e (chain_there links x ks a.1 (rw e at h)))
-    (cases_Bool (c == x))
+chain_there links x ((c ∷ cs) ∷ ks) a h = grind (arith, chain_there links x ks a.1)

@@ -32,19 +32,13 @@ mark-other xs k i ne = ap (λ (b : Bool). cond b 1 0) (rw get_or-set_other refl)
 
 -- a sector that wasn't marked is marked
 pub mark-more : (xs : List Bool) (k i : ℕ) → k < length xs → mark xs k ≡ 0 → mark (slice_set xs k true) i ≡ mark xs i + one i k
-mark-more xs k i lt z = ⊎_elim
-    (λ e. rw e (omega (arith, mark-same xs k lt, z, one-same k)))
-    (λ ne. omega (arith, mark-other xs k i ne, one-other i k ne))
-    (cases_eq i k)
+mark-more xs k i lt z = grind (arith, mark-same, mark-other)
 
 -- ---- windows
 
 -- one more mark is taken away
 pub cleared_on : (xs : List Bool) (i : ℕ) → i < length xs → ((j : ℕ) → j < i → get_or xs j false ≡ false) → (j : ℕ) → j < i + 1 → get_or (slice_set xs i false) j false ≡ false
-cleared_on xs i lt none j low = ⊎_elim
-    (λ e. rw e (get_or-set_at xs i i false false refl lt))
-    (λ ne. get_or-set_other xs i j false false ne ∙ none j (omega (arith, low, ne)))
-    (cases_eq j i)
+cleared_on xs i lt none j low = grind (arith, get_or-set_at, get_or-set_other)
 
 pub cleared_all : (xs : List Bool) (i : ℕ) → length xs ≤ i → ((j : ℕ) → j < i → get_or xs j false ≡ false) → (j : ℕ) → get_or xs j false ≡ false
 cleared_all xs i le none j = ⊎_elim (λ lt. none j lt) (λ past. get_or_past xs j false (omega (arith, le, past))) (cases_lt j i)
@@ -55,14 +49,7 @@ not_within xs n first i ne = sym (cond-false (n == first + i) true (get_or xs i 
 
 -- a sector in it
 pub marked_within : (xs : List Bool) (n first i : ℕ) → first ≤ n → n - first < length xs → get_or (slice_set xs (n - first) true) i false ≡ cond (n == first + i) true (get_or xs i false)
-marked_within xs n first i low lt = ⊎_elim
-    (λ e.
-    let at : i ≡ n - first = omega (arith, e) in
-    get_or-set_at xs (n - first) i true false at lt ∙ sym (cond-true (n == first + i) true (get_or xs i false) (eq-eqb n (first + i) e)))
-    (λ ne.
-    let other : i ≢ n - first = λ q. ne (omega (arith, q, low)) in
-    get_or-set_other xs (n - first) i true false other ∙ not_within xs n first i ne)
-    (cases_eq n (first + i))
+marked_within xs n first i low lt = grind (arith, get_or-set_at, get_or-set_other)
 
 -- how many aren't marked
 pub blanks : List Bool → ℕ
@@ -175,14 +162,5 @@ pred n c (d ∷ cs) ne once s = ⊎_elim
 
 -- what follows a sector in a chain is in the chain behind it
 pub followed : (p n c : ℕ) (cs : List ℕ) → sector_after p (c ∷ cs) ≡ n → p ≢ n → n ≢ 0 → 1 ≤ times n cs
-followed p n c [] is other some = ⊎_elim
-    (λ e. absurd (other (sym (cond-true (c == p) _ _ (eq-eqb c p e)) ∙ is)))
-    (λ ne. absurd (some (sym is ∙ after-later p c [] ne)))
-    (cases_eq c p)
-followed p n c (d ∷ ds) is other some = ⊎_elim
-    (λ e.
-    let at : d ≡ n = sym (cond-true (c == p) _ _ (eq-eqb c p e)) ∙ is in
-    let here : one n d ≡ 1 = rw at (one-same n) in
-    omega (arith, here))
-    (λ ne. omega (arith, followed p n d ds (sym (after-later p c (d ∷ ds) ne) ∙ is) other some))
-    (cases_eq c p)
+followed p n c [] is other some = grind arith
+followed p n c (d ∷ ds) is other some = grind (arith, followed p n d ds)

@@ -24,22 +24,9 @@ packs_none numbers start = record { size = length-replicate {A = ℕ} 30 0; put 
 
 -- one more is put
 pub packs_more : (numbers : List ℕ) (start n number : ℕ) (sector : List ℕ) → Packs numbers start n sector → n < 30 → number ≡ number_at numbers (start + n) → Packs numbers start (n + 1) (slice_set sector n number)
-packs_more numbers start n number sector p small is =
-    let inside : n < length sector = omega (arith, small, p.size) in
-    let here : slice_get (slice_set sector n number) n ≡ Some (number_at numbers (start + n)) = slice_get-set_same sector n number inside ∙ ap Some is in
-    record {
-      size = length-set sector n number ∙ p.size;
-      put = λ k h. ⊎_elim
-          (λ less. slice_get-set_other sector n k number (λ e. omega (arith, e, less)) ∙ p.put k less)
-          (λ more. subst (λ (m : ℕ). slice_get (slice_set sector n number) m ≡ Some (number_at numbers (start + m))) (omega (arith, h, more)) here)
-          (cases_lt k n);
-      blank = λ k h less. slice_get-set_other sector n k number (λ e. omega (arith, e, h)) ∙ p.blank k (omega (arith, h)) less;
-    }
+packs_more numbers start n number sector p small is = grind (arith, slice_get-set_same, length-set, slice_get-set_other)
 
 -- what isn't put lies past the end of the list
 pub packs_all : (numbers : List ℕ) (start n : ℕ) (sector : List ℕ) → ((k : ℕ) → k < n → slice_get sector k ≡ Some (number_at numbers (start + k))) → ((k : ℕ) → n ≤ k → k < 30 → slice_get sector k ≡ Some 0)
     → ((k : ℕ) → n ≤ k → k < 30 → length numbers ≤ start + k) → (k : ℕ) → k < 30 → slice_get sector k ≡ Some (number_at numbers (start + k))
-packs_all numbers start n sector put blank past k h = ⊎_elim
-    (λ less. put k less)
-    (λ more. blank k more h ∙ ap Some (sym (number_at-past numbers (start + k) (past k more h))))
-    (cases_lt k n)
+packs_all numbers start n sector put blank past k h = grind (arith, number_at-past)

@@ -29,50 +29,20 @@ times-past m n (c ∷ cs) a h = omega (arith, one-other m c (λ e. omega arith),
 chain_once : (t : Table) (x : ℕ) (st : Shelf) → IsShelf t st → 1 ≤ length (chain_of x st.chains) → (m : ℕ) → times m (chain_of x st.chains) ≤ 1
 chain_once t x st s has m =
     let k = chain_there t.links x st.chains s.chains has in
-    let below : AllBelow (length t.links) (chain_of x st.chains) = rw k.is (linked_within t.links x (rest (chain_of x st.chains)) k.linked, all_below t.links x (rest (chain_of x st.chains)) k.linked) in
-    let u = uses-split m x st.chains in
-    ⊎_elim (λ g. let z : m ≡ 0 = omega arith in let u0 = uses-split 0 x st.chains in rw z (omega (arith, s.zero, u0)))
-    (λ g. ⊎_elim (λ l. omega (arith, s.once m g l)) (λ l. omega (arith, times-past m (length t.links) (chain_of x st.chains) below l)) (cases_lt m (length t.links)))
-    (cases_lt m 1)
+    grind (arith, all_below, uses-split, times-past)
 
 -- the walk begins
 pub ahead_first : (t : Table) (x : ℕ) (st : Shelf) → IsShelf t st → 1 ≤ length (chain_of x st.chains) → Ahead t.links (chain_of x st.chains) (length (chain_of x st.chains)) 0 x (chain_of x st.chains)
 ahead_first t x st s has =
     let k = chain_there t.links x st.chains s.chains has in
-    let zeros : times 0 (chain_of x st.chains) ≡ 0 = omega (arith, s.zero, uses-split 0 x st.chains) in
-    record {
-      at_is = sym (ap first k.is);
-      linked = rw k.is k.linked;
-      once = chain_once t x st s has;
-      zero = zeros;
-      inside = λ m z. z;
-      many = omega arith;
-    }
+    grind (arith, uses-split, chain_once)
 
 pub ahead_pos : (links k : List ℕ) (n j at : ℕ) (rest : List ℕ) → Ahead links k n j at rest → j < n → (1 ≤ at) × (at < length links)
-ahead_pos links k n j at [] a h = absurd (omega (arith, a.many))
-ahead_pos links k n j at (c ∷ cs) a h =
-    let z = times-cons 0 c cs a.zero in
-    let pos : 1 ≤ c = ⊎_elim (λ g. absurd (z.0 g)) (λ g. omega arith) (eq_or c) in
-    let low = linked_within links c cs a.linked in
-    (omega (arith, a.at_is), omega (arith, a.at_is)) where
-      eq_or : (c : ℕ) → (0 ≡ c) ⊎ (1 ≤ c)
-      eq_or zero = inl refl
-      eq_or (suc c) = inr (omega arith)
+ahead_pos links k n j at e a h = grind (arith, linked_within)
 
 -- it goes on
 pub ahead_next : (links k : List ℕ) (n j at next c : ℕ) (cs : List ℕ) → Ahead links k n j at (c ∷ cs) → slice_get links at ≡ Some next → Ahead links k n (j + 1) next cs
-ahead_next links k n j at next c cs a r = record {
-  at_is = same_Some next (first cs) (sym r ∙ ap (slice_get links) a.at_is ∙ link_first links c cs a.linked);
-  linked = linked_on cs a.linked;
-  once = λ m. omega (arith, a.once m);
-  zero = omega (arith, a.zero);
-  inside = λ m z. omega (arith, a.inside m z);
-  many = omega (arith, a.many);
-} where
-  linked_on : (cs : List ℕ) → Linked links c cs → AreLinked links cs
-  linked_on [] l = tt
-  linked_on (d ∷ ds) l = l.1
+ahead_next links k n j at next c cs a r = grind arith
 
 -- what was written so far: once the rest is written too, the chain holds these numbers
 abbrev pub Missing : List ℕ → List ℕ → ℕ → List ℕ → List (List ℕ) → Type 0
@@ -103,12 +73,7 @@ one_head : (i c : ℕ) (cs : List ℕ) → times i (c ∷ cs) ≡ 0 → times i 
 one_head i c cs z = omega arith
 
 written_next : (k : List ℕ) (c : ℕ) (cs : List ℕ) (p : ℕ) (ns buf : List ℕ) (old now new : List (List ℕ)) → 1 ≤ c → times c cs ≡ 0 → ((m : ℕ) → times m k ≡ 0 → times m (c ∷ []) ≡ 0) → Written k (c ∷ cs) p ns old now → Sets c buf now new → ((i : ℕ) → i < 30 → slice_get buf i ≡ Some (number_at ns (p + i))) → Written k cs (p + 30) ns old new
-written_next k c cs p ns buf old now new low z inside w s f = record {
-  same = record { count = s.same.count ∙ w.same.count; others = λ m pos t. s.same.others m pos (inside m t) ∙ w.same.others m pos t };
-  missing = λ b same st. w.missing b
-      (record { count = same.count ∙ s.same.count; others = λ i pos t. let (apart, zs) = times-cons i c cs t in same.others i pos zs ∙ s.same.others i pos (omega (arith, one-other i c apart)) })
-      ((buf, same.others c low z ∙ s.set, f), st);
-}
+written_next k c cs p ns buf old now new low z inside w s f = grind arith
 
 pub storing_next : {D : Type 0} (holds : D → Option (List (List ℕ))) (links k : List ℕ) (n j at next : ℕ) (ns buf : List ℕ) (old now new : D) → j < n → Storing holds links k n j at ns old now → Changes holds now new (Sets at buf) → ((i : ℕ) → i < 30 → slice_get buf i ≡ Some (number_at ns (30 * j + i))) → slice_get links at ≡ Some next → Storing holds links k n (j + 1) next ns old new
 storing_next holds links k n j at next ns buf old now new h s w f r = by_rest s.rest s.ahead s.changed where

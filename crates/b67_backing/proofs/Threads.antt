@@ -46,13 +46,7 @@ none_from (l ∷ ls) (suc m) le = ap (unlinked (suc m + 1)) (gone ls m (omega ar
     gone (l ∷ ls) (suc m) le = gone ls m (omega arith)
 
 pub threads_first : (links table : List ℕ) → length table ≡ length links + 1 → ((j : ℕ) → get_or table j 0 ≡ 0) → Threads links table (length links) 0 0
-threads_first links table many zeros = record {
-  many = many;
-  head_is = sym (ap first (none_from links (length links) (omega arith)));
-  free_is = sym (ap length (none_from links (length links) (omega arith)));
-  done = λ j low high. absurd (omega arith);
-  rest = λ j le. zeros j;
-}
+threads_first links table many zeros = grind (arith, none_from)
 
 -- a sector without a link
 pub threads_free : (links table : List ℕ) (m head free : ℕ) → m < length links → get_or links m 0 ≡ 0 → Threads links table (m + 1) head free → Threads links (slice_set table (m + 1) head) m (m + 1) (free + 1)
@@ -98,24 +92,7 @@ threads_linked links table m head free lt some other t =
 
 -- the last sector of a chain
 pub threads_last : (links table : List ℕ) (m head free : ℕ) → m < length links → get_or links m 0 ≡ m + 1 → Threads links table (m + 1) head free → Threads links table m head free
-threads_last links table m head free lt last t =
-    let some : get_or links m 0 ≢ 0 = λ e. omega arith in
-    let here : free_from links m ≡ free_from links (m + 1) = free_here links m lt ∙ cond-false (get_or links m 0 == 0) _ _ (ne_eqb (get_or links m 0) 0 some) in
-    record {
-      many = t.many;
-      head_is = t.head_is ∙ sym (ap first here);
-      free_is = t.free_is ∙ sym (ap length here);
-      done = λ j low high. ⊎_elim
-          (λ e. rw e (t.rest (m + 1) (omega arith) ∙ sym at_here))
-          (λ ne. t.done j (omega (arith, ne)) high)
-          (cases_eq j (m + 1));
-      rest = λ j le. t.rest j (omega arith);
-    }
-  where
-    at_here : told links (m + 1) ≡ 0
-    at_here =
-        cond-false (sector_link links (m + 1) == 0) _ _ (ne_eqb (sector_link links (m + 1)) 0 (λ e. let z : get_or links m 0 ≡ 0 = sym (here_at links m) ∙ e in omega arith))
-        ∙ cond-true (sector_link links (m + 1) == m + 1) _ _ (eq-eqb (sector_link links (m + 1)) (m + 1) (here_at links m ∙ last))
+threads_last links table m head free lt last t = grind (arith, free_here, ne_eqb)
 
 -- ---- the whole table
 
@@ -129,27 +106,13 @@ all_runs links ((c ∷ cs) ∷ ks) some apart z is = (
 
 times-unlinked_below : (i n : ℕ) (ls : List ℕ) → i < n → times i (unlinked n ls) ≡ 0
 times-unlinked_below i n [] lt = refl
-times-unlinked_below i n (l ∷ ls) lt = ⊎_elim
-    (λ e. ap (times i) (cond-true (l == 0) _ _ (eq-eqb l 0 e)) ∙ (let z : one i n + times i (unlinked (n + 1) ls) ≡ 0 = omega (arith, one-other i n (λ q. omega arith), times-unlinked_below i (n + 1) ls (omega arith)) in z))
-    (λ ne. ap (times i) (cond-false (l == 0) _ _ (ne_eqb l 0 ne)) ∙ times-unlinked_below i (n + 1) ls (omega arith))
-    (cases_eq l 0)
+times-unlinked_below i n (l ∷ ls) lt = grind (arith, times-unlinked_below i (n + 1) ls)
 
 -- a sector stands among those without a link exactly where it has none
 times-unlinked : (n k : ℕ) (ls : List ℕ) → k < length ls → times (n + k) (unlinked n ls) ≡ cond (get_or ls k 0 == 0) 1 0
 times-unlinked n k [] lt = absurd (omega arith)
-times-unlinked n zero (l ∷ ls) lt =
-    let at : n + 0 ≡ n = omega arith in
-    rw at (⊎_elim
-    (λ e. ap (times n) (cond-true (l == 0) _ _ (eq-eqb l 0 e)) ∙ (let z : one n n + times n (unlinked (n + 1) ls) ≡ 1 = omega (arith, one-same n, times-unlinked_below n (n + 1) ls (omega arith)) in z) ∙ sym (cond-true (l == 0) 1 0 (eq-eqb l 0 e)))
-    (λ ne. ap (times n) (cond-false (l == 0) _ _ (ne_eqb l 0 ne)) ∙ times-unlinked_below n (n + 1) ls (omega arith) ∙ sym (cond-false (l == 0) 1 0 (ne_eqb l 0 ne)))
-    (cases_eq l 0))
-times-unlinked n (suc k) (l ∷ ls) lt =
-    let at : n + suc k ≡ n + 1 + k = omega arith in
-    let behind = times-unlinked (n + 1) k ls (omega arith) in
-    rw at (⊎_elim
-    (λ e. ap (times (n + 1 + k)) (cond-true (l == 0) _ _ (eq-eqb l 0 e)) ∙ (let z : one (n + 1 + k) n + times (n + 1 + k) (unlinked (n + 1) ls) ≡ times (n + 1 + k) (unlinked (n + 1) ls) = omega (arith, one-other (n + 1 + k) n (λ q. omega arith)) in z) ∙ behind)
-    (λ ne. ap (times (n + 1 + k)) (cond-false (l == 0) _ _ (ne_eqb l 0 ne)) ∙ behind)
-    (cases_eq l 0))
+times-unlinked n zero (l ∷ ls) lt = grind (arith, times-unlinked_below)
+times-unlinked n (suc k) (l ∷ ls) lt = grind (arith, times-unlinked (n + 1) k ls)
 
 module _ (links table : List ℕ) (head free : ℕ) (t : Threads links table 0 head free) (ks : List (List ℕ)) (a : AreLinksOf links ks) where
   whole : List ℕ
@@ -161,15 +124,11 @@ module _ (links table : List ℕ) (head free : ℕ) (t : Threads links table 0 h
 
   at_zero : slice_get whole 0 ≡ Some head
   unfolding whole
-  at_zero =
-      let inside : 0 < length table = omega (arith, t.many) in
-      get-some (slice_set table 0 head) 0 (omega (arith, length-set table 0 head)) ∙ ap Some (rw get_or-set_same refl)
+  at_zero = grind (arith, get-some, length-set, get_or-set_same)
 
   at_sector : (j : ℕ) → 1 ≤ j → j ≤ length links → slice_get whole j ≡ Some (told links j)
   unfolding whole
-  at_sector j low high =
-      let other : j ≢ 0 = λ e. omega arith in
-      get-some (slice_set table 0 head) j (omega (arith, length-set table 0 head, t.many)) ∙ ap Some (rw get_or-set_other (t.done j (omega arith) high))
+  at_sector j low high = grind (arith, get-some, length-set, get_or-set_other)
 
   threaded : (ls : List ℕ) (m b : ℕ) → drop m links ≡ ls → m + length ls ≡ length links → slice_get whole b ≡ Some (first (unlinked (m + 1) ls)) → Linked whole b (unlinked (m + 1) ls)
   threaded [] m b e n h = h
@@ -195,14 +154,8 @@ module _ (links table : List ℕ) (head free : ℕ) (t : Threads links table 0 h
           rw cut (rw cut at h, more next)
 
   linked_run : (c : ℕ) (cs : List ℕ) → Runs links c cs → ((m : ℕ) → 1 ≤ times m (c ∷ cs) → (1 ≤ m) × (m ≤ length links)) → Linked whole c cs
-  linked_run c [] r inside =
-      let (low, high) = inside c (omega (arith, one-same c)) in
-      at_sector c low high ∙ ap Some (cond-false (sector_link links c == 0) _ _ (ne_eqb (sector_link links c) 0 (λ e. omega (arith, e, r))) ∙ cond-true (sector_link links c == c) _ _ (eq-eqb (sector_link links c) c r))
-  linked_run c (d ∷ cs) r inside =
-      let (low, high) = inside c (omega (arith, one-same c)) in (
-        at_sector c low high ∙ ap Some (cond-false (sector_link links c == 0) _ _ (ne_eqb (sector_link links c) 0 (λ e. r.2 (sym r.0 ∙ e))) ∙ cond-false (sector_link links c == c) _ _ (ne_eqb (sector_link links c) c (λ e. r.1 (sym r.0 ∙ e))) ∙ r.0),
-        linked_run d cs r.3 (λ m s. inside m (omega arith)),
-      )
+  linked_run c [] r inside = grind (arith, at_sector)
+  linked_run c (d ∷ cs) r inside = grind (arith, at_sector, linked_run d cs r.3)
 
   are_chains : (js : List (List ℕ)) → AreRuns links js → ((m : ℕ) → 1 ≤ uses m js → (1 ≤ m) × (m ≤ length links)) → AreChains whole js
   are_chains [] r inside = tt
@@ -276,5 +229,4 @@ told_at links table m head free e t ks a =
     links_in-same (record { links = slice_set table 0 head; free = free }) (record { free = unlinked 1 links; chains = ks }) links (shelf_at links table m head free e t ks a) long a.each
 
 pub threads_same : (links table table' : List ℕ) (m head head' free free' : ℕ) → table ≡ table' → head ≡ head' → free ≡ free' → Threads links table' m head' free' → Threads links table m head free
-threads_same links table table' m head head' free free' a b c t =
-    subst (λ (x : List ℕ). Threads links x m head free) (sym a) (subst (λ (x : ℕ). Threads links table' m x free) (sym b) (subst (λ (x : ℕ). Threads links table' m head' x) (sym c) t))
+threads_same links table table' m head head' free free' a b c t = grind arith

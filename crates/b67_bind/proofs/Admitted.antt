@@ -2,7 +2,7 @@
 use Rattle.std.proofs.Common.{◌≡◌, ℕ, zero, suc, ◌+◌, ◌-◌, ◌%◌, ◌^◌, ◌<◌, ◌≤◌, Bool, true, false, cond, eqb, ◌||◌, List, [], ◌∷◌, length, map, Option, Some, None, Err, refl, sym, ap, subst, ◌∙◌, arith, ◌⊎◌, inl, inr}
 use Rattle.std.specs.Prelude.{slice_get}
 use Rattle.std.specs.List.{AllByRecursion, list_any}
-use Rattle.std.proofs.lemmas.Bool.{eqb-false, or_parts}
+use Rattle.std.proofs.lemmas.Bool.{or_parts}
 use Rattle.std.proofs.lemmas.Option.{same_Some, none-some, slice_get_within}
 use Rattle.std.proofs.lemmas.List.{length-map}
 use Rattle.b67_word.specs.Tagged.{Tagged, contents}
@@ -10,9 +10,7 @@ use Rattle.b67_lemmas.specs.Lists.{Has}
 use Rattle.b67_lemmas.proofs.Members.{any_none, keyed_has, all_in, all_from, has_get}
 use Rattle.b67_lemmas.proofs.Places.{get_within, at_mapped}
 use Rattle.b67_model.specs.State as state
-use Rattle.b67_model.specs.Common.{Program, Entry, At, Break, broken_in, first_of, Listed, Refusal, IsAdmitted}
-use Rattle.b67_model.specs.declared.operators.Op.{Op}
-use Rattle.b67_model.specs.declared.operators.Op.TheVariants as op
+use Rattle.b67_model.specs.Common.{Program, Entry, broken_in, first_of, Listed, Refusal, IsAdmitted}
 use Rattle.b67_load_verify.specs.declared.fault.LoadFault.TheVariants.{Refused}
 use Rattle.b67_load_verify.specs.Broken.{Finds}
 use Rattle.b67_word.specs.declared.couples.Place.{Place}
@@ -21,8 +19,8 @@ use Rattle.b67_codefile.specs.declared.file.Codefile.{Codefile}
 use Rattle.b67_codefile.specs.Spelling.{HasTag, IsFileSegment, HasNoEntries, IsWithin}
 use Rattle.b67_codefile.specs.Meaning.{segment_of, program_of}
 use Rattle.b67_bind.specs.declared.pairs.Pair.{Pair}
-use Rattle.b67_bind.specs.Reasons.{Binding, binding, numbered, pair_at, pair_named, entries_in, names_unpaired, first_refusal}
-use Rattle.b67_bind.specs.Bound.{by_pair, rebound, rebound_word, changed_at, change_one, change_literals, literal_of, change_op, change_entry, rebound_segment, from_part, placed_segment, bound_segments, bound}
+use Rattle.b67_bind.specs.Reasons.{Binding, binding, pair_at, pair_named, entries_in, names_unpaired, first_refusal}
+use Rattle.b67_bind.specs.Bound.{by_pair, rebound, rebound_word, changed_at, change_one, change_literals, literal_of, change_entry, rebound_segment, placed_segment, bound_segments, bound}
 use Rattle.b67_bind.specs.Laws.{IsGood}
 use Rattle.b67_bind.proofs.Literals.{literals-length}
 use Rattle.b67_bind.proofs.Rebound.{rebound-listing}
@@ -49,37 +47,21 @@ one-all P f zero (x ∷ xs) go h = (go x h.0, h.1)
 one-all P f (suc n) (x ∷ xs) go h = (h.0, one-all P f n xs go h.1)
 
 some-all : {A : Type 0} (P : A → Type 0) (f : A → A) (o : Option ℕ) (xs : List A) → ((x : A) → P x → P (f x)) → AllByRecursion P xs → AllByRecursion P (change_one f o xs)
-some-all P f None xs go h = h
-some-all P f (Some n) xs go h = one-all P f n xs go h
+some-all P f o xs go h = grind (arith, one-all)
 
 literals-all : {A : Type 0} (P : A → Type 0) (f : A → A) (entries : List Entry) (xs : List A) → ((x : A) → P x → P (f x)) → AllByRecursion P xs → AllByRecursion P (change_literals f entries xs)
 literals-all P f [] xs go h = h
 literals-all P f (e ∷ more) xs go h = literals-all P f more (change_one f (literal_of e) xs) go (some-all P f (literal_of e) xs go h)
 
 segment-within : (pairs : List Pair) (s : Segment) → AllByRecursion (λ (a : Pair). a.host ≤ 255) pairs → IsFileSegment s → IsFileSegment (rebound_segment pairs s)
-segment-within pairs s few h =
-    let len : length (rebound_segment pairs s).code ≡ length s.code = literals-length (rebound_word pairs) (entries_in s) s.code in
-    record {
-      level = h.level;
-      entries = h.entries;
-      code = record {
-        some = omega (arith, len, h.code.some);
-        few = omega (arith, len, h.code.few);
-        each = literals-all (HasTag 3) (rebound_word pairs) (entries_in s) s.code (λ w k. word-fits pairs w few k) h.code.each;
-      };
-    }
+segment-within pairs s few h = grind (arith, literals-length, literals-all, word-fits)
 
 -- what stands in the place of a segment of the host is that segment, or one of the part's
 abbrev BothSo : (Segment → Type 0) → Binding → Type 0
 BothSo P x = ((s : Segment) → Has x.host.segments s → P s) × ((s : Segment) → Has x.part.segments s → P (rebound_segment x.pairs s))
 
 placed-so : (P : Segment → Type 0) (x : Binding) (s : Segment) (o : Option Pair) → BothSo P x → Has x.host.segments s → P (placed_segment x s o)
-placed-so P x s None h m = h.0 s m
-placed-so P x s (Some a) h m = at_part (numbered x.part.segments a.part) refl
-  where
-    at_part : (o : Option Segment) → numbered x.part.segments a.part ≡ o → P (from_part x.pairs s o)
-    at_part None is = h.0 s m
-    at_part (Some t) is = h.1 t (has_get x.part.segments (a.part - 1) t (numbered-get x.part.segments a.part t is).1)
+placed-so P x s o h m = grind (arith, has_get)
 
 segments-so : (P : Segment → Type 0) (x : Binding) (n : ℕ) (segments : List Segment) → BothSo P x → ((s : Segment) → Has segments s → Has x.host.segments s) → AllByRecursion P (bound_segments x n segments)
 segments-so P x n [] h sub = tt
@@ -91,8 +73,7 @@ all-so P x host part =
 
 -- a file that isn't of version 2 is of version 1
 first-version : (v : ℕ) → (v ≡ 1) ⊎ (v ≡ 2) → eqb v 2 ≡ false → v ≡ 1
-first-version v (inl e) t = e
-first-version v (inr e) t = absurd (eqb-false v 2 t e)
+first-version v h t = grind arith
 
 abbrev version_by : Bool → ℕ
 version_by b = cond b 2 1
@@ -131,15 +112,7 @@ bound-within x host part h = record {
 -- the same PCWs
 changed-same : (entries : List Entry) → map (change_entry (λ bits. bits)) entries ≡ entries
 changed-same [] = refl
-changed-same (e ∷ more) = ap (λ (d : Entry). d ∷ map (change_entry (λ bits. bits)) more) (one e) ∙ ap (λ (es : List Entry). e ∷ es) (changed-same more)
-  where
-    same : (o : Op) → change_op (λ bits. bits) o ≡ o
-    same (op.Mpcw bits) = refl
-    same _ = refl
-
-    one : (e : Entry) → change_entry (λ bits. bits) e ≡ e
-    one (At place o) = ap (At place) (same o)
-    one (Break place why) = refl
+changed-same (e ∷ more) = grind (arith, changed-same more)
 
 -- a segment of the host at its place
 record Stands (x : Binding) (i : ℕ) (s : Segment) : Type 0 where
@@ -224,18 +197,13 @@ bound-admitted x host part h =
 
 -- whatever host, part and pairs of which none is refused
 pub bound-good : (x : Binding) → IsGood x.host → IsGood x.part → first_refusal x ≡ None → IsGood (bound x)
-bound-good x host part none =
-    let h : Passes x [] x.pairs = pairs-pass x none in
-    (bound-within x host.0 part.0 h, bound-admitted x host part h)
+bound-good x host part none = grind (arith, pairs-pass, bound-within, bound-admitted)
 
 -- ---- what is bound by a call
 
 pub file-good : (host part h p : Codefile) (pairs : List Pair) (file : Codefile) → h ≡ host → IsWithin host → IsAdmitted (program_of host) → p ≡ part → IsWithin part → IsAdmitted (program_of part) → first_refusal (binding h p pairs) ≡ None
     → file ≡ bound (binding h p pairs) → IsGood file
-file-good host part h p pairs file host_is host_in host_ok part_is part_in part_ok none is =
-    let first : IsGood h = subst IsGood (sym host_is) (host_in, host_ok) in
-    let second : IsGood p = subst IsGood (sym part_is) (part_in, part_ok) in
-    subst IsGood (sym is) (bound-good (binding h p pairs) first second none)
+file-good host part h p pairs file host_is host_in host_ok part_is part_in part_ok none is = grind (arith, bound-good)
 
 pub never-refused : (X : Type 0) (refusals : List Refusal) (segment reason : ℕ) (place : Place) → refusals ≡ [] → Finds {X = X} (Err (Refused segment place reason)) refusals → ⊥
 never-refused X refusals segment reason place none found = none-some _ (sym (ap first_of none) ∙ found)

@@ -1,10 +1,9 @@
 -- A file that is bound into itself.
 use Rattle.std.proofs.Common.{◌≡◌, ℕ, zero, suc, ◌+◌, ◌-◌, ◌*◌, ◌/◌, ◌%◌, ◌^◌, ◌<◌, ◌≤◌, Bool, false, not, cond, eqb, ◌||◌, List, [], ◌∷◌, ◌++◌, length, Option, Some, None, refl, sym, ap, subst, ◌∙◌, arith, ◌⊎◌, inl, inr}
-use Rattle.std.specs.Prelude.{slice_get, is_none, option_map}
+use Rattle.std.specs.Prelude.{slice_get, is_none}
 use Rattle.std.specs.List.{AllByRecursion, list_any}
-use Rattle.std.proofs.lemmas.Bool.{cases_eq, eq-eqb, ne_eqb, or_from, not_from_true}
+use Rattle.std.proofs.lemmas.Bool.{eq-eqb, or_from, not_from_true}
 use Rattle.std.proofs.lemmas.List.{length-map}
-use Rattle.std.proofs.Math.Nat.{le_refl}
 use Rattle.std.proofs.lemmas.Option.{same_Some, none-some, slice_get_within}
 use Rattle.b67_word.specs.Tagged.{Tagged, contents}
 use Rattle.b67_lemmas.specs.Lists.{Has}
@@ -12,14 +11,13 @@ use Rattle.b67_lemmas.specs.Keyed.{keyed}
 use Rattle.b67_lemmas.proofs.Joins.{all_append, all_by}
 use Rattle.b67_lemmas.proofs.Members.{all_in}
 use Rattle.b67_lemmas.proofs.Places.{at_mapped}
-use Rattle.b67_model.specs.Common.{Entry, At, Break, place_of_entry, proc_bits, holds_of, has_stray_bits, breaks_rule_8, broken_at, Listed, refused, refusals_of}
+use Rattle.b67_model.specs.Common.{Entry, At, Break, place_of_entry, holds_of, has_stray_bits, breaks_rule_8, broken_at, Listed, refused, refusals_of}
 use Rattle.b67_codefile.specs.declared.file.Segment.{Segment}
 use Rattle.b67_codefile.specs.declared.file.Codefile.{Codefile}
 use Rattle.b67_codefile.specs.Meaning.{segment_of, program_of}
-use Rattle.b67_load_verify.specs.Broken.{rules_at}
 use Rattle.b67_bind.specs.declared.pairs.Pair.{Pair}
 use Rattle.b67_bind.specs.Reasons.{Binding, numbered, pair_at, pair_named, entries_in, proc_in, procs_from, is_taken, names_unpaired, has_level_1, reasons, first_refusal}
-use Rattle.b67_bind.specs.Bound.{by_pair, rebound, rebound_word, literal_of, changed_at, change_one, change_literals, rebound_segment, from_part, placed_segment, bound_segments, bound}
+use Rattle.b67_bind.specs.Bound.{rebound, rebound_word, literal_of, changed_at, change_one, change_literals, rebound_segment, from_part, placed_segment, bound_segments, bound}
 use Rattle.b67_bind.specs.Laws.{IsGood, same_pairs, HasNoLevel1, into_itself}
 use Rattle.b67_bind.proofs.Relisted.{HoldsLiteral, listing-literals}
 use Rattle.b67_bind.proofs.Rules.{AllFalse, refused-none, append-none, entry-own, listed_in, IsClean, program-clean}
@@ -37,44 +35,20 @@ same_pair n = record { host = n; part = n }
 
 same-host : (n : ℕ) (segments : List Segment) (m : ℕ) → n ≤ m → m < n + length segments → pair_at (same_pairs n segments) m ≡ Some (same_pair m)
 same-host n [] m low high = absurd (omega arith)
-same-host n (s ∷ more) m low high = elim (cases_eq n m) [
-  | inl is ↦ rw (eq-eqb n m is) (ap (λ (k : ℕ). Some (same_pair k)) is)
-  | inr ne ↦ rw (ne_eqb n m ne) (same-host (n + 1) more m (above ne low) (omega (arith, high)))
-]
-  where
-    above : (n ≡ m → ⊥) → n ≤ m → n + 1 ≤ m
-    above ne le = omega (arith, ne, le)
+same-host n (s ∷ more) m low high = grind (arith, same-host (n + 1) more m)
 
 same-part : (n : ℕ) (segments : List Segment) (d : ℕ) → n + 1 ≤ d → d < n + 1 + length segments → keyed (λ (a : Pair). a.part + 1) d (same_pairs n segments) ≡ Some (same_pair (d - 1))
 same-part n [] d low high = absurd (omega arith)
-same-part n (s ∷ more) d low high = elim (cases_eq (n + 1) d) [
-  | inl is ↦ rw (eq-eqb (n + 1) d is) (ap (λ (k : ℕ). Some (same_pair k)) (back is))
-  | inr ne ↦ rw (ne_eqb (n + 1) d ne) (same-part (n + 1) more d (above ne low) (omega (arith, high)))
-]
-  where
-    back : n + 1 ≡ d → n ≡ d - 1
-    back is = omega (arith, is)
-
-    above : (n + 1 ≡ d → ⊥) → n + 1 ≤ d → n + 1 + 1 ≤ d
-    above ne le = omega (arith, ne, le)
+same-part n (s ∷ more) d low high = grind (arith, same-part (n + 1) more d)
 
 -- ---- an MPCW names a segment of its file
 
 proc-clean : (l : Listed) (e : Entry) (bits : ℕ) → proc_in e ≡ Some bits → AllFalse (broken_at l e) → (has_stray_bits l.program bits ≡ false) × (breaks_rule_8 l bits ≡ false)
-proc-clean l (Break place why) bits is h = absurd (none-some bits is)
-proc-clean l (At place o) bits is h = (
-  subst (λ (c : Option ℕ). holds_of c (has_stray_bits l.program) ≡ false) is h.1.1.1.1.0,
-  subst (λ (c : Option ℕ). holds_of c (breaks_rule_8 l) ≡ false) is h.1.1.1.1.1.0,
-)
+proc-clean l e bits is h = grind arith
 
 entry-clean : (l : Listed) (entries : List Entry) (e : Entry) → refusals_of l entries ≡ [] → Has entries e → AllFalse (broken_at l e)
 entry-clean l [] e none m = absurd m
-entry-clean l (d ∷ more) e none m =
-    let parts = append-none (refused l.number (place_of_entry d) (rules_at l d)) (refusals_of l more) none in
-    elim m [
-      | inl is ↦ subst (λ (x : Entry). AllFalse (broken_at l x)) is (entry-own l d (refused-none l.number (place_of_entry d) (rules_at l d) parts.0))
-      | inr k ↦ entry-clean l more e parts.1 k
-    ]
+entry-clean l (d ∷ more) e none m = grind (arith, append-none, entry-own, refused-none, entry-clean l more e)
 
 -- the pair that a PCW of an admitted file names
 own-pair : (file : Codefile) (i : ℕ) (s : Segment) (e : Entry) (bits : ℕ) → IsGood file → slice_get file.segments i ≡ Some s → Has (entries_in s) e → proc_in e ≡ Some bits
@@ -93,9 +67,7 @@ own-pair file i s e bits good at among is =
 -- the host keeps no segment
 none-kept : (pairs : List Pair) (n : ℕ) (segments : List Segment) → ((m : ℕ) → n ≤ m → m < n + length segments → pair_at pairs m ≡ Some (same_pair m)) → procs_from pairs n segments ≡ []
 none-kept pairs n [] h = refl
-none-kept pairs n (s ∷ more) h =
-    let own : pair_at pairs n ≡ Some (same_pair n) = h n (le_refl n) (omega arith) in
-    rw own (none-kept pairs (n + 1) more (λ m low high. h m (omega (arith, low)) (omega (arith, high))))
+none-kept pairs n (s ∷ more) h = grind (arith, none-kept pairs (n + 1) more)
 
 -- earlier pairs, of lower numbers
 abbrev Lower : ℕ → Pair → Type 0
@@ -103,10 +75,7 @@ Lower n b = (b.host < n) × (b.part < n)
 
 not_again : (before : List Pair) (n : ℕ) → AllByRecursion (Lower n) before → is_taken before (same_pair n) ≡ false
 not_again [] n h = refl
-not_again (b ∷ before) n h = rw (ne_eqb b.host n (lower b.host n h.0.0), ne_eqb b.part n (lower b.part n h.0.1)) (not_again before n h.1)
-  where
-    lower : (m n : ℕ) → m < n → m ≡ n → ⊥
-    lower m n lt e = omega (arith, lt, e)
+not_again (b ∷ before) n h = grind (arith, not_again before n h.1)
 
 more-lower : (before : List Pair) (n : ℕ) → AllByRecursion (Lower n) before → AllByRecursion (Lower (n + 1)) (before ++ same_pair n ∷ [])
 more-lower before n h = all_append (Lower (n + 1)) before (same_pair n ∷ []) (all_by (Lower n) (Lower (n + 1)) (λ b k. (omega (arith, k.0), omega (arith, k.1))) before h) ((omega arith, omega arith), tt)
@@ -161,8 +130,7 @@ unchanged-at f zero (x ∷ xs) h = ap (λ y. y ∷ xs) (h x refl)
 unchanged-at f (suc n) (x ∷ xs) h = ap (λ ys. x ∷ ys) (unchanged-at f n xs h)
 
 unchanged-one : {A : Type 0} (f : A → A) (o : Option ℕ) (xs : List A) → ((n : ℕ) (x : A) → o ≡ Some n → slice_get xs n ≡ Some x → f x ≡ x) → change_one f o xs ≡ xs
-unchanged-one f None xs h = refl
-unchanged-one f (Some n) xs h = unchanged-at f n xs (λ x e. h n x refl e)
+unchanged-one f o xs h = grind (arith, unchanged-at)
 
 unchanged-literals : {A : Type 0} (f : A → A) (entries : List Entry) (xs : List A) → ((e : Entry) (n : ℕ) (x : A) → Has entries e → literal_of e ≡ Some n → slice_get xs n ≡ Some x → f x ≡ x) → change_literals f entries xs ≡ xs
 unchanged-literals f [] xs h = refl
@@ -172,19 +140,13 @@ unchanged-literals f (e ∷ more) xs h =
 -- the PCW behind an MPCW
 literal-proc : (e : Entry) (n : ℕ) → literal_of e ≡ Some n → (bits : ℕ) × (proc_in e ≡ Some bits) × (n ≡ (place_of_entry e).word + 1)
 literal-proc (Break place why) n is = absurd (none-some n is)
-literal-proc (At place o) n is = at_proc (proc_bits o) refl is
-  where
-    at_proc : (c : Option ℕ) → proc_bits o ≡ c → option_map (λ (bits : ℕ). place.word + 1) c ≡ Some n → (bits : ℕ) × (proc_bits o ≡ Some bits) × (n ≡ place.word + 1)
-    at_proc None p is = absurd (none-some n is)
-    at_proc (Some bits) p is = (bits, p, sym (same_Some (place.word + 1) n is))
+literal-proc (At place o) n is = grind arith
 
 same-bits : (bits : ℕ) → 2 ≤ bits % 2 ^ 14 → bits / 2 ^ 14 * 2 ^ 14 + (bits % 2 ^ 14 - 1 + 1) ≡ bits
 same-bits bits low = omega arith
 
 rebound-same : (file : Codefile) (i : ℕ) (s : Segment) (e : Entry) (bits : ℕ) → IsGood file → slice_get file.segments i ≡ Some s → Has (entries_in s) e → proc_in e ≡ Some bits → rebound (same_pairs 1 file.segments) bits ≡ bits
-rebound-same file i s e bits good at m is =
-    let own = own-pair file i s e bits good at m is in
-    ap (λ (o : Option Pair). by_pair o bits) own.1 ∙ same-bits bits own.0
+rebound-same file i s e bits good at m is = grind (arith, own-pair)
 
 segment-same : (file : Codefile) (i : ℕ) (s : Segment) → IsGood file → slice_get file.segments i ≡ Some s → rebound_segment (same_pairs 1 file.segments) s ≡ s
 segment-same file i s good at =
@@ -225,8 +187,7 @@ segments-same file i (s ∷ more) good tail len =
     later i j = omega arith
 
 version-same : (v : ℕ) → (v ≡ 1) ⊎ (v ≡ 2) → cond (eqb v 2 || eqb v 2) 2 1 ≡ v
-version-same v (inl e) = rw e refl
-version-same v (inr e) = rw e refl
+version-same v h = grind arith
 
 pub itself-same : (file : Codefile) → IsGood file → bound (into_itself file) ≡ file
 unfolding bound

@@ -1,8 +1,7 @@
 -- The PCWs of a bound file.
-use Rattle.std.proofs.Common.{◌≡◌, ℕ, zero, suc, ◌+◌, ◌-◌, ◌*◌, ◌/◌, ◌%◌, ◌^◌, ◌<◌, ◌≤◌, true, false, not, eqb, ltb, ◌||◌, List, [], ◌∷◌, length, Option, Some, None, refl, sym, ap, subst, ◌∙◌, arith, inl, inr}
+use Rattle.std.proofs.Common.{◌≡◌, ℕ, zero, suc, ◌+◌, ◌-◌, ◌*◌, ◌/◌, ◌%◌, ◌^◌, ◌<◌, ◌≤◌, true, false, eqb, ◌||◌, List, [], ◌∷◌, length, Option, Some, None, refl, sym, ap, ◌∙◌, arith, inl, inr}
 use Rattle.std.specs.Prelude.{slice_get, is_none}
-use Rattle.std.specs.List.{cons_option}
-use Rattle.std.proofs.lemmas.Bool.{true≢false, eqb-true, eqb-false, eq-eqb, ne_eqb, ltb-true, lt-ltb, le-ltb, ltb-false, not-false, or_parts, cases_Bool}
+use Rattle.std.proofs.lemmas.Bool.{true≢false, eqb-true, or_parts}
 use Rattle.std.proofs.lemmas.Option.{same_Some, none-some, slice_get_within}
 use Rattle.b67_word.specs.Operands.{bit}
 use Rattle.b67_lemmas.specs.Lists.{Has}
@@ -13,7 +12,7 @@ use Rattle.b67_model.specs.Common.{Program, Entry, holds_of, named_segment, name
 use Rattle.b67_codefile.specs.declared.file.Segment.{Segment}
 use Rattle.b67_codefile.specs.Meaning.{segment_of, program_of}
 use Rattle.b67_bind.specs.declared.pairs.Pair.{Pair}
-use Rattle.b67_bind.specs.Reasons.{Binding, numbered, pair_at, pair_named, entries_in, proc_in, procs, kept_procs, procs_from, names_unpaired, enters_elsewhere}
+use Rattle.b67_bind.specs.Reasons.{Binding, numbered, pair_at, pair_named, entries_in, proc_in, procs, procs_from, names_unpaired, enters_elsewhere}
 use Rattle.b67_bind.specs.Bound.{by_pair, rebound, rebound_segment, from_part, placed_segment, bound_segments, bound}
 use Rattle.b67_bind.proofs.Passing.{Passes, Fits, each-fits, found-host}
 
@@ -42,74 +41,29 @@ level_of None = None
 level_of (Some s) = Some s.level
 
 named_some : (p : Program) (disp level place : ℕ) → 2 ≤ disp → (o : Option state.Segment) → slice_get p.segments (disp - 2) ≡ o → holds_of (level_of o) (λ n. eqb n level) ≡ true → may_begin_at o place ≡ true → Named p disp level place
-named_some p disp level place low None is e b = absurd (true≢false (sym e))
-named_some p disp level place low (Some s) is e b = record { low = low; named = s; found = is; of_level = eqb-true s.level level e; begins = b }
+named_some p disp level place low o is e b = grind arith
 
 named_by : (p : Program) (disp level place : ℕ) → holds_of (named_level p disp) (λ n. eqb n level) ≡ true → may_begin_at (named_segment p disp) place ≡ true → Named p disp level place
-named_by p disp level place e b = elim (cases_Bool (ltb disp 2)) [
-  | inl t ↦ let no : false ≡ true = rw t at e in absurd (true≢false (sym no))
-  | inr t ↦ named_some p disp level place (ltb-false disp 2 t) (slice_get p.segments (disp - 2)) refl (rw t at e) (rw t at b)
-]
+named_by p disp level place e b = grind arith
 
 pub proc-fits : (l : Listed) (bits : ℕ) → has_stray_bits l.program bits ≡ false → breaks_rule_8 l bits ≡ false → ProcFits l.program l.segment.level bits
-proc-fits l bits stray eight =
-    let p : Program = l.program in
-    let disp : ℕ = bits % 2 ^ 14 in
-    let level : ℕ = (bits / 2 ^ 14) % 2 ^ 5 in
-    let a = or_parts (not (ltb bits (2 ^ 36)) || not (eqb (bit 19 bits) 0)) (not (holds_of (named_level p disp) (λ n. true))) stray in
-    let b = or_parts (not (ltb bits (2 ^ 36))) (not (eqb (bit 19 bits) 0)) a.0 in
-    let c = or_parts (not (holds_of (named_level p disp) (λ n. eqb n level)) || not (eqb level (l.segment.level + 1))) (not (may_begin_at (named_segment p disp) (bits / 2 ^ 20))) eight in
-    let d = or_parts (not (holds_of (named_level p disp) (λ n. eqb n level))) (not (eqb level (l.segment.level + 1))) c.0 in
-    let named : Named p disp level (bits / 2 ^ 20) = named_by p disp level (bits / 2 ^ 20) (not-false (holds_of (named_level p disp) (λ n. eqb n level)) d.0) (not-false (may_begin_at (named_segment p disp) (bits / 2 ^ 20)) c.1) in
-    record {
-      small = ltb-true bits (2 ^ 36) (not-false (ltb bits (2 ^ 36)) b.0);
-      plain = eqb-true (bit 19 bits) 0 (not-false (eqb (bit 19 bits) 0) b.1);
-      low = named.low;
-      named = named.named;
-      found = named.found;
-      level = named.of_level;
-      above = eqb-true level (l.segment.level + 1) (not-false (eqb level (l.segment.level + 1)) d.1);
-      begins = named.begins;
-    }
+proc-fits l bits stray eight = grind (arith, or_parts, named_by, eqb-true)
 
 pub fits-proc : (l : Listed) (bits : ℕ) → ProcFits l.program l.segment.level bits → (has_stray_bits l.program bits ≡ false) × (breaks_rule_8 l bits ≡ false)
-fits-proc l bits h =
-    let high : ltb (bits % 2 ^ 14) 2 ≡ false = le-ltb (bits % 2 ^ 14) 2 h.low in
-    let small : ltb bits (2 ^ 36) ≡ true = lt-ltb bits (2 ^ 36) h.small in
-    let plain : eqb (bit 19 bits) 0 ≡ true = eq-eqb (bit 19 bits) 0 h.plain in
-    let level : eqb h.named.level ((bits / 2 ^ 14) % 2 ^ 5) ≡ true = eq-eqb h.named.level ((bits / 2 ^ 14) % 2 ^ 5) h.level in
-    let above : eqb ((bits / 2 ^ 14) % 2 ^ 5) (l.segment.level + 1) ≡ true = eq-eqb ((bits / 2 ^ 14) % 2 ^ 5) (l.segment.level + 1) h.above in
-    (rw (high, h.found, small, plain) refl, rw (high, h.found, level, above, h.begins) refl)
+fits-proc l bits h = grind arith
 
 -- ---- segments by their numbers
 
 pub numbered-get : {A : Type 0} (xs : List A) (n : ℕ) (x : A) → numbered xs n ≡ Some x → (1 ≤ n) × (slice_get xs (n - 1) ≡ Some x)
-numbered-get xs n x e = elim (cases_Bool (eqb n 0)) [
-  | inl t ↦ let no : None ≡ Some x = rw t at e in absurd (none-some x no)
-  | inr t ↦ (positive n (eqb-false n 0 t), rw t at e)
-]
-  where
-    positive : (n : ℕ) → (n ≡ 0 → ⊥) → 1 ≤ n
-    positive n h = omega (arith, h)
+numbered-get xs n x e = grind arith
 
 pub get-numbered : {A : Type 0} (xs : List A) (i : ℕ) → numbered xs (i + 1) ≡ slice_get xs i
-get-numbered xs i =
-    let some : eqb (i + 1) 0 ≡ false = ne_eqb (i + 1) 0 (above i) in
-    let back : i + 1 - 1 ≡ i = omega arith in
-    rw (some, back) refl
-  where
-    above : (i : ℕ) → i + 1 ≡ 0 → ⊥
-    above i e = omega (arith, e)
+get-numbered xs i = grind arith
 
 pub bound-get : (x : Binding) (n i : ℕ) (segments : List Segment) (s : Segment) → slice_get segments i ≡ Some s → slice_get (bound_segments x n segments) i ≡ Some (placed_segment x s (pair_at x.pairs (n + i)))
 bound-get x n i [] s e = absurd (none-some s e)
-bound-get x n zero (t ∷ more) s e =
-    let same : t ≡ s = same_Some t s e in
-    let here : n ≡ n + zero = omega arith in
-    ap Some (ap (λ (r : Segment). placed_segment x r (pair_at x.pairs n)) same ∙ ap (λ (m : ℕ). placed_segment x s (pair_at x.pairs m)) here)
-bound-get x n (suc i) (t ∷ more) s e =
-    let next : n + 1 + i ≡ n + suc i = omega arith in
-    bound-get x (n + 1) i more s e ∙ ap (λ (m : ℕ). Some (placed_segment x s (pair_at x.pairs m))) next
+bound-get x n zero (t ∷ more) s e = grind arith
+bound-get x n (suc i) (t ∷ more) s e = grind (arith, bound-get x (n + 1) i more s e)
 
 pub bound-length : (x : Binding) (n : ℕ) (segments : List Segment) → length (bound_segments x n segments) ≡ length segments
 bound-length x n [] = refl
@@ -131,27 +85,15 @@ paired-is x s a h = ap (from_part x.pairs s) h.at_part
 filtered : (entries : List Entry) (e : Entry) (bits : ℕ) → Has entries e → proc_in e ≡ Some bits → Has (procs entries) bits
 filtered [] e bits m is = absurd m
 filtered (d ∷ more) e bits (inl same) is = rw (ap proc_in same ∙ is) (inl refl)
-filtered (d ∷ more) e bits (inr m) is = at_proc (proc_in d) (filtered more e bits m is)
-  where
-    at_proc : (o : Option ℕ) → Has (procs more) bits → Has (cons_option o (procs more)) bits
-    at_proc None h = h
-    at_proc (Some n) h = inr h
+filtered (d ∷ more) e bits (inr m) is = grind (arith, filtered more e bits m is)
 
 kept-has : (pairs : List Pair) (n i : ℕ) (segments : List Segment) (s : Segment) (bits : ℕ) → slice_get segments i ≡ Some s → pair_at pairs (n + i) ≡ None → Has (procs (entries_in s)) bits → Has (procs_from pairs n segments) bits
 kept-has pairs n i [] s bits at none h = absurd (none-some s at)
-kept-has pairs n zero (t ∷ more) s bits at none h =
-    let here : n + zero ≡ n = omega arith in
-    let same : s ≡ t = sym (same_Some t s at) in
-    let own : pair_at pairs n ≡ None = ap (pair_at pairs) (sym here) ∙ none in
-    has_append_left (kept_procs (pair_at pairs n) t) (procs_from pairs (n + 1) more) bits (rw own (subst (λ (r : Segment). Has (procs (entries_in r)) bits) same h))
-kept-has pairs n (suc i) (t ∷ more) s bits at none h =
-    let next : n + 1 + i ≡ n + suc i = omega arith in
-    has_append_right (kept_procs (pair_at pairs n) t) (procs_from pairs (n + 1) more) bits (kept-has pairs (n + 1) i more s bits at (ap (pair_at pairs) next ∙ none) h)
+kept-has pairs n zero (t ∷ more) s bits at none h = grind (arith, has_append_left)
+kept-has pairs n (suc i) (t ∷ more) s bits at none h = grind (arith, has_append_right, kept-has pairs (n + 1) i more s bits)
 
 begins-there : (a : Pair) (t : Segment) (bits : ℕ) → enters_elsewhere a t bits ≡ false → bits % 2 ^ 14 ≡ a.host + 1 → may_begin_at (Some (segment_of t)) (bits / 2 ^ 20) ≡ true
-begins-there a t bits e is =
-    let named : eqb (bits % 2 ^ 14) (a.host + 1) ≡ true = eq-eqb (bits % 2 ^ 14) (a.host + 1) is in
-    not-false (may_begin_at (Some (segment_of t)) (bits / 2 ^ 20)) (rw named at e)
+begins-there a t bits e is = grind arith
 
 -- the bound file's segment that a kept PCW names is fit for it
 record Stands (x : Binding) (i : ℕ) (old : state.Segment) (place : ℕ) : Type 0 where

@@ -1,10 +1,10 @@
 -- The listing of code in which the literals of MPCWs are changed.
-use Rattle.std.proofs.Common.{◌≡◌, ℕ, zero, suc, ◌+◌, ◌-◌, ◌*◌, ◌/◌, ◌%◌, ◌^◌, ◌<◌, ◌≤◌, Bool, true, false, cond, ltb, leb, eqb, ◌&&◌, List, [], ◌∷◌, length, map, Option, Some, None, Ok, Err, refl, sym, ap, subst, ◌∙◌, arith, ◌⊎◌, inl, inr}
+use Rattle.std.proofs.Common.{◌≡◌, ℕ, zero, suc, ◌+◌, ◌-◌, ◌*◌, ◌/◌, ◌%◌, ◌^◌, ◌<◌, ◌≤◌, Bool, true, false, cond, ltb, ◌&&◌, List, [], ◌∷◌, length, map, Option, Some, None, Ok, Err, refl, sym, ap, subst, ◌∙◌, arith, ◌⊎◌, inl, inr}
 use Rattle.std.specs.Prelude.{option_map, slice_get, slice_index, unwrap_or}
 use Rattle.std.specs.List.{AllByRecursion}
 use Rattle.std.proofs.Math.Nat.{le_refl}
-use Rattle.std.proofs.lemmas.Bool.{leb-true, ltb-true, lt-ltb, and_parts, and_from}
-use Rattle.std.proofs.lemmas.Option.{none-some, slice_get-get_or, get_or_from_slice_get, unwrap_or-slice_get}
+use Rattle.std.proofs.lemmas.Bool.{ltb-true, lt-ltb, and_parts, and_from}
+use Rattle.std.proofs.lemmas.Option.{none-some, slice_get-get_or, unwrap_or-slice_get}
 use Rattle.b67_word.specs.declared.couples.Place.{Place}
 use Rattle.b67_lemmas.proofs.Joins.{all_by}
 use Rattle.b67_model.specs.declared.operators.Op.{Op}
@@ -34,11 +34,7 @@ AnyMakes (Some form) = FormMakes form
 
 form_in-makes : (rows : List (ℕ × Form)) (first : ℕ) → AllByRecursion (λ row. FormMakes row.1) rows → AnyMakes (form_in rows first)
 form_in-makes [] first h = tt
-form_in-makes (row ∷ rows) first h = at_test (eqb row.0 first) h.0 (form_in-makes rows first h.1)
-  where
-    at_test : (b : Bool) → FormMakes row.1 → AnyMakes (form_in rows first) → AnyMakes (cond b (Some row.1) (form_in rows first))
-    at_test true here there = here
-    at_test false here there = there
+form_in-makes (row ∷ rows) first h = grind (arith, form_in-makes rows first h.1)
 
 operators_make : AllByRecursion (λ row. FormMakes row.1) operators
 operators_make = (tt, (tt, (tt, (tt, (tt, (tt, (tt, (tt, (tt, (tt, (tt, (tt, (tt, (tt, (tt, (tt, (tt, ((λ n. refl), ((λ a b. refl), ((λ a b. refl), ((λ n. refl), ((λ a b. refl), ((λ a b. refl), ((λ a b. refl), (tt, (tt, (tt, (tt, (tt, (tt, (tt, (tt, (tt, ((λ n. refl), ((λ a b. refl), (tt, (tt, (tt, (tt, (tt, (tt, (tt, (inl (λ n. refl), (inr (λ n. refl), (tt, (tt, tt))))))))))))))))))))))))))))))))))))))))))))))
@@ -55,8 +51,7 @@ form_of-makes first = valc (ltb first 0x40)
     valc false = namc (ltb first 0x80)
 
 unchanged : (f : ℕ → ℕ) (o : Op) → proc_bits o ≡ None → change_op f o ≡ o
-unchanged f (op.Mpcw bits) e = absurd cc
-unchanged f _ e = refl
+unchanged f o e = grind arith
 
 -- ---- words that agree
 
@@ -89,21 +84,7 @@ done_next : (a b : Op) (p q : Place) → ◌≡◌ {A = Reading} (Ok (a, p)) (Ok
 done_next a b p q e = ap (λ (x : Op × Place). x.1) (done_same (a, p) (b, q) e)
 
 ends-again : (code : List ℕ) (end : ℕ) (o p : Op) (next : Place) → ends_at code end o ≡ Ok (p, next) → Ends code end o p next
-ends-again code end o p next e = at_test (leb end (6 * length code)) refl e
-  where
-    at_test : (b : Bool) → leb end (6 * length code) ≡ b → ◌≡◌ {A = Reading} (cond b (Ok (o, place_at end)) (Err PastEnd)) (Ok (p, next)) → Ends code end o p next
-    at_test false t e = absurd cc
-    at_test true t e =
-        let place : place_at end ≡ next = done_next o p (place_at end) next e in
-        record {
-          op_is = sym (done_op o p (place_at end) next e);
-          next_is = sym place;
-          within = leb-true end (6 * length code) t;
-          again = λ other q same. rw (same, t) (ap (λ (x : Place). done q x) place);
-        }
-      where
-        done : Op → Place → Reading
-        done q x = Ok (q, x)
+ends-again code end o p next e = grind arith
 
 -- code' agrees with code from a word to another but for one literal
 abbrev AgreesTo : (ℕ → ℕ) → (code other : List ℕ) → Option ℕ → (low high : ℕ) → Type 0
@@ -128,41 +109,15 @@ plain-again f code other n end o o' p next len e none same agree =
 literal-again : (f : ℕ → ℕ) (code other : List ℕ) (n : ℕ) (make : ℕ → Op) (p : Op) (next : Place) → length other ≡ length code → ((m : ℕ) → make m ≡ op.Mpcw m)
     → ends_at code (6 * (n / 6 + 2)) (make (slice_index code (n / 6 + 1))) ≡ Ok (p, next)
     → AgreesTo f code other (literal_in n p) (n / 6) next.word → ends_at other (6 * (n / 6 + 2)) (make (slice_index other (n / 6 + 1))) ≡ Ok (change_op f p, next)
-literal-again f code other n make p next len makes e agree =
-    let bits : ℕ = slice_index code (n / 6 + 1) in
-    let r : Ends code (6 * (n / 6 + 2)) (make bits) p next = ends-again code (6 * (n / 6 + 2)) (make bits) p next e in
-    let is : p ≡ op.Mpcw bits = r.op_is ∙ makes bits in
-    let word : next.word ≡ n / 6 + 2 = ap (λ (x : Place). x.word) r.next_is ∙ omega arith in
-    let inside : n / 6 + 1 < length code = omega (arith, r.within) in
-    let old : slice_get code (n / 6 + 1) ≡ Some bits = slice_get-get_or code (n / 6 + 1) 0 inside in
-    let literal : literal_in n p ≡ Some (n / 6 + 1) = ap (literal_in n) is in
-    let new : slice_get other (n / 6 + 1) ≡ Some (f bits) =
-    agree (n / 6 + 1) (omega arith) (omega (arith, word)) ∙ ap (λ (l : Option ℕ). slice_get (change_one f l code) (n / 6 + 1)) literal ∙ changed-here f (n / 6 + 1) code ∙ ap (option_map f) old in
-    let value : slice_index other (n / 6 + 1) ≡ f bits = get_or_from_slice_get other (n / 6 + 1) (f bits) 0 new in
-    let same : make (slice_index other (n / 6 + 1)) ≡ change_op f p = ap make value ∙ makes (f bits) ∙ sym (ap (change_op f) is) in
-    r.again other (make (slice_index other (n / 6 + 1))) len ∙ ap (λ (x : Op). done x) same
-  where
-    done : Op → Reading
-    done x = Ok (x, next)
+literal-again f code other n make p next len makes e agree = grind (arith, slice_get-get_or, changed-here)
 
 reads-again : (f : ℕ → ℕ) (code other : List ℕ) (n : ℕ) (form : Option Form) (p : Op) (next : Place) → AnyMakes form → length other ≡ length code → reads code n form ≡ Ok (p, next)
     → AgreesTo f code other (literal_in n p) (n / 6) next.word → reads other n form ≡ Ok (change_op f p, next)
 reads-again f code other n None p next h len e agree = absurd cc
 reads-again f code other n (Some (Alone c)) p next h len e agree = plain-again f code other n (n + 1) (op.Plain c) (op.Plain c) p next len e refl (λ a. refl) agree
-reads-again f code other n (Some (OneMore make)) p next h len e agree =
-    let word : next.word ≡ (n + 2) / 6 = ap (λ (x : Place). x.word) (ends-again code (n + 2) _ p next e).next_is in
-    plain-again f code other n (n + 2) (make (syllable code (n + 1))) (make (syllable other (n + 1))) p next len e (h (syllable code (n + 1)))
-    (λ a. ap make (syllable-same other code (n + 1) (a ((n + 1) / 6) (omega arith) (omega (arith, word))))) agree
-reads-again f code other n (Some (TwoMore make)) p next h len e agree =
-    let word : next.word ≡ (n + 3) / 6 = ap (λ (x : Place). x.word) (ends-again code (n + 3) _ p next e).next_is in
-    plain-again f code other n (n + 3) (make (syllable code (n + 1)) (syllable code (n + 2))) (make (syllable other (n + 1)) (syllable other (n + 2))) p next len e (h (syllable code (n + 1)) (syllable code (n + 2)))
-    (λ a.
-    ap (λ (x : ℕ). make x (syllable other (n + 2))) (syllable-same other code (n + 1) (a ((n + 1) / 6) (omega arith) (omega (arith, word)))) ∙
-    ap (make (syllable code (n + 1))) (syllable-same other code (n + 2) (a ((n + 2) / 6) (omega arith) (omega (arith, word))))) agree
-reads-again f code other n (Some (Literal make)) p next (inl h) len e agree =
-    let word : next.word ≡ n / 6 + 2 = ap (λ (x : Place). x.word) (ends-again code (6 * (n / 6 + 2)) _ p next e).next_is ∙ omega arith in
-    plain-again f code other n (6 * (n / 6 + 2)) (make (slice_index code (n / 6 + 1))) (make (slice_index other (n / 6 + 1))) p next len e (h (slice_index code (n / 6 + 1)))
-    (λ a. ap make (index-same other code (n / 6 + 1) (a (n / 6 + 1) (omega arith) (omega (arith, word))))) agree
+reads-again f code other n (Some (OneMore make)) p next h len e agree = grind (arith, syllable-same)
+reads-again f code other n (Some (TwoMore make)) p next h len e agree = grind (arith, syllable-same)
+reads-again f code other n (Some (Literal make)) p next (inl h) len e agree = grind (arith, index-same)
 reads-again f code other n (Some (Literal make)) p next (inr h) len e agree = literal-again f code other n make p next len h e agree
 
 -- an MPCW's literal stands before the place behind it
@@ -170,22 +125,11 @@ no_literal : (o p : Op) (n k : ℕ) → proc_bits o ≡ None → p ≡ o → lit
 no_literal o p n k none is l = none-some k (sym (ap (λ (x : Option ℕ). option_map (λ (bits : ℕ). n / 6 + 1) x) (ap proc_bits is ∙ none)) ∙ l)
 
 reads-literal : (code : List ℕ) (n k : ℕ) (form : Option Form) (p : Op) (next : Place) → AnyMakes form → reads code n form ≡ Ok (p, next) → literal_in n p ≡ Some k → k < next.word
-reads-literal code n k None p next h e l = absurd cc
-reads-literal code n k (Some (Alone c)) p next h e l = absurd (no_literal _ p n k refl (ends-again code (n + 1) (op.Plain c) p next e).op_is l)
-reads-literal code n k (Some (OneMore make)) p next h e l = absurd (no_literal _ p n k (h (syllable code (n + 1))) (ends-again code (n + 2) _ p next e).op_is l)
-reads-literal code n k (Some (TwoMore make)) p next h e l = absurd (no_literal _ p n k (h (syllable code (n + 1)) (syllable code (n + 2))) (ends-again code (n + 3) _ p next e).op_is l)
-reads-literal code n k (Some (Literal make)) p next h e l =
-    let word : next.word ≡ (6 * (n / 6 + 2)) / 6 = ap (λ (x : Place). x.word) (ends-again code (6 * (n / 6 + 2)) _ p next e).next_is in
-    let is : k ≡ n / 6 + 1 = literal-is (proc_bits p) (n / 6) k l in
-    omega (arith, word, is)
+reads-literal code n k form p next h e l = grind arith
 
 -- where nothing is read, nothing is read again
 ends-none : (code other : List ℕ) (end : ℕ) (o p : Op) (why : Undecodable) → length other ≡ length code → ends_at code end o ≡ Err why → ends_at other end p ≡ Err why
-ends-none code other end o p why len e = rw len (at_test (leb end (6 * length code)) e)
-  where
-    at_test : (b : Bool) → ◌≡◌ {A = Reading} (cond b (Ok (o, place_at end)) (Err PastEnd)) (Err why) → ◌≡◌ {A = Reading} (cond b (Ok (p, place_at end)) (Err PastEnd)) (Err why)
-    at_test true e = absurd cc
-    at_test false e = e
+ends-none code other end o p why len e = grind arith
 
 reads-none : (code other : List ℕ) (n : ℕ) (form : Option Form) (why : Undecodable) → length other ≡ length code → reads code n form ≡ Err why → reads other n form ≡ Err why
 reads-none code other n None why len e = e
@@ -200,14 +144,10 @@ read_test : (code : List ℕ) (at : Place) (b : Bool) → (ltb at.syllable 6 && 
 read_test code at b t = rw t refl
 
 same_first : (f : ℕ → ℕ) (code other : List ℕ) (at : Place) → at.syllable < 6 → slice_get other at.word ≡ slice_get code at.word → syllable other (count_at at) ≡ syllable code (count_at at)
-same_first f code other at lt e =
-    let word : at.word ≡ count_at at / 6 = omega arith in
-    syllable-same other code (count_at at) (subst (λ (k : ℕ). slice_get other k ≡ slice_get code k) word e)
+same_first f code other at lt e = grind (arith, syllable-same)
 
 literal_place : (at : Place) (p : Op) → at.syllable < 6 → literal_of (At at p) ≡ literal_in (count_at at) p
-literal_place at p lt =
-    let word : at.word ≡ count_at at / 6 = omega arith in
-    ap (λ (k : ℕ). option_map (λ (bits : ℕ). k + 1) (proc_bits p)) word
+literal_place at p lt = grind arith
 
 later_word : (code : List ℕ) (at : Place) (p : Op) (next : Place) → operator_at code at ≡ Ok (p, next) → at.word ≤ next.word
 later_word code at p next e = let is = operator_at-is code at (p, next) e in omega (arith, is.after, is.syllable)
@@ -220,9 +160,7 @@ test_of code at h = and_from (ltb at.syllable 6) (ltb at.word (length code)) (lt
 
 other_read : (f : ℕ → ℕ) (code other : List ℕ) (at : Place) → IsPlaceIn code at → length other ≡ length code → slice_get other at.word ≡ slice_get code at.word
     → operator_at other at ≡ reads other (count_at at) (form_of (syllable code (count_at at)))
-other_read f code other at inside len e =
-    let test : (ltb at.syllable 6 && ltb at.word (length other)) ≡ true = rw len (test_of code at inside) in
-    read_test other at true test ∙ ap (λ (x : ℕ). reads other (count_at at) (form_of x)) (same_first f code other at inside.syllable e)
+other_read f code other at inside len e = grind (arith, test_of, same_first)
 
 own_read : (code : List ℕ) (at : Place) → IsPlaceIn code at → operator_at code at ≡ reads code (count_at at) (form_of (syllable code (count_at at)))
 own_read code at inside = read_test code at true (test_of code at inside)
@@ -306,16 +244,7 @@ makes_some : (o p : Op) (bits : ℕ) → proc_bits o ≡ None → p ≡ o → pr
 makes_some o p bits none is e = none-some bits (sym (ap proc_bits is ∙ none) ∙ e)
 
 reads-word : (code : List ℕ) (n bits : ℕ) (form : Option Form) (p : Op) (next : Place) → AnyMakes form → reads code n form ≡ Ok (p, next) → proc_bits p ≡ Some bits → slice_get code (n / 6 + 1) ≡ Some bits
-reads-word code n bits None p next h e b = absurd cc
-reads-word code n bits (Some (Alone c)) p next h e b = absurd (makes_some (op.Plain c) p bits refl (ends-again code (n + 1) (op.Plain c) p next e).op_is b)
-reads-word code n bits (Some (OneMore make)) p next h e b = absurd (makes_some _ p bits (h (syllable code (n + 1))) (ends-again code (n + 2) _ p next e).op_is b)
-reads-word code n bits (Some (TwoMore make)) p next h e b = absurd (makes_some _ p bits (h (syllable code (n + 1)) (syllable code (n + 2))) (ends-again code (n + 3) _ p next e).op_is b)
-reads-word code n bits (Some (Literal make)) p next (inl h) e b = absurd (makes_some _ p bits (h (slice_index code (n / 6 + 1))) (ends-again code (6 * (n / 6 + 2)) _ p next e).op_is b)
-reads-word code n bits (Some (Literal make)) p next (inr h) e b =
-    let r : Ends code (6 * (n / 6 + 2)) (make (slice_index code (n / 6 + 1))) p next = ends-again code (6 * (n / 6 + 2)) (make (slice_index code (n / 6 + 1))) p next e in
-    let inside : n / 6 + 1 < length code = omega (arith, r.within) in
-    let is : Some (slice_index code (n / 6 + 1)) ≡ Some bits = sym (ap proc_bits (r.op_is ∙ h (slice_index code (n / 6 + 1)))) ∙ b in
-    slice_get-get_or code (n / 6 + 1) 0 inside ∙ is
+reads-word code n bits form p next h e b = grind (arith, slice_get-get_or)
 
 pub record HoldsLiteral (code : List ℕ) (e : Entry) : Type 0 where
   pub word : (bits : ℕ) → proc_in e ≡ Some bits → slice_get code ((place_of_entry e).word + 1) ≡ Some bits

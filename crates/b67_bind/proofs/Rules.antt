@@ -1,5 +1,5 @@
 -- A segment that breaks no rule, and one that is alike but for the PCWs of its MPCWs.
-use Rattle.std.proofs.Common.{◌≡◌, ℕ, zero, suc, ◌+◌, ◌*◌, ◌≤◌, Bool, true, false, not, cond, eqb, ltb, ◌&&◌, lit<, List, [], ◌∷◌, ◌++◌, length, map, filter, Option, Some, None, Err, Ok, refl, sym, ap, subst, ◌∙◌, arith, inl, inr}
+use Rattle.std.proofs.Common.{◌≡◌, ℕ, zero, suc, ◌+◌, ◌*◌, ◌≤◌, Bool, true, false, not, cond, eqb, ltb, ◌&&◌, lit<, List, [], ◌∷◌, ◌++◌, length, map, Option, Some, None, Err, Ok, refl, sym, ap, subst, ◌∙◌, arith, inl, inr}
 use Rattle.std.specs.Prelude.{option_map, slice_get}
 use Rattle.std.specs.List.{AllByRecursion}
 use Rattle.std.proofs.lemmas.Option.{none-some}
@@ -7,7 +7,6 @@ use Rattle.b67_word.specs.declared.couples.Place.{Place}
 use Rattle.b67_word.specs.Couples.{couple}
 use Rattle.b67_lemmas.specs.Lists.{Has}
 use Rattle.b67_model.specs.declared.operators.Op.{Op}
-use Rattle.b67_model.specs.declared.operators.Op.TheVariants as op
 use Rattle.b67_model.specs.declared.operators.Undecodable.TheVariants.{BadPlace, NotAdmitted, PastEnd}
 use Rattle.b67_model.specs.Common.{Segment, Reading, operator_at, place_of_bits, Program, Entry, At, Break, entries_from, listing, origin, place_of_entry, same_place, is_start, is_last, is_outside, target_of, couple_bits, proc_bits, may_be_last, holds_of, holds_at, has_stray_bits, breaks_rule_8, broken_at, broken_in, Listed, Refusal, refused, refusals_of, wrong_entries, refusals_from, IsAdmitted}
 use Rattle.b67_load_verify.specs.Broken.{rules_at}
@@ -28,11 +27,7 @@ told number place t = record { segment = number; place = place; rule = t.0 }
 
 pub refused-none : (number : ℕ) (place : Place) (tests : List (ℕ × Bool)) → refused number place tests ≡ [] → AllFalse tests
 refused-none number place [] e = tt
-refused-none number place (t ∷ tests) e = at_test t.1 refl (refused-none number place tests) e
-  where
-    at_test : (b : Bool) → t.1 ≡ b → (refused number place tests ≡ [] → AllFalse tests) → map (told number place) (cond b (t ∷ filter (λ (t : ℕ × Bool). t.1) tests) (filter (λ (t : ℕ × Bool). t.1) tests)) ≡ [] → AllFalse (t ∷ tests)
-    at_test true is more e = absurd (nothing _ _ e)
-    at_test false is more e = (is, more e)
+refused-none number place (t ∷ tests) e = grind (arith, refused-none number place tests)
 
 pub none-refused : (number : ℕ) (place : Place) (tests : List (ℕ × Bool)) → AllFalse tests → refused number place tests ≡ []
 none-refused number place [] h = refl
@@ -67,11 +62,7 @@ entry-own l e h = at_test (same_place (place_of_entry e) origin) h
     at_test false h = h
 
 entry-whole : (l : Listed) (e : Entry) → AllFalse (broken_at l e) → AllFalse (broken_in l) → AllFalse (rules_at l e)
-entry-whole l e h k = at_test (same_place (place_of_entry e) origin)
-  where
-    at_test : (b : Bool) → AllFalse (cond b (broken_at l e ++ broken_in l) (broken_at l e))
-    at_test true = all-both (broken_at l e) (broken_in l) h k
-    at_test false = h
+entry-whole l e h k = grind arith
 
 -- ---- of a segment
 
@@ -107,20 +98,8 @@ level-clean p n s some h =
 
 pub segments-clean : (p : Program) (n i : ℕ) (segments : List Segment) (s : Segment) → refusals_from p n segments ≡ [] → slice_get segments i ≡ Some s → IsClean (listed_in p (n + i) s)
 segments-clean p n i [] s e at = absurd (none-some s at)
-segments-clean p n zero (t ∷ more) s e at =
-    let own = append-none _ (refusals_from p (n + 1) more) e in
-    let parts = append-none (refusals_of (listed_in p n t) (listing t.code)) (wrong_entries (listed_in p n t) t.entries) own.0 in
-    let same : t ≡ s = cc in
-    subst (λ (r : Segment). IsClean (listed_in p (n + zero) r)) same (subst (λ (m : ℕ). IsClean (listed_in p m t)) (here n) (record { places = parts.0; entries = parts.1 }))
-  where
-    here : (n : ℕ) → n ≡ n + zero
-    here n = omega arith
-segments-clean p n (suc i) (t ∷ more) s e at =
-    let own = append-none _ (refusals_from p (n + 1) more) e in
-    subst (λ (m : ℕ). IsClean (listed_in p m s)) (next n i) (segments-clean p (n + 1) i more s own.1 at)
-  where
-    next : (n i : ℕ) → n + 1 + i ≡ n + suc i
-    next n i = omega arith
+segments-clean p n zero (t ∷ more) s e at = grind (arith, append-none)
+segments-clean p n (suc i) (t ∷ more) s e at = grind (arith, append-none, segments-clean p (n + 1) i more s)
 
 pub clean-segments : (p : Program) (n : ℕ) (segments : List Segment) → ((i : ℕ) (s : Segment) → slice_get segments i ≡ Some s → IsClean (listed_in p (n + i) s)) → refusals_from p n segments ≡ []
 clean-segments p n [] h = refl
@@ -143,11 +122,7 @@ program-clean p i s e at = segments-clean p 1 i p.segments s (at_test (eqb (leng
     at_test false e = e
 
 pub some-segments : (p : Program) → IsAdmitted p → eqb (length p.segments) 0 ≡ false
-some-segments p e = at_test (eqb (length p.segments) 0) refl e
-  where
-    at_test : (b : Bool) → eqb (length p.segments) 0 ≡ b → cond b (record { segment = 0; place = origin; rule = 10 } ∷ []) (refusals_from p 1 p.segments) ≡ [] → eqb (length p.segments) 0 ≡ false
-    at_test true t e = absurd (nothing _ _ e)
-    at_test false t e = t
+some-segments p e = grind arith
 
 pub clean-program : (p : Program) → eqb (length p.segments) 0 ≡ false → ((i : ℕ) (s : Segment) → slice_get p.segments i ≡ Some s → IsClean (listed_in p (1 + i) s)) → IsAdmitted p
 clean-program p some h = rw some (clean-segments p 1 p.segments h)
@@ -161,24 +136,19 @@ pub record Alike (f : ℕ → ℕ) (l m : Listed) : Type 0 where
   pub entries : m.entries ≡ map (change_entry f) l.entries
 
 changed-target : (f : ℕ → ℕ) (o : Op) → target_of (change_op f o) ≡ target_of o
-changed-target f (op.Mpcw bits) = refl
-changed-target f _ = refl
+changed-target f o = grind arith
 
 changed-couple : (f : ℕ → ℕ) (o : Op) → couple_bits (change_op f o) ≡ couple_bits o
-changed-couple f (op.Mpcw bits) = refl
-changed-couple f _ = refl
+changed-couple f o = grind arith
 
 changed-last : (f : ℕ → ℕ) (o : Op) → may_be_last (change_op f o) ≡ may_be_last o
-changed-last f (op.Mpcw bits) = refl
-changed-last f _ = refl
+changed-last f o = grind arith
 
 changed-proc : (f : ℕ → ℕ) (o : Op) → proc_bits (change_op f o) ≡ option_map f (proc_bits o)
-changed-proc f (op.Mpcw bits) = refl
-changed-proc f _ = refl
+changed-proc f o = grind arith
 
 changed-place : (f : ℕ → ℕ) (e : Entry) → place_of_entry (change_entry f e) ≡ place_of_entry e
-changed-place f (At place o) = refl
-changed-place f (Break place why) = refl
+changed-place f e = grind arith
 
 changed-start : (f : ℕ → ℕ) (entries : List Entry) (place : Place) → is_start (map (change_entry f) entries) place ≡ is_start entries place
 changed-start f [] place = refl

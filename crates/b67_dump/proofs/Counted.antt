@@ -1,5 +1,5 @@
 -- Turns of the count of marks.
-use Rattle.std.proofs.Common.{◌≡◌, ℕ, zero, suc, ◌+◌, ◌-◌, ◌<◌, List, length, ◌∙◌, ap, arith}
+use Rattle.std.proofs.Common.{◌≡◌, ℕ, zero, suc, ◌+◌, ◌-◌, ◌<◌, List, length, ◌∙◌, arith}
 use Rattle.b67_word.specs.Tagged.{Tagged, bits_at}
 use Rattle.b67_layout_shown.specs.Reading.{word_seen_at}
 use Rattle.b67_dump.specs.Walk.{marks_by, marks_in}
@@ -9,35 +9,25 @@ pub record HasPassed (core : List Tagged) (turns mark turn at : ℕ) : Type 0 wh
   pub number : length (marks_in core turns mark) ≡ turn + length (marks_in core (turns - turn) at)
 
 pub none_passed : (core : List Tagged) (turns mark : ℕ) → HasPassed core turns mark 0 mark
-none_passed core turns mark =
-    let all : length (marks_in core turns mark) ≡ length (marks_in core (turns - 0) mark) = ap (λ n. length (marks_in core n mark)) (let e : turns ≡ turns - 0 = omega arith in e) in
-    record { number = omega (arith, all) }
+none_passed core turns mark = grind arith
 
 turn_is : (core : List Tagged) (turns turn at back : ℕ) → turn < turns → bits_at (word_seen_at core at) 0 14 ≡ back
     → length (marks_in core (turns - turn) at) ≡ suc (length (marks_by back (λ d. marks_in core (turns - (turn + 1)) (at - d))))
 unfolding marks_in
-turn_is core turns turn at back low e =
-    let next : turns - turn ≡ suc (turns - (turn + 1)) = omega arith in
-    ap (λ n. length (marks_in core n at)) next ∙ ap (λ b. suc (length (marks_by b (λ d. marks_in core (turns - (turn + 1)) (at - d))))) e
+turn_is core turns turn at back low e = grind arith
 
 pub last_passed : (core : List Tagged) (turns mark turn at back : ℕ) → HasPassed core turns mark turn at → turn < turns → bits_at (word_seen_at core at) 0 14 ≡ back → back ≡ 0
     → turn + 1 ≡ length (marks_in core turns mark)
 last_passed core turns mark turn at back h low e z =
     let one = turn_is core turns turn at 0 low (e ∙ z) in
-    let number = h.number in
-    omega (arith, one, number)
+    grind arith
 
 pub one_passed : (core : List Tagged) (turns mark turn at back : ℕ) → HasPassed core turns mark turn at → turn < turns → bits_at (word_seen_at core at) 0 14 ≡ back → 0 < back → HasPassed core turns mark (turn + 1) (at - back)
 one_passed core turns mark turn at zero h low e some = absurd (omega (arith, some))
 one_passed core turns mark turn at (suc back) h low e some =
     let one = turn_is core turns turn at (suc back) low e in
-    let number = h.number in
-    record { number = omega (arith, one, number) }
+    grind arith
 
 pub all_passed : (core : List Tagged) (turns mark turn at : ℕ) → HasPassed core turns mark turn at → turns ≡ turn → turns ≡ length (marks_in core turns mark)
 unfolding marks_in
-all_passed core turns mark turn at h e =
-    let none : turns - turn ≡ 0 = omega (arith, e) in
-    let left : length (marks_in core (turns - turn) at) ≡ 0 = ap (λ n. length (marks_in core n at)) none in
-    let number = h.number in
-    omega (arith, e, left, number)
+all_passed core turns mark turn at h e = grind arith

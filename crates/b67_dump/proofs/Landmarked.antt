@@ -37,5 +37,4 @@ end_over k slot block home low e = let starts = ap (slot_start k) (slot_of_place
 
 pub known_at : (k : Sight) (xs : List Landmark) (slot block : ℕ) (x : Landmark) → AreLandmarks k xs → block < 128 → slice_get xs (slot * 128 + (127 - block)) ≡ Some x
     → IsKnown k.core (block_end k (slot * 128 + (127 - block))) (marks_of_slot k slot) x
-known_at k xs slot block x h low e =
-    subst (λ n. IsKnown k.core (block_end k (slot * 128 + (127 - block))) (marks_of_slot k n) x) (slot_of_place slot block low) (h.each (slot * 128 + (127 - block)) x e)
+known_at k xs slot block x h low e = grind arith

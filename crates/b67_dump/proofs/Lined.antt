@@ -15,10 +15,7 @@ bit_clear w n b e other = ne_eqb (bits_at w n 1) 1 (λ one. other (e ∙ one))
 
 -- a place is what its number says
 pub place_back : (k : Sight) (job stack disp : ℕ) → disp < 2 ^ 16 → record_at k job (record { stack = stack; disp = disp }) ≡ record_at k job (place_of_number (number_of_place (record { stack = stack; disp = disp })))
-place_back k job stack disp low =
-    let high : stack ≡ (stack * 2 ^ 16 + disp) / 2 ^ 16 = omega (arith, low) in
-    let rest : disp ≡ (stack * 2 ^ 16 + disp) % 2 ^ 16 = omega (arith, low) in
-    ap (λ n. record_at k job (record { stack = n; disp = disp })) high ∙ ap (λ n. record_at k job (record { stack = (stack * 2 ^ 16 + disp) / 2 ^ 16; disp = n })) rest
+place_back k job stack disp low = grind arith
 
 -- ---- texts that are appended one after the other
 
@@ -32,9 +29,7 @@ pub four : (line a b c d : List ℕ) {l1 l2 l3 r : List ℕ} → r ≡ l3 ++ d �
 four line a b c d t s q p = two line (a ++ (b ++ c)) d t (three line a b c s q p) ∙ ap (λ t. line ++ t) (append_assoc a (b ++ c) d ∙ ap (λ t. a ++ t) (append_assoc b c d))
 
 pub five : (line a b c d e : List ℕ) {l1 l2 l3 l4 r : List ℕ} → r ≡ l4 ++ e → l4 ≡ l3 ++ d → l3 ≡ l2 ++ c → l2 ≡ l1 ++ b → l1 ≡ line ++ a → r ≡ line ++ (a ++ (b ++ (c ++ (d ++ e))))
-five line a b c d e u t s q p =
-    two line (a ++ (b ++ (c ++ d))) e u (four line a b c d t s q p)
-    ∙ ap (λ t. line ++ t) (append_assoc a (b ++ (c ++ d)) e ∙ ap (λ t. a ++ t) (append_assoc b (c ++ d) e ∙ ap (λ t. b ++ t) (append_assoc c d e)))
+five line a b c d e u t s q p = grind (arith, append_assoc)
 
 -- a front that is known
 pub opened : (t : List ℕ) {z l r : List ℕ} → r ≡ l ++ t → l ≡ z → r ≡ z ++ t

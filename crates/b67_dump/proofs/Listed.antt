@@ -1,5 +1,5 @@
 -- Records and cells in lists, by their identity.
-use Rattle.std.proofs.Common.{◌≡◌, ◌≢◌, ℕ, zero, suc, ◌+◌, ◌≤◌, ◌==◌, Bool, true, false, List, [], ◌∷◌, ◌++◌, map, length, Option, Some, None, refl, sym, ◌∙◌, ap, subst, arith, inl, inr}
+use Rattle.std.proofs.Common.{◌≡◌, ◌≢◌, ℕ, zero, suc, ◌+◌, ◌≤◌, ◌==◌, Bool, List, [], ◌∷◌, ◌++◌, map, length, Option, Some, None, refl, ◌∙◌, ap, arith, inl, inr}
 use Rattle.std.specs.Prelude.{◌⊎◌, if◌then◌else◌}
 use Rattle.std.proofs.lemmas.Bool.{ne_eqb}
 use Rattle.std.proofs.lemmas.Bool.Decides.{eqb_tells}
@@ -36,69 +36,37 @@ own_or_outer (f ∷ below) outer k (inr h) = elim (own_or_outer below outer k h)
 
 pub from_short : (c : ℕ) (fs : List Frame) → length (from_frame c fs) ≤ length fs
 from_short c [] = omega arith
-from_short c (f ∷ below) = by (f.identity == c) (from_short c below) where
-  by : (b : Bool) → length (from_frame c below) ≤ length below → length (if b then f ∷ below else from_frame c below) ≤ suc (length below)
-  by true h = omega arith
-  by false h = omega (arith, h)
+from_short c (f ∷ below) = grind (arith, from_short c below)
 
 pub from_height : (c : ℕ) (fs : List Frame) → height (from_frame c fs) ≤ height fs
 from_height c [] = omega arith
-from_height c (f ∷ below) = by (f.identity == c) (from_height c below) where
-  by : (b : Bool) → height (from_frame c below) ≤ height below → height (if b then f ∷ below else from_frame c below) ≤ height (f ∷ below)
-  by true h = omega arith
-  by false h = omega (arith, h)
+from_height c (f ∷ below) = grind (arith, from_height c below)
 
 -- from a record down, and from there from another one down
 pub from_twice : (c crit bound : ℕ) (fs : List Frame) → Falls bound (identities fs) → Has (identities (from_frame crit fs)) c → (from_frame c (from_frame crit fs) ≡ from_frame c fs) × Has (identities fs) c
 from_twice c crit bound [] falls h = absurd h
-from_twice c crit bound (f ∷ below) falls h = by (f.identity == crit) h (λ i. from_twice c crit f.identity below falls.1 i) where
-  by : (b : Bool) → Has (identities (if b then f ∷ below else from_frame crit below)) c → (Has (identities (from_frame crit below)) c → (from_frame c (from_frame crit below) ≡ from_frame c below) × Has (identities below) c)
-      → (from_frame c (if b then f ∷ below else from_frame crit below) ≡ from_frame c (f ∷ below)) × Has (identities (f ∷ below)) c
-  by true i rest = (refl, i)
-  by false i rest =
-      let r = rest i in
-      let low = falls_low f.identity (identities below) c falls.1 r.1 in
-      (r.0 ∙ ap (λ (b : Bool). if b then f ∷ below else from_frame c below) (sym (ne_eqb f.identity c (λ e. omega (arith, e, low)))), inr r.1)
+from_twice c crit bound (f ∷ below) falls h = grind (arith, falls_low, from_twice c crit f.identity below falls.1)
 
 pub from_falls : (crit bound : ℕ) (fs : List Frame) → Falls bound (identities fs) → Falls bound (identities (from_frame crit fs))
 from_falls crit bound [] falls = tt
-from_falls crit bound (f ∷ below) falls = by (f.identity == crit) (from_falls crit f.identity below falls.1) where
-  by : (b : Bool) → Falls f.identity (identities (from_frame crit below)) → Falls bound (identities (if b then f ∷ below else from_frame crit below))
-  by true h = falls
-  by false h = falls_more f.identity bound (identities (from_frame crit below)) (let z = falls.0 in omega (arith, z)) h
+from_falls crit bound (f ∷ below) falls = grind (arith, falls_more, from_falls crit f.identity below falls.1)
 
 found_from : (number c : ℕ) (fs : List Frame) (more : Option LiveRecord) → Has (identities fs) c → record_by number (from_frame c fs) more ≡ Some (record { task = number; down = from_frame c fs })
 found_from number c [] more h = absurd h
-found_from number c (f ∷ below) more h = by (eqb_tells f.identity c) h (λ i. found_from number c below more i) where
-  by : ((f.identity == c ≡ true) × (f.identity ≡ c)) ⊎ ((f.identity == c ≡ false) × (f.identity ≢ c)) → Has (identities (f ∷ below)) c
-      → (Has (identities below) c → record_by number (from_frame c below) more ≡ Some (record { task = number; down = from_frame c below }))
-      → record_by number (from_frame c (f ∷ below)) more ≡ Some (record { task = number; down = from_frame c (f ∷ below) })
-  by (inl q) i rest = subst (λ (b : Bool). record_by number (if b then f ∷ below else from_frame c below) more ≡ Some (record { task = number; down = if b then f ∷ below else from_frame c below })) (sym q.0) refl
-  by (inr q) (inl e) rest = absurd (q.1 e)
-  by (inr q) (inr i) rest = subst (λ (b : Bool). record_by number (if b then f ∷ below else from_frame c below) more ≡ Some (record { task = number; down = if b then f ∷ below else from_frame c below })) (sym q.0) (rest i)
+found_from number c (f ∷ below) more h = grind (arith, found_from number c below more)
 
 none_from : (c : ℕ) (fs : List Frame) → frames_named c fs ≡ 0 → from_frame c fs ≡ []
 none_from c [] h = refl
-none_from c (f ∷ below) h = by (eqb_tells f.identity c) (λ z. none_from c below z) where
-  by : ((f.identity == c ≡ true) × (f.identity ≡ c)) ⊎ ((f.identity == c ≡ false) × (f.identity ≢ c)) → (frames_named c below ≡ 0 → from_frame c below ≡ []) → from_frame c (f ∷ below) ≡ []
-  by (inl q) rest = let one : 1 + frames_named c below ≡ 0 = subst (λ (b : Bool). (if b then 1 else 0) + frames_named c below ≡ 0) q.0 h in absurd (omega (arith, one))
-  by (inr q) rest =
-      let none : 0 + frames_named c below ≡ 0 = subst (λ (b : Bool). (if b then 1 else 0) + frames_named c below ≡ 0) q.0 h in
-      ap (λ (b : Bool). if b then f ∷ below else from_frame c below) q.0 ∙ rest (omega (arith, none))
+none_from c (f ∷ below) h = grind (arith, none_from c below)
 
 some_named : (c : ℕ) (fs : List Frame) → Has (identities fs) c → 1 ≤ frames_named c fs
 some_named c [] h = absurd h
-some_named c (f ∷ below) h = by (eqb_tells f.identity c) h (λ i. some_named c below i) where
-  by : ((f.identity == c ≡ true) × (f.identity ≡ c)) ⊎ ((f.identity == c ≡ false) × (f.identity ≢ c)) → Has (identities (f ∷ below)) c → (Has (identities below) c → 1 ≤ frames_named c below) → 1 ≤ frames_named c (f ∷ below)
-  by (inl q) i rest = subst (λ (b : Bool). 1 ≤ (if b then 1 else 0) + frames_named c below) (sym q.0) (omega arith)
-  by (inr q) (inl e) rest = absurd (q.1 e)
-  by (inr q) (inr i) rest = subst (λ (b : Bool). 1 ≤ (if b then 1 else 0) + frames_named c below) (sym q.0) (let r = rest i in omega (arith, r))
+some_named c (f ∷ below) h = grind (arith, some_named c below)
 
 pub among_live : (ts : List Task) (u : Task) (c : ℕ) → Has ts u → Has (identities u.frames) c → total (λ (t : Task). frames_named c t.frames) ts ≤ 1
     → record_among ts c ≡ Some (record { task = u.number; down = from_frame c u.frames })
 among_live [] u c there h once = absurd there
-among_live (v ∷ ts) u c (inl e) h once =
-    subst (λ (t : Task). record_by t.number (from_frame c t.frames) (record_among ts c) ≡ Some (record { task = u.number; down = from_frame c u.frames })) (sym e) (found_from u.number c u.frames (record_among ts c) h)
+among_live (v ∷ ts) u c (inl e) h once = grind (arith, found_from)
 among_live (v ∷ ts) u c (inr there) h once =
     let one = some_named c u.frames h in
     let all = total_has (λ (t : Task). frames_named c t.frames) ts u there in
@@ -126,12 +94,4 @@ words_long (suc rows) n = let rest = words_long rows n in omega (arith, rest)
 
 pub offset_rows : (rows n array : ℕ) → 1 ≤ array → array ≤ rows → offset_of_original array (row_cells rows ++ segment_cells n) ≡ 1 + n + array
 offset_rows zero n array low high = absurd (omega (arith, low, high))
-offset_rows (suc rows) n array low high = elim (eqb_tells (suc rows) array) [
-  | inl q ↦
-      let long = words_long rows n in
-      let is = q.1 in
-      ap (λ (b : Bool). if b then 2 + length (row_cells rows ++ segment_cells n) else offset_of_original array (row_cells rows ++ segment_cells n)) q.0 ∙ omega (arith, long, is)
-  | inr q ↦
-      let ne = q.1 in
-      ap (λ (b : Bool). if b then 2 + length (row_cells rows ++ segment_cells n) else offset_of_original array (row_cells rows ++ segment_cells n)) q.0 ∙ offset_rows rows n array low (omega (arith, high, ne))
-]
+offset_rows (suc rows) n array low high = grind (arith, words_long, offset_rows rows n array low)

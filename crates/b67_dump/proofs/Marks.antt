@@ -3,12 +3,11 @@ use Rattle.std.proofs.Common.{◌≡◌, ◌≢◌, ℕ, zero, suc, ◌+◌, ◌
 use Rattle.std.specs.Prelude.{◌⊎◌, nat_le, if◌then◌else◌}
 use Rattle.std.proofs.lemmas.Bool.{ne_eqb, eq-eqb, le-leb, lt-leb}
 use Rattle.std.proofs.lemmas.Bool.Decides.{eqb_tells}
-use Rattle.std.proofs.lemmas.Option.{same_Some}
 use Rattle.b67_word.specs.Tagged.{Tagged}
 use Rattle.b67_ctl.specs.declared.marks.Mscw.{Mscw}
 use Rattle.b67_lemmas.specs.Lists.{Has, Falls}
 use Rattle.b67_lemmas.proofs.Members.{falls_low}
-use Rattle.b67_model.specs.Common.{Word, Original, Standing, Frame, top, Job, head_words, height, from_frame, identities, is_original_of}
+use Rattle.b67_model.specs.Common.{Word, Original, Standing, Frame, top, Job, head_words, height, from_frame, identities}
 use Rattle.b67_model.specs.State as State
 use Rattle.b67_stack.specs.Common.{Locations, Fits, LieDownward, StackPlace, Head, Marked, Entered, Activation, head_size, top_size, stack_words, mark_place, mark_of, headed, words, HeadsFit}
 use Rattle.b67_stack.proofs.Lies.{Lie-under}
@@ -33,8 +32,7 @@ places_long base [] = refl
 places_long base (a ∷ below) = ap suc (places_long base below)
 
 marks_some : (n : ℕ) (g : ℕ → List ℕ) → 0 < n → marks_by n g ≡ g n
-marks_some zero g h = absurd (omega arith)
-marks_some (suc n) g h = refl
+marks_some n g h = grind arith
 
 module _ (core : List Tagged) (held : Locations) (finds : FindsHomes core held) where
   -- a stack that stands in core
@@ -45,12 +43,7 @@ module _ (core : List Tagged) (held : Locations) (finds : FindsHomes core held) 
     pub lies : LieDownward (Fits held) core (suc base) (words k stack)
 
   pub stands_under : (k base : ℕ) (a : Activation) (below : List Activation) → StackStands k base (a ∷ below) → StackStands k base below
-  stands_under k base a below s =
-      let small = s.small in
-      record { heads = s.heads.1; callers = s.callers.1; small = omega (arith, small); lies = under_by a.head (Lie-under (Fits held) core (suc base) a.cells (headed k a.head below (words k below)) s.lies) } where
-        under_by : (h : Head) → LieDownward (Fits held) core (suc base) (headed k h below (words k below)) → LieDownward (Fits held) core (suc base) (words k below)
-        under_by Marked x = x.1
-        under_by (Entered level environment back) x = x.1.1
+  stands_under k base a below s = grind (arith, Lie-under)
 
   pub mark_at : (k base : ℕ) (a : Activation) (below : List Activation) → StackStands k base (a ∷ below) → (f : ℕ) → f ≡ base + (stack_words below + 1) → mscw_in (word_seen_at core f) ≡ mark_of k a.head below
   mark_at k base a below s f e =
@@ -90,8 +83,7 @@ module _ (core : List Tagged) (held : Locations) (finds : FindsHomes core held) 
     below_stands f below s = stands_under k base (record { head = head (spot_in k outer below) f.standing; cells = map (shape plan j job (spot_in k outer (f ∷ below))) f.cells }) (activations plan j job k outer below) s
 
     words_some : (s : Standing) → 1 ≤ head_words s
-    words_some State.Marked = omega arith
-    words_some (State.Entered level environment back) = omega arith
+    words_some s = grind arith
 
     -- the number of a record is that of the marks from its own down
     pub record SpotStands (n top : ℕ) (down : List Frame) (p : StackPlace) : Type 0 where
@@ -127,19 +119,14 @@ module _ (core : List Tagged) (held : Locations) (finds : FindsHomes core held) 
     module _ (a : ℕ) where
       offset_is : (cells : List Word) (d : ℕ) → cell_of_original 2 cells a ≡ Some d → offset_of_original a cells ≡ d
       offset_is [] d e = let z : ⊥ = cc in absurd z
-      offset_is (w ∷ more) d e = by (is_original_of a w) e (λ z. offset_is more d z) where
-        by : (b : Bool) → (if b then Some (2 + length more) else cell_of_original 2 more a) ≡ Some d → (cell_of_original 2 more a ≡ Some d → offset_of_original a more ≡ d) → (if b then 2 + length more else offset_of_original a more) ≡ d
-        by true z rest = same_Some (2 + length more) d z
-        by false z rest = rest z
+      offset_is (w ∷ more) d e = grind (arith, offset_is more d)
 
       head_same : (spot : ℕ → StackPlace) (s : Standing) → head_size (head spot s) ≡ head_words s
-      head_same spot State.Marked = refl
-      head_same spot (State.Entered level environment back) = refl
+      head_same spot s = grind arith
 
       entered_by : (f : ℕ) (spot : ℕ → StackPlace) (s : Standing) (below : List Activation) (home offset : ℕ) → is_set (word_seen_at core f) 46 ≡ (mark_of k (head spot s) below).entered → home + 2 ≡ f + head_words s + offset → f ≤ home
           → (more : List ℕ) → offset_from core home (f ∷ more) ≡ offset
-      entered_by f spot State.Marked below home offset e at up more = ap (λ (b : Bool). if b then home - f else home - f + 1) e ∙ omega (arith, at, up)
-      entered_by f spot (State.Entered level environment back) below home offset e at up more = ap (λ (b : Bool). if b then home - f else home - f + 1) e ∙ omega (arith, at, up)
+      entered_by f spot s below home offset e at up more = grind arith
 
       pub record OriginalStands (top : ℕ) (down : List Frame) (marks : List ℕ) : Type 0 where
         pub number : length marks ≡ length down
@@ -166,15 +153,7 @@ module _ (core : List Tagged) (held : Locations) (finds : FindsHomes core held) 
           let high = height-is plan j job k outer below in
           let some = words_some f.standing in
           let mark = ap (λ (q : Mscw). q.entered) (mark_at k base (record { head = hd; cells = cs }) bs s (base + (stack_words bs + 1)) refl) in
-          let first : nat_le (base + (stack_words bs + 1)) (plan.home j a) ≡ true = le-leb (base + (stack_words bs + 1)) (plan.home j a) (omega (arith, at, long, all, size, above, some)) in
-          let is : marks_under (plan.home j a) (places base (activations plan j job k outer (f ∷ below))) ≡ places base (activations plan j job k outer (f ∷ below)) =
-          ap (λ (b : Bool). if b then places base (activations plan j job k outer (f ∷ below)) else marks_under (plan.home j a) (places base bs)) first in
-          let offset : offset_from core (plan.home j a) (places base (activations plan j job k outer (f ∷ below))) ≡ offset_of_original a f.cells =
-          entered_by (base + (stack_words bs + 1)) (spot_in k outer below) f.standing bs (plan.home j a) (offset_of_original a f.cells) mark (omega (arith, at, long, all, size, off)) (omega (arith, at, long, all, size, above, some)) (places base bs) in
-          let down : from_frame g.identity (f ∷ below) ≡ f ∷ below = ap (λ (b : Bool). if b then f ∷ below else from_frame g.identity below) (eq-eqb f.identity g.identity (ap (λ (x : Frame). x.identity) e)) in
-          subst (λ (d : List Frame). OriginalStands (height (f ∷ below)) d (marks_under (plan.home j a) (places base (activations plan j job k outer (f ∷ below))))) (sym down)
-          (subst (OriginalStands (height (f ∷ below)) (f ∷ below)) (sym is)
-          (record { number = places_long base (activations plan j job k outer (f ∷ below)) ∙ acts_long (f ∷ below); offset = offset; low = omega (arith, at, long, all, size, high, up); high = omega (arith, at, long, all, size, above, some) }))
+          grind (arith, le-leb, eq-eqb, places_long, acts_long)
       original_stands (f ∷ below) s bound falls g (inr h) w =
           let r = original_stands below (below_stands f below s) f.identity falls.1 g h w in
           let bs = activations plan j job k outer below in

@@ -1,8 +1,7 @@
 -- Marks of known numbers, walked down.
-use Rattle.std.proofs.Common.{◌≡◌, ℕ, zero, suc, ◌-◌, ◌<◌, ◌≤◌, Bool, true, false, List, [], ◌∷◌, length, refl, sym, ◌∙◌, ap, subst, arith, inl, inr}
-use Rattle.std.specs.Prelude.{nat_le, if◌then◌else◌}
-use Rattle.std.proofs.lemmas.Bool.{le-leb, lt-leb}
-use Rattle.std.proofs.lemmas.Bool.Decides.{leb_tells}
+use Rattle.std.proofs.Common.{◌≡◌, ℕ, zero, suc, ◌-◌, ◌<◌, ◌≤◌, Bool, List, [], ◌∷◌, length, refl, ◌∙◌, ap, subst, arith}
+use Rattle.std.specs.Prelude.{if◌then◌else◌}
+use Rattle.std.proofs.lemmas.Bool.{lt-leb}
 use Rattle.b67_word.specs.Tagged.{Tagged, bits_at}
 use Rattle.b67_layout_shown.specs.Reading.{word_seen_at}
 use Rattle.b67_dump.specs.Walk.{marks_by, marks_in, marks_under, offset_from}
@@ -13,48 +12,28 @@ use Rattle.b67_dump.specs.Landmarks.{IsNearest}
 marks_few : (core : List Tagged) (n f : ℕ) → length (marks_in core n f) ≤ n
 unfolding marks_in
 marks_few core zero f = omega arith
-marks_few core (suc n) f = by (bits_at (word_seen_at core f) 0 14) (λ d. marks_few core n (f - d)) where
-  by : (b : ℕ) → ((d : ℕ) → length (marks_in core n (f - d)) ≤ n) → length (f ∷ marks_by b (λ d. marks_in core n (f - d))) ≤ suc n
-  by zero rest = omega arith
-  by (suc d) rest = let r = rest (suc d) in omega (arith, r)
+marks_few core (suc n) f = grind (arith, marks_few core n)
 
 -- where fewer marks than turns are met, as many turns as marks are enough
 settled : (core : List Tagged) (n f : ℕ) → length (marks_in core n f) < n → (m : ℕ) → length (marks_in core n f) ≤ m → marks_in core n f ≡ marks_in core m f
 unfolding marks_in
 settled core zero f low m many = absurd (omega (arith, low))
 settled core (suc n) f low zero many = absurd (omega (arith, many))
-settled core (suc n) f low (suc m) many = by (bits_at (word_seen_at core f) 0 14) (λ d l h. settled core n (f - d) l m h) low many where
-  by : (b : ℕ) → ((d : ℕ) → length (marks_in core n (f - d)) < n → length (marks_in core n (f - d)) ≤ m → marks_in core n (f - d) ≡ marks_in core m (f - d))
-      → length (f ∷ marks_by b (λ d. marks_in core n (f - d))) < suc n → length (f ∷ marks_by b (λ d. marks_in core n (f - d))) ≤ suc m
-      → f ∷ marks_by b (λ d. marks_in core n (f - d)) ≡ f ∷ marks_by b (λ d. marks_in core m (f - d))
-  by zero rest low many = refl
-  by (suc d) rest low many = ap (λ xs. f ∷ xs) (rest (suc d) (omega (arith, low)) (omega (arith, many)))
+settled core (suc n) f low (suc m) many = grind (arith, settled core n)
 
 -- ---- marks under an address
 
 under_few : (home : ℕ) (marks : List ℕ) → length (marks_under home marks) ≤ length marks
 under_few home [] = omega arith
-under_few home (f ∷ below) = by (nat_le f home) (under_few home below) where
-  by : (b : Bool) → length (marks_under home below) ≤ length below → length (if b then f ∷ below else marks_under home below) ≤ length (f ∷ below)
-  by true rest = omega arith
-  by false rest = omega (arith, rest)
+under_few home (f ∷ below) = grind (arith, under_few home below)
 
 narrowed : (home upper : ℕ) → home ≤ upper → (marks : List ℕ) → marks_under home (marks_under upper marks) ≡ marks_under home marks
 narrowed home upper le [] = refl
-narrowed home upper le (f ∷ below) = elim (leb_tells f upper) [
-  | inl q ↦ ap (λ (b : Bool). marks_under home (if b then f ∷ below else marks_under upper below)) q.0
-  | inr q ↦
-      let past = q.1 in
-      ap (λ (b : Bool). marks_under home (if b then f ∷ below else marks_under upper below)) q.0 ∙ narrowed home upper le below
-      ∙ sym (ap (λ (b : Bool). if b then f ∷ below else marks_under home below) (lt-leb f home (omega (arith, le, past))))
-]
+narrowed home upper le (f ∷ below) = grind (arith, narrowed home upper le below)
 
 here : (core : List Tagged) (home turns at : ℕ) → 0 < turns → at ≤ home → marks_under home (marks_in core turns at) ≡ marks_in core turns at
 unfolding marks_in
-here core home zero at some low = absurd (omega (arith, some))
-here core home (suc n) at some low =
-    let rest = marks_by (bits_at (word_seen_at core at) 0 14) (λ d. marks_in core n (at - d)) in
-    ap (λ (b : Bool). if b then at ∷ rest else marks_under home rest) (le-leb at home low)
+here core home turns at some low = grind arith
 
 -- ---- the walk down from a mark of a known number
 
@@ -64,21 +43,14 @@ pub record IsDown (core : List Tagged) (home : ℕ) (marks : List ℕ) (at left 
   pub count : left ≡ length (marks_in core left at)
 
 pub begun : (core : List Tagged) (home upper : ℕ) (marks : List ℕ) (mark number : ℕ) → home ≤ upper → IsNearest core upper marks mark number → IsDown core home marks mark number
-begun core home upper marks mark number le h = record {
-  walk = λ turns many. sym (narrowed home upper le marks) ∙ ap (λ fs. marks_under home fs) (h.walk turns many);
-  count = h.count ∙ ap (λ (fs : List ℕ). length fs) (h.walk number (omega arith));
-}
+begun core home upper marks mark number le h = grind (arith, narrowed)
 
 pub found : (core : List Tagged) (home : ℕ) (marks : List ℕ) (at left : ℕ) → IsDown core home marks at left → 0 < left → at ≤ home → IsNearest core home marks at left
-found core home marks at left h some low =
-    let walk : (turns : ℕ) → left ≤ turns → marks_under home marks ≡ marks_in core turns at = λ turns many. h.walk turns many ∙ here core home turns at (omega (arith, some, many)) low in
-    record { walk = walk; count = h.count ∙ ap (λ (fs : List ℕ). length fs) (sym (walk left (omega arith))) }
+found core home marks at left h some low = grind (arith, here)
 
 next : (core : List Tagged) (home : ℕ) (marks : List ℕ) (at n back : ℕ) → IsDown core home marks at (suc n) → 0 < n → home < at → bits_at (word_seen_at core at) 0 14 ≡ back → IsDown core home marks (at - back) n
 unfolding marks_in
-next core home marks at n zero h some past e =
-    let one : suc n ≡ 1 = h.count ∙ ap (λ b. length (at ∷ marks_by b (λ d. marks_in core n (at - d)))) e in
-    absurd (omega (arith, some, one))
+next core home marks at n zero h some past e = grind arith
 next core home marks at n (suc back) h some past e =
     let all : suc n ≡ suc (length (marks_in core n (at - suc back))) = h.count ∙ ap (λ b. length (at ∷ marks_by b (λ d. marks_in core n (at - d)))) e in
     record {
@@ -98,21 +70,11 @@ further core home marks at left back h some past e =
 
 -- the topmost mark of all, where fewer marks than turns are met
 pub top_nearest : (core : List Tagged) (size top number upper : ℕ) → number ≡ length (marks_in core size top) → number < size → top ≤ upper → IsNearest core upper (marks_in core size top) top number
-top_nearest core size top number upper e low le =
-    let all = here core upper size top (omega (arith, low)) le in
-    record {
-      walk = λ turns many. all ∙ settled core size top (omega (arith, e, low)) turns (omega (arith, e, many));
-      count = e ∙ ap (λ (fs : List ℕ). length fs) (sym all);
-    }
+top_nearest core size top number upper e low le = grind (arith, here, settled)
 
 pub number_is : (core : List Tagged) (size top mark number : ℕ) → IsNearest core mark (marks_in core size top) mark number → number ≡ length (marks_in core size mark)
-number_is core size top mark number h =
-    let few = marks_few core size top in
-    let fewer = under_few mark (marks_in core size top) in
-    let count = h.count in
-    count ∙ ap (λ (fs : List ℕ). length fs) (h.walk size (omega (arith, few, fewer, count)))
+number_is core size top mark number h = grind (arith, marks_few, under_few)
 
 pub offset_is : (core : List Tagged) (home : ℕ) (marks : List ℕ) (mark number : ℕ) → 0 < number → IsNearest core home marks mark number → offset_from core home (mark ∷ []) ≡ offset_from core home (marks_under home marks)
 unfolding marks_in
-offset_is core home marks mark zero some h = absurd (omega (arith, some))
-offset_is core home marks mark (suc n) some h = sym (ap (offset_from core home) (h.walk (suc n) (omega arith)))
+offset_is core home marks mark number some h = grind arith

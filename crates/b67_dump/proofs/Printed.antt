@@ -1,8 +1,7 @@
 -- Turns of the loops that print cells, activation records, tasks and jobs.
-use Rattle.std.proofs.Common.{◌≡◌, Ok, Err, Some, Bool, ℕ, zero, suc, ◌+◌, ◌-◌, ◌<◌, ◌≤◌, List, [], ◌∷◌, ◌++◌, length, drop, get_or, codes, decimal, refl, sym, ap, ◌∙◌, ◌≢◌, append-nil, append_assoc, arith}
+use Rattle.std.proofs.Common.{◌≡◌, Ok, Err, Some, ℕ, zero, suc, ◌+◌, ◌-◌, ◌<◌, ◌≤◌, List, [], ◌∷◌, ◌++◌, length, drop, get_or, codes, decimal, refl, sym, ap, ◌∙◌, ◌≢◌, append-nil, append_assoc, arith}
 use Rattle.std.proofs.lemmas.List.{at_drop_more, drop_all}
 use Rattle.std.proofs.lemmas.Option.{get_or_from_slice_get}
-use Rattle.std.proofs.lemmas.Bool.{eq-eqb, ne_eqb}
 use Rattle.std.specs.Prelude.{Option, Result, ⊤, slice_get}
 use Rattle.b67_word.specs.Tagged.{Tagged, bits_at}
 use Rattle.b67_word.specs.declared.faults.Failed.{Failed}
@@ -11,13 +10,13 @@ use Rattle.b67_io.specs.Line.{ended}
 use Rattle.b67_model.specs.Lines.{task_name}
 use Rattle.b67_layout.specs.Common.{TaskRow, JobRow}
 use Rattle.b67_stack.specs.Common.{Activation}
-use Rattle.b67_layout_shown.specs.Reading.{word_seen_at, mscw_in, activation_by, shape_in, cells_in, below_by, stack_seen}
+use Rattle.b67_layout_shown.specs.Reading.{word_seen_at, shape_in, cells_in, stack_seen}
 use Rattle.b67_layout_shown.specs.Shown.{Sight, rows_of, top_in}
 use Rattle.b67_dump.specs.Dump.{beside, place_text}
-use Rattle.b67_dump.specs.Walk.{state_text, marks_by, marks_in, shape_text, shapes_text, activations_text, row_dump, rows_dump, jobs_dump}
+use Rattle.b67_dump.specs.Walk.{state_text, marks_in, shape_text, shapes_text, activations_text, row_dump, rows_dump, jobs_dump}
 use Rattle.b67_dump.specs.Put.{PutsText}
 use Rattle.b67_dump.proofs.Putting.{puts_none, puts_then, puts_stop, puts_as, grows, falls}
-use Rattle.b67_dump.specs.Records.{activation_in, activation_text, record_text, marked_text, top_above}
+use Rattle.b67_dump.specs.Records.{activation_in, record_text, marked_text, top_above}
 
 -- ---- cells
 
@@ -36,27 +35,17 @@ module _ (k : Sight) (row : JobRow) (job : ℕ) where
 
   both : (f s : ℕ) (below : List Activation) (marks : List ℕ) → activations_text k row job below ≡ marked_text k row job (f - 1) marks → length below ≡ length marks
       → activations_text k row job (activation_in k.core f s ∷ below) ≡ marked_text k row job s (f ∷ marks)
-  both f s below marks e long =
-      ap (λ t. t ++ activation_text k row job (length below + 1) (activation_in k.core f s)) e
-      ∙ ap (λ n. marked_text k row job (f - 1) marks ++ activation_text k row job (n + 1) (activation_in k.core f s)) long
+  both f s below marks e long = grind arith
 
   stack_long : (n f s : ℕ) → length (stack_seen k.core n f s) ≡ length (marks_in k.core n f)
   unfolding stack_seen marks_in
   stack_long zero f s = refl
-  stack_long (suc n) f s = ap suc (by (bits_at (word_seen_at k.core f) 0 14) (λ d. stack_long n (f - d) (f - 1))) where
-    by : (b : ℕ) → ((d : ℕ) → length (stack_seen k.core n (f - d) (f - 1)) ≡ length (marks_in k.core n (f - d)))
-        → length (below_by b (λ d. stack_seen k.core n (f - d) (f - 1))) ≡ length (marks_by b (λ d. marks_in k.core n (f - d)))
-    by zero rest = refl
-    by (suc d) rest = rest (suc d)
+  stack_long (suc n) f s = grind (arith, stack_long n)
 
   pub stack_marked : (n f s : ℕ) → activations_text k row job (stack_seen k.core n f s) ≡ marked_text k row job s (marks_in k.core n f)
   unfolding stack_seen marks_in
   stack_marked zero f s = refl
-  stack_marked (suc n) f s = by (bits_at (word_seen_at k.core f) 0 14) (λ d. stack_marked n (f - d) (f - 1)) where
-    by : (b : ℕ) → ((d : ℕ) → activations_text k row job (stack_seen k.core n (f - d) (f - 1)) ≡ marked_text k row job (f - 1) (marks_in k.core n (f - d)))
-        → activations_text k row job (activation_in k.core f s ∷ below_by b (λ d. stack_seen k.core n (f - d) (f - 1))) ≡ marked_text k row job s (f ∷ marks_by b (λ d. marks_in k.core n (f - d)))
-    by zero rest = refl
-    by (suc d) rest = both f s (stack_seen k.core n (f - suc d) (f - 1)) (marks_in k.core n (f - suc d)) (rest (suc d)) (stack_long n (f - suc d) (f - 1))
+  stack_marked (suc n) f s = grind (arith, stack_long, stack_marked n)
 
   -- the text of the records from the one of an index down
   abbrev pub from_mark : ℕ → List ℕ → ℕ → List ℕ
@@ -67,9 +56,7 @@ module _ (k : Sight) (row : JobRow) (job : ℕ) where
 
   pub mark_more : (s : ℕ) (marks : List ℕ) (i : ℕ) → i < length marks → from_mark s marks i ≡ from_mark s marks (suc i) ++ record_of s marks i
   mark_more s [] i low = absurd (omega (arith, low))
-  mark_more s (f ∷ below) zero low =
-      let e : length below + 1 ≡ length (f ∷ below) - 0 = omega arith in
-      ap (λ n. marked_text k row job (f - 1) below ++ record_text k row job n f s) e
+  mark_more s (f ∷ below) zero low = grind arith
   mark_more s (f ∷ below) (suc i) low =
       let e : length below - i ≡ length (f ∷ below) - suc i = omega arith in
       mark_more (f - 1) below i (omega (arith, low))
@@ -92,12 +79,7 @@ module _ (k : Sight) (row : JobRow) (job : ℕ) where
 pub task_is : (k : Sight) (row : JobRow) (job : ℕ) (r : TaskRow) (s f segment : ℕ) (place : Place) (line : List ℕ) → s ≡ (top_in k r).s → f ≡ (top_in k r).f → segment ≡ (top_in k r).segment → place ≡ (top_in k r).place
     → line ≡ beside (codes "TASK") (beside (task_name job r.number) (beside (state_text k row job r.state) (beside (decimal (segment - 1)) (place_text place))))
     → row_dump k row job r ≡ ended line ++ activations_text k row job (stack_seen k.core k.regs.stack_size f s)
-task_is k row job r s f segment place line es ef eg ep el =
-    let front = λ (n : ℕ) (p : Place). ended (beside (codes "TASK") (beside (task_name job r.number) (beside (state_text k row job r.state) (beside (decimal (n - 1)) (place_text p))))) in
-    let first = ap ended el ∙ ap (λ n. front n place) eg ∙ ap (λ p. front (top_in k r).segment p) ep in
-    sym (ap (λ t. t ++ activations_text k row job (stack_seen k.core k.regs.stack_size f s)) first
-    ∙ ap (λ n. front (top_in k r).segment (top_in k r).place ++ activations_text k row job (stack_seen k.core k.regs.stack_size n s)) ef
-    ∙ ap (λ n. front (top_in k r).segment (top_in k r).place ++ activations_text k row job (stack_seen k.core k.regs.stack_size (top_in k r).f n)) es)
+task_is k row job r s f segment place line es ef eg ep el = grind arith
 
 -- ---- tops
 
@@ -113,18 +95,7 @@ top_near bound s (f ∷ below) (suc i) low near = let at : f < bound = near 0 in
 
 -- the cells of a record begin behind its mark, and behind its return word where it has one
 pub cells_are : (core : List Tagged) (f s b from count : ℕ) → bits_at (word_seen_at core f) 46 1 ≡ b → b < 2 → from ≡ f + (1 + b) → count ≡ s + 1 - from → (activation_in core f s).cells ≡ cells_in core from count
-cells_are core f s zero from count e low at many =
-    let other : bits_at (word_seen_at core f) 46 1 ≢ 1 = λ one. absurd (omega (arith, e, one)) in
-    let first : f + 1 ≡ from = omega (arith, at) in
-    let long : s - f ≡ count = omega (arith, at, many) in
-    ap (λ (entered : Bool). (activation_by core f s (mscw_in (word_seen_at core f)) entered).cells) (ne_eqb (bits_at (word_seen_at core f) 46 1) 1 other)
-    ∙ ap (λ n. cells_in core n (s - f)) first ∙ ap (cells_in core from) long
-cells_are core f s (suc zero) from count e low at many =
-    let first : f + 2 ≡ from = omega (arith, at) in
-    let long : s - (f + 1) ≡ count = omega (arith, at, many) in
-    ap (λ (entered : Bool). (activation_by core f s (mscw_in (word_seen_at core f)) entered).cells) (eq-eqb (bits_at (word_seen_at core f) 46 1) 1 e)
-    ∙ ap (λ n. cells_in core n (s - (f + 1))) first ∙ ap (cells_in core from) long
-cells_are core f s (suc (suc b)) from count e low at many = absurd (omega (arith, low))
+cells_are core f s b from count e low at many = grind arith
 
 -- ---- turns
 
@@ -174,9 +145,7 @@ module _ {K : Type 0} (taken : K → Option (List ℕ)) (faults : K → ℕ) (k 
   -- the whole text of a stack
   pub all_records : (c : K) (r : Result ⊤ Failed) (n f s left : ℕ) (marks : List ℕ) → marks ≡ marks_in k.core n f → left ≡ 0 → PutsText taken faults a c r (from_mark k row job s marks left)
       → PutsText taken faults a c r (activations_text k row job (stack_seen k.core n f s))
-  all_records c r n f s left marks e z p =
-      puts_as taken faults a c r (from_mark k row job s marks left) (activations_text k row job (stack_seen k.core n f s))
-      (ap (from_mark k row job s marks) z ∙ ap (marked_text k row job s) e ∙ sym (stack_marked k row job n f s)) p
+  all_records c r n f s left marks e z p = grind (arith, stack_marked)
 
   abbrev pub tasks_from : List TaskRow → ℕ → List ℕ
   tasks_from rows i = rows_dump k row job (drop i rows)

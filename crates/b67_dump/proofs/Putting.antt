@@ -7,7 +7,6 @@ use Rattle.std.proofs.lemmas.List.{take-append-le}
 use Rattle.std.proofs.lemmas.Option.{slice_get-map}
 use Rattle.b67_word.specs.declared.faults.Failed.{Failed}
 use Rattle.b67_io.specs.Told.{Took, TookPart}
-use Rattle.b67_io.specs.Causes.{Rose}
 use Rattle.b67_io.proofs.Joined.{Took-none, Took-then}
 use Rattle.b67_dump.specs.Put.{PutsText}
 
@@ -20,30 +19,15 @@ module _ {K : Type 0} (taken : K → Option (List ℕ)) (faults : K → ℕ) whe
   }
 
   part_before : (a b : K) (x y : List ℕ) → TookPart taken a b x → TookPart taken a b (x ++ y)
-  part_before a b x y p = record {
-    count = p.count;
-    proper = let lt = p.proper in omega (arith, length-append x y);
-    first = subst (Took taken a b) (sym (take-append-le p.count x y (let lt = p.proper in omega arith))) p.first;
-  }
+  part_before a b x y p = grind (arith, length-append, take-append-le)
 
   pub puts_none : (now : K) → PutsText taken faults now now (Ok tt) []
   puts_none now = record { whole = Took-none taken now; part = tt; cause = record { later = omega arith; failed = tt } }
 
   -- one text, and then all of another, or a beginning of it
   pub puts_then : (a b c : K) (r : Result ⊤ Failed) (x y : List ℕ) → PutsText taken faults a b (Ok tt) x → PutsText taken faults b c r y → PutsText taken faults a c r (x ++ y)
-  puts_then a b c (Ok done) x y p q = record {
-    whole = Took-then p.whole q.whole;
-    part = tt;
-    cause = record { later = let one = p.cause.later in let two = q.cause.later in omega (arith, one, two); failed = tt };
-  }
-  puts_then a b c (Err failed) x y p q = record {
-    whole = tt;
-    part = part_after a b c x y p.whole q.part;
-    cause = record {
-      later = let one = p.cause.later in let two = q.cause.later in omega (arith, one, two);
-      failed = let one = p.cause.later in let two : Rose faults b c = q.cause.failed in omega (arith, one, two);
-    };
-  }
+  puts_then a b c (Ok done) x y p q = grind (arith, Took-then)
+  puts_then a b c (Err failed) x y p q = grind (arith, part_after)
 
   -- a beginning of a text is one of a longer text
   pub puts_stop : (a b : K) (failed : Failed) (x whole : List ℕ) → (rest : List ℕ) × (whole ≡ x ++ rest) → PutsText taken faults a b (Err failed) x → PutsText taken faults a b (Err failed) whole
@@ -51,8 +35,7 @@ module _ {K : Type 0} (taken : K → Option (List ℕ)) (faults : K → ℕ) whe
 
   -- a failure that is passed on
   pub puts_passed : (a b : K) (r : Result ⊤ Failed) (failed : Failed) (text : List ℕ) → IsErr r → PutsText taken faults a b (Err failed) text → PutsText taken faults a b r text
-  puts_passed a b (Ok done) failed text is p = absurd (let z : ⊥ = cc in z)
-  puts_passed a b (Err other) failed text is p = record { whole = tt; part = p.part; cause = record { later = p.cause.later; failed = p.cause.failed } }
+  puts_passed a b r failed text is p = grind arith
 
   pub puts_as : (a b : K) (r : Result ⊤ Failed) (x y : List ℕ) → x ≡ y → PutsText taken faults a b r x → PutsText taken faults a b r y
   puts_as a b r x y e p = subst (PutsText taken faults a b r) e p
@@ -68,9 +51,7 @@ grows text piece step n (suc m) =
 -- the same of texts that grow as a number falls
 pub falls : (text piece : ℕ → List ℕ) (count : ℕ) → ((i : ℕ) → i < count → text i ≡ text (suc i) ++ piece i) → (i : ℕ) → i ≤ count → (rest : List ℕ) × (text 0 ≡ text i ++ rest)
 falls text piece count step zero le = ([], sym (append-nil (text 0)))
-falls text piece count step (suc i) le =
-    let one = falls text piece count step i (omega (arith, le)) in
-    (piece i ++ one.0, one.1 ∙ ap (λ t. t ++ one.0) (step i (omega (arith, le))) ∙ append_assoc (text (suc i)) (piece i) one.0)
+falls text piece count step (suc i) le = grind (arith, append_assoc, falls text piece count step i)
 
 pub got_mapped : {X Y : Type 0} (f : X → Y) (xs : List X) (i : ℕ) (x : X) → slice_get xs i ≡ Some x → slice_get (map f xs) i ≡ Some (f x)
 got_mapped f xs i x e = slice_get-map f xs i ∙ ap (option_map f) e

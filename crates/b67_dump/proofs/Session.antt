@@ -1,5 +1,5 @@
 -- What is read off a machine is the dump of each session that it represents.
-use Rattle.std.proofs.Common.{◌≡◌, ℕ, ◌+◌, List, [], ◌∷◌, ◌++◌, map, refl, ◌∙◌, ap, subst, inl, inr}
+use Rattle.std.proofs.Common.{◌≡◌, ℕ, ◌+◌, List, [], ◌∷◌, ◌++◌, map, refl, ◌∙◌, subst, arith}
 use Rattle.std.specs.Prelude.{flat_map, Result, Ok, Err, ⊤, OnOk, OnErr}
 use Rattle.b67_word.specs.declared.faults.Failed.{Failed}
 use Rattle.b67_task_tables.specs.declared.tables.Machine.{Machine}
@@ -12,9 +12,9 @@ use Rattle.b67_stack.specs.Common.{Storage}
 use Rattle.b67_layout.specs.Common.{Placement, TaskRow, JobRow, JobCounts, JobsShow, TablesShow, RepresentsSession}
 use Rattle.b67_layout.proofs.Weaker.{but_counts}
 use Rattle.b67_task_tables.specs.Tables.{task_row, job_row, counts_of}
-use Rattle.b67_layout_shown.specs.Shown.{Sight, rows_of}
+use Rattle.b67_layout_shown.specs.Shown.{Sight}
 use Rattle.b67_dump.specs.Dump.{tasks_text, dump_text}
-use Rattle.b67_dump.specs.Walk.{rows_dump, jobs_dump, walk_text}
+use Rattle.b67_dump.specs.Walk.{jobs_dump, walk_text}
 use Rattle.b67_dump.specs.Laws.{WalksAreDumps}
 use Rattle.b67_dump.proofs.Walked.{job_walked}
 
@@ -28,10 +28,7 @@ module _ (x : Storage) (cpu : Cpu) (plan : Placement) (s : Session) (tasks : Lis
   members_walked n [] [] numbers shows inside = refl
   members_walked n [] (row ∷ rows) numbers shows inside = absurd shows
   members_walked n (m ∷ ms) [] numbers shows inside = absurd shows
-  members_walked n (m ∷ ms) (row ∷ rows) numbers shows inside =
-      let one = subst (λ i. rows_dump k row i (rows_of tasks i) ≡ tasks_text m m.progress.job.tasks) numbers.0 (job_walked x cpu plan s m tasks jobs row c (but_counts s ordered) stands tables (inside m (inl refl)) shows.0) in
-      let rest = members_walked (n + 1) ms rows numbers.1 shows.1 (λ y h. inside y (inr h)) in
-      ap (λ t. t ++ jobs_dump k (n + 1) rows) one ∙ ap (λ t. tasks_text m m.progress.job.tasks ++ t) rest
+  members_walked n (m ∷ ms) (row ∷ rows) numbers shows inside = grind (arith, job_walked, but_counts, members_walked (n + 1) ms rows numbers.1 shows.1)
 
   pub session_walked : walk_text k ≡ dump_text s
   unfolding walk_text dump_text
@@ -46,5 +43,4 @@ shown_whole (Ok done) k P p = λ x told plan s ordered stands. subst P (walks_du
 shown_whole (Err failed) k P p = tt
 
 pub shown_part : (r : Result ⊤ Failed) (k : Machine) (P : List ℕ → Type 0) → OnErr r (P (walk_text (sight_of k))) → OnErr r (ForEachShown k (λ s. P (dump_text s)))
-shown_part (Ok done) k P p = tt
-shown_part (Err failed) k P p = λ x told plan s ordered stands. subst P (walks_dumped x told k plan s ordered stands) p
+shown_part r h P p = grind (arith, walks_dumped)

@@ -1,5 +1,5 @@
 -- The dump of a session that a machine represents is that of what the machine shows.
-use Rattle.std.proofs.Common.{◌≡◌, ℕ, ◌+◌, List, [], ◌∷◌, ◌++◌, map, length, refl, sym, ◌∙◌, ap, subst, arith, inl, inr}
+use Rattle.std.proofs.Common.{◌≡◌, ℕ, ◌+◌, List, [], ◌∷◌, ◌++◌, map, length, refl, sym, ◌∙◌, ap, arith}
 use Rattle.std.specs.Prelude.{flat_map}
 use Rattle.b67_lemmas.specs.Lists.{Has}
 use Rattle.b67_lemmas.proofs.Members.{all_in, has_flat, has_append_right, has_map}
@@ -43,11 +43,7 @@ module _ (x : Storage) (cpu : Cpu) (plan : Placement) (s : Session) (tasks : Lis
   members_same n [] [] numbers shows inside = refl
   members_same n [] (row ∷ rows) numbers shows inside = absurd shows
   members_same n (m ∷ ms) [] numbers shows inside = absurd shows
-  members_same n (m ∷ ms) (row ∷ rows) numbers shows inside =
-      let one = subst (λ i. tasks_text (member_in k row i) (member_in k row i).progress.job.tasks ≡ tasks_text m m.progress.job.tasks) numbers.0 (member_same m row (inside m (inl refl)) shows.0) in
-      let rest = members_same (n + 1) ms rows numbers.1 shows.1 (λ y h. inside y (inr h)) in
-      ap (λ t. t ++ flat_map (λ (m : SessionJob). tasks_text m m.progress.job.tasks) (members_from k (n + 1) rows)) one
-      ∙ ap (λ t. tasks_text m m.progress.job.tasks ++ t) rest
+  members_same n (m ∷ ms) (row ∷ rows) numbers shows inside = grind (arith, member_same, members_same (n + 1) ms rows numbers.1 shows.1)
 
   pub session_same : dump_text s ≡ dump_text (shown k)
   unfolding dump_text

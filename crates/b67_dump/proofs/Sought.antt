@@ -1,7 +1,7 @@
 -- Turns of the search for the record that an address lies in.
-use Rattle.std.proofs.Common.{◌≡◌, ℕ, zero, suc, ◌+◌, ◌-◌, ◌<◌, ◌≤◌, Bool, List, [], ◌∷◌, length, refl, sym, ◌∙◌, ap, arith}
+use Rattle.std.proofs.Common.{◌≡◌, ℕ, zero, suc, ◌+◌, ◌-◌, ◌<◌, ◌≤◌, Bool, List, [], ◌∷◌, length, sym, ◌∙◌, ap, arith}
 use Rattle.std.specs.Prelude.{if◌then◌else◌}
-use Rattle.std.proofs.lemmas.Bool.{le-leb, lt-leb}
+use Rattle.std.proofs.lemmas.Bool.{lt-leb}
 use Rattle.b67_word.specs.Tagged.{Tagged, bits_at}
 use Rattle.b67_layout_shown.specs.Reading.{word_seen_at}
 use Rattle.b67_dump.specs.Walk.{marks_by, marks_in, marks_under, offset_from}
@@ -19,20 +19,15 @@ under core turns turn at back = marks_by back (λ d. marks_in core (turns - (tur
 
 marks_are : (core : List Tagged) (turns turn at back : ℕ) → turn < turns → bits_at (word_seen_at core at) 0 14 ≡ back → marks_in core (turns - turn) at ≡ at ∷ under core turns turn at back
 unfolding marks_in
-marks_are core turns turn at back low e =
-    let next : turns - turn ≡ suc (turns - (turn + 1)) = omega arith in
-    ap (λ n. marks_in core n at) next ∙ ap (λ b. at ∷ under core turns turn at b) e
+marks_are core turns turn at back low e = grind arith
 
 found : (core : List Tagged) (turns mark home turn at : ℕ) → IsSought core turns mark home turn at → turn < turns → at ≤ home
     → marks_under home (marks_in core turns mark) ≡ at ∷ under core turns turn at (bits_at (word_seen_at core at) 0 14)
-found core turns mark home turn at h low here =
-    let rest = under core turns turn at (bits_at (word_seen_at core at) 0 14) in
-    h.same ∙ ap (λ fs. marks_under home fs) (marks_are core turns turn at (bits_at (word_seen_at core at) 0 14) low refl) ∙ ap (λ (b : Bool). if b then at ∷ rest else marks_under home rest) (le-leb at home here)
+found core turns mark home turn at h low here = grind (arith, marks_are)
 
 pub found_number : (core : List Tagged) (turns mark home turn at count : ℕ) → IsSought core turns mark home turn at → turn < turns → at ≤ home
     → count ≡ length (marks_in core (turns - turn) at) → count ≡ length (marks_under home (marks_in core turns mark))
-found_number core turns mark home turn at count h low here e =
-    e ∙ ap (λ (fs : List ℕ). length fs) (marks_are core turns turn at (bits_at (word_seen_at core at) 0 14) low refl) ∙ sym (ap (λ (fs : List ℕ). length fs) (found core turns mark home turn at h low here))
+found_number core turns mark home turn at count h low here e = grind (arith, marks_are, found)
 
 pub found_offset : (core : List Tagged) (turns mark home turn at offset : ℕ) → IsSought core turns mark home turn at → turn < turns → at ≤ home
     → offset ≡ offset_from core home (at ∷ []) → offset ≡ offset_from core home (marks_under home (marks_in core turns mark))

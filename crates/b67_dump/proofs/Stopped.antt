@@ -5,7 +5,7 @@ use Rattle.std.proofs.lemmas.List.{get_or-drop, length-drop}
 use Rattle.std.proofs.lemmas.Option.{same_Some}
 use Rattle.b67_word.specs.Tagged.{Tagged, bits_at}
 use Rattle.b67_layout_shown.specs.Reading.{word_seen_at}
-use Rattle.b67_dump.specs.Walk.{marks_by, marks_in}
+use Rattle.b67_dump.specs.Walk.{marks_in}
 use Rattle.b67_dump.specs.Landmarks.{IsBelow, AreStops}
 
 -- an item of a list that got one more
@@ -13,41 +13,24 @@ pub got_pushed : {A : Type 0} (xs : List A) (x : A) (i : ℕ) (y : A) → slice_
 got_pushed [] x zero y e = inr (refl, same_Some x y e)
 got_pushed [] x (suc i) y e = inl e
 got_pushed (z ∷ xs) x zero y e = inl e
-got_pushed (z ∷ xs) x (suc i) y e = elim (got_pushed xs x i y e) [
-  | inl q ↦ inl q
-  | inr q ↦ inr (ap suc q.0, q.1)
-]
+got_pushed (z ∷ xs) x (suc i) y e = grind (arith, got_pushed xs x i y e)
 
 -- ---- marks below a mark
 
 first : (core : List Tagged) (n f : ℕ) → 0 < length (marks_in core n f) → f ≡ get_or (marks_in core n f) 0 0
 unfolding marks_in
-first core zero f low = absurd (omega (arith, low))
-first core (suc n) f low = refl
+first core n f low = grind arith
 
 second : (core : List Tagged) (n f back : ℕ) → bits_at (word_seen_at core f) 0 14 ≡ back → 1 < length (marks_in core n f) → f - back ≡ get_or (marks_in core n f) 1 0
 unfolding marks_in
-second core zero f back e low = absurd (omega (arith, low))
-second core (suc n) f zero e low =
-    let one : length (marks_in core (suc n) f) ≡ 1 = ap (λ b. length (f ∷ marks_by b (λ d. marks_in core n (f - d)))) e in
-    absurd (omega (arith, low, one))
-second core (suc n) f (suc back) e low =
-    let long : length (marks_in core (suc n) f) ≡ suc (length (marks_in core n (f - suc back))) = ap (λ b. length (f ∷ marks_by b (λ d. marks_in core n (f - d)))) e in
-    first core n (f - suc back) (omega (arith, low, long)) ∙ sym (ap (λ b. get_or (f ∷ marks_by b (λ d. marks_in core n (f - d))) 1 0) e)
+second core n f back e low = grind (arith, first)
 
 -- the walk from a mark of a list is the rest of the list
 passed : (core : List Tagged) (n f i : ℕ) → i < length (marks_in core n f) → drop i (marks_in core n f) ≡ marks_in core (n - i) (get_or (marks_in core n f) i 0)
 unfolding marks_in
 passed core zero f i low = absurd (omega (arith, low))
 passed core (suc n) f zero low = let e : suc n ≡ suc n - 0 = omega arith in ap (λ m. marks_in core m f) e
-passed core (suc n) f (suc i) low =
-    let e : n - i ≡ suc n - suc i = omega arith in
-    by (bits_at (word_seen_at core f) 0 14) (λ d. passed core n (f - d) i) low ∙ ap (λ m. marks_in core m (get_or (marks_in core (suc n) f) (suc i) 0)) e where
-      by : (b : ℕ) → ((d : ℕ) → i < length (marks_in core n (f - d)) → drop i (marks_in core n (f - d)) ≡ marks_in core (n - i) (get_or (marks_in core n (f - d)) i 0))
-          → suc i < length (f ∷ marks_by b (λ d. marks_in core n (f - d)))
-          → drop (suc i) (f ∷ marks_by b (λ d. marks_in core n (f - d))) ≡ marks_in core (n - i) (get_or (f ∷ marks_by b (λ d. marks_in core n (f - d))) (suc i) 0)
-      by zero rest low = absurd (omega (arith, low))
-      by (suc d) rest low = rest (suc d) (omega (arith, low))
+passed core (suc n) f (suc i) low = grind (arith, passed core n)
 
 pub below_same : (core : List Tagged) (f : ℕ) → IsBelow core f 0 f
 below_same core f = λ turns low. first core turns f low
@@ -68,10 +51,7 @@ pub mark_near : (core : List Tagged) (n f i : ℕ) → get_or (marks_in core n f
 unfolding marks_in
 mark_near core zero f i = omega arith
 mark_near core (suc n) f zero = omega arith
-mark_near core (suc n) f (suc i) = by (bits_at (word_seen_at core f) 0 14) (λ d. mark_near core n (f - d) i) where
-  by : (b : ℕ) → ((d : ℕ) → get_or (marks_in core n (f - d)) i 0 ≤ f - d) → get_or (marks_by b (λ d. marks_in core n (f - d))) i 0 ≤ f
-  by zero rest = omega arith
-  by (suc d) rest = let r = rest (suc d) in omega (arith, r)
+mark_near core (suc n) f (suc i) = grind (arith, mark_near core n)
 
 -- ---- the list of stops
 
@@ -79,12 +59,7 @@ pub no_stop : (core : List Tagged) (mark : ℕ) → AreStops core mark []
 no_stop core mark = record { each = λ at stop e. absurd (let b : ⊥ = cc in b) }
 
 pub one_stop : (core : List Tagged) (mark at : ℕ) (stops more : List ℕ) → AreStops core mark stops → IsBelow core mark (64 * length stops) at → more ≡ stops ++ at ∷ [] → AreStops core mark more
-one_stop core mark at stops more h b is = subst (AreStops core mark) (sym is) (record {
-  each = λ i y e. elim (got_pushed stops at i y e) [
-    | inl q ↦ h.each i y q
-    | inr q ↦ subst (λ n. IsBelow core mark (64 * n) y) q.0 (subst (IsBelow core mark (64 * length stops)) q.1 b)
-  ];
-})
+one_stop core mark at stops more h b is = grind (arith, got_pushed)
 
 -- a mark by the stop above it
 pub by_stop : (core : List Tagged) (mark below stop x : ℕ) → IsBelow core mark (64 * (below / 64)) stop → IsBelow core stop (below % 64) x → IsBelow core mark below x

@@ -1,5 +1,5 @@
 -- The text of a dump doesn't see names: a job's text is that of the same job under names by place.
-use Rattle.std.proofs.Common.{◌≡◌, ◌≢◌, ℕ, ◌+◌, ◌≤◌, ◌==◌, Bool, true, false, List, [], ◌∷◌, ◌++◌, map, length, Option, Some, None, refl, sym, ◌∙◌, ap, subst, arith, inl, inr}
+use Rattle.std.proofs.Common.{◌≡◌, ◌≢◌, ℕ, ◌+◌, ◌≤◌, ◌==◌, Bool, List, [], ◌∷◌, ◌++◌, map, length, Some, refl, sym, ◌∙◌, ap, subst, arith, inl, inr}
 use Rattle.std.specs.Prelude.{if◌then◌else◌, option_map, codes, decimal}
 use Rattle.std.specs.List.{AllByRecursion}
 use Rattle.std.proofs.lemmas.List.{length-map}
@@ -9,8 +9,7 @@ use Rattle.b67_lemmas.specs.Lists.{Has}
 use Rattle.b67_lemmas.proofs.Members.{has_map, keyed_has, keyed_falls}
 use Rattle.b67_model.specs.Words as Words
 use Rattle.b67_model.specs.Keyed.{keyed}
-use Rattle.b67_model.specs.Lines.{task_name}
-use Rattle.b67_model.specs.Common.{Word, Operand, Name, Ref, Row, Element, Original, Proc, Intrinsic, Standing, Marked, Entered, Frame, Array, Condition, Ready, Awaits, WaitsAt, Task, Job, SessionJob, array, from_frame, frames_of_task, critical_of, outer_reach, outer_of, reach_of, Known, known_of, identities, is_original_of, IsSegment, WordInOrder, StandsInOrder, FramesInOrder, BirthInOrder, ConditionInOrder, TaskInOrder, TasksInOrder, SettingInOrder}
+use Rattle.b67_model.specs.Common.{Word, Operand, Name, Ref, Row, Element, Original, Proc, Intrinsic, Standing, Frame, Array, Condition, Task, Job, SessionJob, array, from_frame, outer_reach, outer_of, reach_of, Known, known_of, identities, is_original_of, IsSegment, WordInOrder, StandsInOrder, FramesInOrder, BirthInOrder, ConditionInOrder, TaskInOrder, TasksInOrder, SettingInOrder}
 use Rattle.b67_layout.proofs.Originals.{original_of}
 use Rattle.b67_layout_shown.specs.Places.{named, name_among, array_among, word_by, standing_by, frame_by, condition_by, task_by, array_named, job_placed, originals_among, rows_down}
 use Rattle.b67_layout_shown.proofs.Names.{named_frames}
@@ -20,7 +19,7 @@ use Rattle.b67_layout_shown.proofs.Order.{same_name}
 use Rattle.b67_layout_shown.proofs.Owned.{own_task, owned_in, entry_owned, entry_named, kept, names_apart, names_fall, is_listed, found_array}
 use Rattle.b67_layout_shown.proofs.Apart.{live_high, live_apart}
 use Rattle.b67_dump.proofs.Listed.{is_there, own_or_outer}
-use Rattle.b67_dump.specs.Dump.{beside, LiveRecord, record_by, record_among, name_of_record, record_name, cells_of_record, offset_of_original, array_found, name_of_array, array_name, length_of_array, cell_text, cells_text, standing_text, records_text, condition_text, place_text, task_text, tasks_text}
+use Rattle.b67_dump.specs.Dump.{beside, LiveRecord, record_by, record_among, name_of_record, record_name, cells_of_record, offset_of_original, array_found, array_name, length_of_array, cell_text, cells_text, standing_text, records_text, condition_text, task_text, tasks_text}
 
 -- ---- lists of records
 
@@ -31,23 +30,15 @@ none_from c (f ∷ below) h =
 
 none_renamed : (rename relabel : ℕ → ℕ) (c : ℕ) (fs : List Frame) → ((d : ℕ) → Has (identities fs) d → rename d ≢ c) → from_frame c (map (frame_by rename relabel) fs) ≡ []
 none_renamed rename relabel c [] h = refl
-none_renamed rename relabel c (f ∷ below) h =
-    ap (λ (b : Bool). if b then map (frame_by rename relabel) (f ∷ below) else from_frame c (map (frame_by rename relabel) below)) (ne_eqb (rename f.identity) c (h f.identity (inl refl)))
-    ∙ none_renamed rename relabel c below (λ d k. h d (inr k))
+none_renamed rename relabel c (f ∷ below) h = grind (arith, none_renamed rename relabel c below)
 
 from_inside : (c : ℕ) (fs : List Frame) (g : Frame) → Has (from_frame c fs) g → Has fs g
 from_inside c [] g h = absurd h
-from_inside c (f ∷ below) g h = by (f.identity == c) h (λ k. from_inside c below g k) where
-  by : (b : Bool) → Has (if b then f ∷ below else from_frame c below) g → (Has (from_frame c below) g → Has below g) → Has (f ∷ below) g
-  by true k rest = k
-  by false k rest = inr (rest k)
+from_inside c (f ∷ below) g h = grind (arith, from_inside c below g)
 
 from_known : (c : ℕ) (fs : List Frame) (d : ℕ) → Has (identities (from_frame c fs)) d → Has (identities fs) d
 from_known c [] d h = absurd h
-from_known c (f ∷ below) d h = by (f.identity == c) h (λ k. from_known c below d k) where
-  by : (b : Bool) → Has (identities (if b then f ∷ below else from_frame c below)) d → (Has (identities (from_frame c below)) d → Has (identities below) d) → Has (identities (f ∷ below)) d
-  by true k rest = k
-  by false k rest = inr (rest k)
+from_known c (f ∷ below) d h = grind (arith, from_known c below d)
 
 -- ---- a job
 
@@ -101,21 +92,12 @@ module _ (m m' : SessionJob) (numbers : ℕ → List ℕ) (rows : ℕ)
   mcp_told = record { apart = λ u hu d hd e. (let up = high u hu d hd in absurd (omega (arith, up, e, rename_0))); low = ap (λ n. n == 1) rename_0 }
 
   outer_told : (parents : List ℕ) (t : Task) → BirthInOrder job t parents → (k : Known) → Has (outer_reach job t.critical parents) k → IsTold k.0
-  outer_told [] t birth k h = by h where
-    by : Has ((1, Entered 1 0 None) ∷ (0, Entered 0 0 None) ∷ []) k → IsTold k.0
-    by (inl e) = subst IsTold (ap (λ (z : Known). z.0) e) dictionary_told
-    by (inr (inl e)) = subst IsTold (ap (λ (z : Known). z.0) e) mcp_told
-    by (inr (inr z)) = absurd z
+  outer_told [] t birth k h = grind (arith, dictionary_told, mcp_told)
   outer_told (parent ∷ above) t birth k h =
       let p = birth.parent in
       let found = keyed_has (λ (t : Task). t.number) parent job.tasks p birth.found in
       let deeper = outer_told above p (subst (BirthInOrder job p) birth.line (own p found.0).birth) k in
-      let G : Option Task → Type 0 = λ o. Has (map known_of (from_frame t.critical (frames_of_task o)) ++ outer_reach job (critical_of o) above) k → IsTold k.0 in
-      let goal : G (Some p) = λ i. elim (own_or_outer (from_frame t.critical p.frames) (outer_reach job p.critical above) k i) [
-        | inl o ↦ live_told p found.0 k.0 (from_known t.critical p.frames k.0 o)
-        | inr o ↦ deeper o
-      ] in
-      subst G (sym birth.found) goal h
+      grind (arith, own_or_outer, live_told, from_known)
 
   reach_told : (t : Task) → Has job.tasks t → (k : Known) → Has (reach_of job t) k → IsTold k.0
   reach_told t there k h = elim (own_or_outer t.frames (outer_of job t) k h) [
@@ -136,24 +118,13 @@ module _ (m m' : SessionJob) (numbers : ℕ → List ℕ) (rows : ℕ)
 
   among_same : (ts : List Task) → ((u : Task) → Has ts u → Has job.tasks u) → (c : ℕ) → IsTold c → record_among (map (task_by rename relabel) ts) (rename c) ≡ option_map renamed (record_among ts c)
   among_same [] inside c told = refl
-  among_same (t ∷ ts) inside c told =
-      ap (λ fs. record_by t.number fs (record_among (map (task_by rename relabel) ts) (rename c))) (from_told t (inside t (inl refl)) c told)
-      ∙ by (from_frame c t.frames) (among_same ts (λ u h. inside u (inr h)) c told) where
-        by : (fs : List Frame) → record_among (map (task_by rename relabel) ts) (rename c) ≡ option_map renamed (record_among ts c)
-            → record_by t.number (map (frame_by rename relabel) fs) (record_among (map (task_by rename relabel) ts) (rename c)) ≡ option_map renamed (record_by t.number fs (record_among ts c))
-        by [] e = e
-        by (f ∷ below) e = refl
+  among_same (t ∷ ts) inside c told = grind (arith, from_told, among_same ts)
 
   name_same : (j c : ℕ) → IsTold c → name_of_record j (rename c) (record_among (map (task_by rename relabel) job.tasks) (rename c)) ≡ name_of_record j c (record_among job.tasks c)
-  name_same j c told = ap (name_of_record j (rename c)) (among_same job.tasks (λ u h. h) c told) ∙ by (record_among job.tasks c) where
-    by : (o : Option LiveRecord) → name_of_record j (rename c) (option_map renamed o) ≡ name_of_record j c o
-    by None = ap (λ (b : Bool). if b then beside (codes "DICT") (decimal j) else codes "MCP") told.low
-    by (Some r) = ap (λ n. beside (task_name j r.task) (decimal n)) (length-map r.down (frame_by rename relabel))
+  name_same j c told = grind (arith, among_same, length-map)
 
   record_same : (c : ℕ) → IsTold c → record_name m' (rename c) ≡ record_name m c
-  record_same c told =
-      ap (λ j. name_of_record j (rename c) (record_among m'.progress.job.tasks (rename c))) number_is
-      ∙ ap (λ (q : Job). name_of_record m.constants.number (rename c) (record_among q.tasks (rename c))) job_is ∙ name_same m.constants.number c told
+  record_same c told = grind (arith, name_same)
 
   -- ---- the offsets of originals
 
@@ -201,9 +172,7 @@ module _ (m m' : SessionJob) (numbers : ℕ → List ℕ) (rows : ℕ)
 
   entry_offset : (a : Array) → Has job.arrays a → (ws : List Word) → ((w : Word) → Has ws w → Has m.constants.dictionary.cells w) → offset_of_original (relabel a.identity) ws ≡ offset_of_original a.identity ws
   entry_offset a ha [] h = refl
-  entry_offset a ha (w ∷ ws) h =
-      ap (λ (b : Bool). if b then 2 + length ws else offset_of_original (relabel a.identity) ws) (entry_same a ha w (h w (inl refl)))
-      ∙ ap (λ n. if is_original_of a.identity w then 2 + length ws else n) (entry_offset a ha ws (λ v k. h v (inr k)))
+  entry_offset a ha (w ∷ ws) h = grind (arith, entry_same, entry_offset a ha ws)
 
   owner_offset : (a : Array) → Has job.arrays a → (ts : List Task) → ((u : Task) → Has ts u → Has job.tasks u) → (c : ℕ) → IsTold c
       → offset_of_original (relabel a.identity) (cells_of_record m.constants.dictionary.cells (record_among (map (task_by rename relabel) ts) (rename c)))
@@ -247,14 +216,7 @@ module _ (m m' : SessionJob) (numbers : ℕ → List ℕ) (rows : ℕ)
   found_here a there = keyed_falls (λ (b : Array). b.identity) job.next_array job.arrays a order.names there
 
   array_same : (a : Array) → Has job.arrays a → array_name m' (relabel a.identity) ≡ array_name m a.identity
-  array_same a there =
-      let told = owner_told a there in
-      ap (name_of_array m') (found_same a there)
-      ∙ ap (λ t. beside t (decimal (offset_of_original (relabel a.identity) (cells_of_record m'.constants.dictionary.cells (record_among m'.progress.job.tasks (rename a.owner)))))) (record_same a.owner told)
-      ∙ ap (λ ws. beside (record_name m a.owner) (decimal (offset_of_original (relabel a.identity) (cells_of_record ws (record_among m'.progress.job.tasks (rename a.owner)))))) dictionary_is
-      ∙ ap (λ (q : Job). beside (record_name m a.owner) (decimal (offset_of_original (relabel a.identity) (cells_of_record m.constants.dictionary.cells (record_among q.tasks (rename a.owner)))))) job_is
-      ∙ ap (λ n. beside (record_name m a.owner) (decimal n)) (owner_offset a there job.tasks (λ u h. h) a.owner told)
-      ∙ ap (name_of_array m) (sym (found_here a there))
+  array_same a there = grind (arith, owner_told, found_same, record_same, owner_offset, found_here)
 
   length_same : (a : Array) → Has job.arrays a → length_of_array (array_found m' (relabel a.identity)) ≡ length_of_array (array_found m a.identity)
   length_same a there = ap length_of_array (found_same a there) ∙ fits a there ∙ ap length_of_array (sym (found_here a there))
@@ -262,32 +224,15 @@ module _ (m m' : SessionJob) (numbers : ℕ → List ℕ) (rows : ℕ)
   -- ---- lines
 
   cell_same : (reach : List Known) → ((k : Known) → Has reach k → IsTold k.0) → (owner : ℕ) (w : Word) → WordInOrder (IsSegment m.constants) job.arrays reach owner w → cell_text m' (word_by rename relabel w) ≡ cell_text m w
-  cell_same reach told owner (Operand bits) h = refl
-  cell_same reach told owner (Name couple) h = refl
-  cell_same reach told owner (Ref identity offset) h = ap (λ t. beside (codes "REF") (beside t (decimal offset))) (record_same identity (told (identity, h.0.standing) h.0.among))
-  cell_same reach told owner (Row a) h = subst (λ i. beside (codes "ROW") (array_name m' (relabel i)) ≡ beside (codes "ROW") (array_name m i)) h.named (ap (beside (codes "ROW")) (array_same h.item h.live))
-  cell_same reach told owner (Element a index) h =
-      subst (λ i. beside (codes "ELEMENT") (beside (array_name m' (relabel i)) (decimal index)) ≡ beside (codes "ELEMENT") (beside (array_name m i) (decimal index))) h.named
-      (ap (λ t. beside (codes "ELEMENT") (beside t (decimal index))) (array_same h.item h.live))
-  cell_same reach told owner (Original a) h =
-      subst (λ i. beside (codes "ARRAY") (decimal (length_of_array (array_found m' (relabel i)))) ≡ beside (codes "ARRAY") (decimal (length_of_array (array_found m i)))) h.named
-      (ap (λ n. beside (codes "ARRAY") (decimal n)) (length_same h.item h.live))
-  cell_same reach told owner (Proc segment level place) h = refl
-  cell_same reach told owner (Intrinsic number) h = absurd h
-  cell_same reach told owner (Words.Segment number) h = absurd h
+  cell_same reach told owner w h = grind (arith, record_same, array_same, length_same)
 
   cells_same : (reach : List Known) → ((k : Known) → Has reach k → IsTold k.0) → (owner : ℕ) (ws : List Word) → AllByRecursion (WordInOrder (IsSegment m.constants) job.arrays reach owner) ws
       → cells_text m' (map (word_by rename relabel) ws) ≡ cells_text m ws
   cells_same reach told owner [] h = refl
-  cells_same reach told owner (w ∷ ws) h =
-      ap (λ t. t ++ ended (beside (codes "CELL") (beside (decimal (2 + length (map (word_by rename relabel) ws))) (cell_text m' (word_by rename relabel w))))) (cells_same reach told owner ws h.1)
-      ∙ ap (λ n. cells_text m ws ++ ended (beside (codes "CELL") (beside (decimal (2 + n)) (cell_text m' (word_by rename relabel w))))) (length-map ws (word_by rename relabel))
-      ∙ ap (λ t. cells_text m ws ++ ended (beside (codes "CELL") (beside (decimal (2 + length ws)) t))) (cell_same reach told owner w h.0)
+  cells_same reach told owner (w ∷ ws) h = grind (arith, length-map, cell_same, cells_same reach told owner ws h.1)
 
   standing_same : (reach : List Known) → ((k : Known) → Has reach k → IsTold k.0) → (s : Standing) → StandsInOrder reach s → standing_text m' (standing_by rename s) ≡ standing_text m s
-  standing_same reach told Marked h = refl
-  standing_same reach told (Entered level environment back) h =
-      ap (λ t. beside (codes "LEVEL") (beside (decimal level) (beside (codes "ENV") t))) (record_same environment (told (environment, h.standing) h.among))
+  standing_same reach told s h = grind (arith, record_same)
 
   records_same : (outer : List Known) (fs : List Frame) → ((k : Known) → Has (map known_of fs ++ outer) k → IsTold k.0) → FramesInOrder (IsSegment m.constants) job.arrays outer fs
       → records_text m' (map (frame_by rename relabel) fs) ≡ records_text m fs
@@ -303,23 +248,16 @@ module _ (m m' : SessionJob) (numbers : ℕ → List ℕ) (rows : ℕ)
       ∙ ap (λ t. records_text m below ++ (ended (beside (codes "FRAME") (beside (decimal (length below + 1)) (standing_text m f.standing))) ++ t)) cells
 
   condition_same : (reach : List Known) → ((k : Known) → Has reach k → IsTold k.0) → (w : Condition) → ConditionInOrder reach w → condition_text m' (condition_by rename w) ≡ condition_text m w
-  condition_same reach told Ready h = refl
-  condition_same reach told (Awaits n) h = refl
-  condition_same reach told (WaitsAt frame offset) h = ap (λ t. beside (codes "WAITS") (beside t (decimal offset))) (record_same frame (told (frame, h.0.standing) h.0.among))
+  condition_same reach told w h = grind (arith, record_same)
 
   task_same : (t : Task) → Has job.tasks t → task_text m' (task_by rename relabel t) ≡ task_text m t
   task_same t there =
       let o = own t there in
-      let told = reach_told t there in
-      ap (λ j. ended (beside (codes "TASK") (beside (task_name j t.number) (beside (condition_text m' (condition_by rename t.condition)) (beside (decimal t.segment) (place_text t.place))))) ++ records_text m' (map (frame_by rename relabel) t.frames)) number_is
-      ∙ ap (λ w. ended (beside (codes "TASK") (beside (task_name m.constants.number t.number) (beside w (beside (decimal t.segment) (place_text t.place))))) ++ records_text m' (map (frame_by rename relabel) t.frames)) (condition_same (reach_of job t) told t.condition o.condition)
-      ∙ ap (λ r. ended (beside (codes "TASK") (beside (task_name m.constants.number t.number) (beside (condition_text m t.condition) (beside (decimal t.segment) (place_text t.place))))) ++ r) (records_same (outer_of job t) t.frames told o.frames)
+      grind (arith, reach_told, condition_same, records_same)
 
   tasks_same : (ts : List Task) → ((u : Task) → Has ts u → Has job.tasks u) → tasks_text m' (map (task_by rename relabel) ts) ≡ tasks_text m ts
   tasks_same [] inside = refl
-  tasks_same (t ∷ older) inside =
-      ap (λ r. r ++ task_text m' (task_by rename relabel t)) (tasks_same older (λ u h. inside u (inr h)))
-      ∙ ap (λ r. tasks_text m older ++ r) (task_same t (inside t (inl refl)))
+  tasks_same (t ∷ older) inside = grind (arith, task_same, tasks_same older)
 
   -- the text of the job
   pub job_same : tasks_text m' m'.progress.job.tasks ≡ tasks_text m m.progress.job.tasks

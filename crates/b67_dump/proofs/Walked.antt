@@ -1,10 +1,9 @@
 -- What is read off a machine of a job is the dump of that job.
 use Rattle.std.proofs.Common.{◌≡◌, ◌≢◌, ℕ, suc, ◌+◌, ◌-◌, ◌*◌, ◌/◌, ◌%◌, ◌^◌, ◌<◌, ◌≤◌, ◌==◌, Bool, List, [], ◌∷◌, ◌++◌, map, reverse, length, Option, Some, None, refl, sym, ◌∙◌, ap, subst, arith, inl, inr, lt-ltb, le-ltb}
-use Rattle.std.specs.Prelude.{not, nat_lt, if◌then◌else◌, codes, decimal}
+use Rattle.std.specs.Prelude.{not, if◌then◌else◌, codes, decimal}
 use Rattle.std.specs.List.{AllByRecursion}
 use Rattle.std.proofs.lemmas.List.{length-map, length-reverse}
-use Rattle.std.proofs.lemmas.Bool.{ne_eqb, eq-eqb}
-use Rattle.std.proofs.lemmas.Option.{same_Some}
+use Rattle.std.proofs.lemmas.Bool.{ne_eqb}
 use Rattle.std.proofs.Math.Arith.{digits_div, digits_mod}
 use Rattle.b67_word.specs.declared.couples.Place.{Place}
 use Rattle.b67_ctl.specs.declared.descriptors.DataDesc.{DataDesc}
@@ -15,14 +14,14 @@ use Rattle.b67_model.specs.Words as Words
 use Rattle.b67_model.specs.State as State
 use Rattle.b67_model.specs.Keyed.{keyed}
 use Rattle.b67_model.specs.Lines.{task_name}
-use Rattle.b67_model.specs.Common.{Word, Operand, Name, Ref, Row, Element, Original, Proc, Intrinsic, Standing, Frame, top, Array, Condition, Ready, Awaits, WaitsAt, Task, Job, SessionJob, Session, height, from_frame, frames_of_task, critical_of, outer_reach, outer_of, reach_of, Known, known_of, known_numbers, identities, IsSegment, WordInOrder, StandsInOrder, FramesInOrder, BirthInOrder, ConditionInOrder, ArrayInOrder, TaskInOrder, EntryInOrder}
+use Rattle.b67_model.specs.Common.{Word, Operand, Name, Ref, Row, Element, Original, Proc, Intrinsic, Standing, Frame, top, Array, Condition, Ready, Awaits, WaitsAt, Task, Job, SessionJob, Session, height, from_frame, frames_of_task, critical_of, outer_reach, outer_of, reach_of, Known, known_of, known_numbers, identities, IsSegment, WordInOrder, StandsInOrder, FramesInOrder, BirthInOrder, ConditionInOrder, ArrayInOrder, TaskInOrder}
 use Rattle.b67_stack.specs.declared.Cpu.{Cpu}
 use Rattle.b67_stack.specs.Common.{StackPlace, slot_base, home_desc, Storage}
 use Rattle.b67_layout.specs.Common.{Placement, slot_of, spot_in, base_spot, outer_spots, address_of, shape, head, activations, stack_of_task, machine_view, slot_at, array_object, code_objects, objects_of, TaskRow, JobRow, JobCounts, JobShows, TaskShows, TablesShow, JobInOrderButCounts, IsInOrderButCounts, RepresentsSession}
 use Rattle.b67_layout.specs.Rows as rows
-use Rattle.b67_layout.proofs.Common.{dictionary_below, dictionary_above, original_of, entry_number}
+use Rattle.b67_layout.proofs.Common.{dictionary_below, original_of, entry_number}
 use Rattle.b67_layout_shown.specs.Reading.{word_seen_at, desc_in}
-use Rattle.b67_layout_shown.specs.Shown.{Sight, number_seen, place_seen, top_in, stack_of_row, rows_of, row_cells, segment_cells}
+use Rattle.b67_layout_shown.specs.Shown.{Sight, place_seen, top_in, stack_of_row, rows_of, row_cells, segment_cells}
 use Rattle.b67_layout_shown.specs.Places.{named, word_by}
 use Rattle.b67_layout_shown.proofs.Bits.{desc_read}
 use Rattle.b67_layout_shown.proofs.Stacks.{finds_homes, is_stack}
@@ -68,10 +67,7 @@ module _ (x : Storage) (cpu : Cpu) (plan : Placement) (s : Session) (m : Session
   few_jobs = small_number x cpu plan s m tasks jobs row c ordered stands tables in_session shows
 
   slot_low : (u : Task) → Has job.tasks u → slot_of plan m.constants.number u.number < 120
-  slot_low u there =
-      let low = slot_below x cpu plan s m tasks jobs row c ordered stands tables in_session shows u there in
-      let few = stands.holds.fits.few in
-      omega (arith, low, few)
+  slot_low u there = grind (arith, slot_below)
 
   start_is : (n : ℕ) → slot_start k n ≡ slot_base (machine_view plan s.jobs) n
   start_is n = base_is x cpu plan s m tasks jobs row c ordered stands tables in_session shows n
@@ -134,69 +130,16 @@ module _ (x : Storage) (cpu : Cpu) (plan : Placement) (s : Session) (m : Session
       let rz = stands.holds.memory.slots.regs.size in
       let stack_high = ord.unchanging.stack_high in
       let found = among_live job.tasks u n there same.1 (ord.tasks.apart n) in
-      let marks : length (marks_in cpu.core cpu.regs.stack_size (slot_start k p.stack + p.disp)) ≡ length (from_frame n u.frames) =
-      ap (λ q. length (marks_in cpu.core cpu.regs.stack_size (slot_start k q + p.disp))) in_slot
-      ∙ ap (λ b. length (marks_in cpu.core cpu.regs.stack_size (b + p.disp))) (start_is slot) ∙ r.number ∙ ap (λ (d : List Frame). length d) same.0 in
-      let address : address_of plan p ≡ cpu.regs.stacks + slot * cpu.regs.stack_size + p.disp =
-      ap (λ q. address_of plan (record { stack = q; disp = p.disp })) in_slot
-      ∙ ap (λ (b : Bool). (if b then plan.stacks + slot * plan.size else (if nat_lt slot 136 then plan.dictionary (slot - 127) else 0)) + p.disp) (lt-ltb slot 120 small)
-      ∙ ap (λ b. b + p.disp) (sym (start_is slot)) in
-      record {
-        stack = omega (arith, in_slot, small);
-        disp = omega (arith, at, low, high, stack_high);
-        is =
-            ap (λ (b : Bool). if b then beside (task_name m.constants.number (number_seen tasks p.stack)) (decimal (length (marks_in cpu.core cpu.regs.stack_size (slot_start k p.stack + p.disp)))) else (if p.stack == 127 + m.constants.number then beside (codes "DICT") (decimal m.constants.number) else codes "MCP"))
-            (lt-ltb p.stack 120 (omega (arith, in_slot, small)))
-            ∙ ap (λ q. beside (task_name m.constants.number (number_seen tasks q)) (decimal (length (marks_in cpu.core cpu.regs.stack_size (slot_start k p.stack + p.disp))))) in_slot
-            ∙ ap (λ q. beside (task_name m.constants.number q) (decimal (length (marks_in cpu.core cpu.regs.stack_size (slot_start k p.stack + p.disp))))) (slot_shows x cpu plan s m tasks jobs row c ordered stands tables in_session shows u there)
-            ∙ ap (λ q. beside (task_name m.constants.number u.number) (decimal q)) marks
-            ∙ ap (name_of_record m.constants.number n) (sym found);
-        back = ap (place_seen cpu.regs row m.constants.number) address ∙ place_in cpu.regs row m.constants.number slot p.disp (omega (arith, at, low, high, size, rz)) ∙ ap (λ q. record { stack = q; disp = p.disp }) (sym in_slot);
-      }
+      grind (arith, lt-ltb, slot_shows, place_in)
 
   low_none : (n : ℕ) → n ≤ 1 → record_among job.tasks n ≡ None
   low_none n low = among_none job.tasks n (λ t there. none_low (IsSegment m.constants) m.constants m.progress.job t (own t there) n low)
 
   dictionary_named : SpotNamed (record { stack = 127 + m.constants.number; disp = 0 }) 1
-  dictionary_named =
-      let low = dictionary_below plan 160 s.jobs m stands.holds.fits.dictionaries in_session in
-      let at = stands.holds.memory.slots.regs.stacks in
-      let dict = shows.dictionary in
-      let j_is : 127 + m.constants.number - 127 ≡ m.constants.number = omega arith in
-      let address : address_of plan (record { stack = 127 + m.constants.number; disp = 0 }) ≡ row.dictionary =
-      ap (λ (b : Bool). (if b then plan.stacks + (127 + m.constants.number) * plan.size else (if nat_lt (127 + m.constants.number) 136 then plan.dictionary (127 + m.constants.number - 127) else 0)) + 0) (le-ltb (127 + m.constants.number) 120 (omega arith))
-      ∙ ap (λ (b : Bool). (if b then plan.dictionary (127 + m.constants.number - 127) else 0) + 0) (lt-ltb (127 + m.constants.number) 136 (omega (arith, few_jobs)))
-      ∙ ap (λ n. plan.dictionary n + 0) j_is ∙ (let z : plan.dictionary m.constants.number + 0 ≡ row.dictionary = omega (arith, dict) in z) in
-      record {
-        stack = omega (arith, few_jobs);
-        disp = omega arith;
-        is =
-            ap (λ (b : Bool). if b then beside (task_name m.constants.number (number_seen tasks (127 + m.constants.number))) (decimal (length (marks_in cpu.core cpu.regs.stack_size (slot_start k (127 + m.constants.number) + 0)))) else (if 127 + m.constants.number == 127 + m.constants.number then beside (codes "DICT") (decimal m.constants.number) else codes "MCP"))
-            (le-ltb (127 + m.constants.number) 120 (omega arith))
-            ∙ ap (λ (b : Bool). if b then beside (codes "DICT") (decimal m.constants.number) else codes "MCP") (eq-eqb (127 + m.constants.number) (127 + m.constants.number) refl)
-            ∙ ap (name_of_record m.constants.number 1) (sym (low_none 1 (omega arith)));
-        back =
-            ap (place_seen cpu.regs row m.constants.number) address
-            ∙ ap (λ (b : Bool). if b then (if row.dictionary == row.dictionary then record { stack = 127 + m.constants.number; disp = 0 } else record { stack = 136; disp = 0 }) else record { stack = (row.dictionary - cpu.regs.stacks) / cpu.regs.stack_size; disp = (row.dictionary - cpu.regs.stacks) % cpu.regs.stack_size })
-            (lt-ltb row.dictionary cpu.regs.stacks (omega (arith, low, at, dict)))
-            ∙ ap (λ (b : Bool). if b then record { stack = 127 + m.constants.number; disp = 0 } else record { stack = 136; disp = 0 }) (eq-eqb row.dictionary row.dictionary refl);
-      }
+  dictionary_named = grind (arith, dictionary_below, le-ltb, few_jobs, low_none)
 
   mcp_named : SpotNamed (record { stack = 136; disp = 0 }) 0
-  mcp_named =
-      let low = dictionary_above plan 160 s.jobs m stands.holds.fits.dictionaries in_session in
-      let up = dictionary_below plan 160 s.jobs m stands.holds.fits.dictionaries in_session in
-      let at = stands.holds.memory.slots.regs.stacks in
-      let dict = shows.dictionary in
-      record {
-        stack = omega arith;
-        disp = omega arith;
-        is = ap (λ (b : Bool). if b then beside (codes "DICT") (decimal m.constants.number) else codes "MCP") (ne_eqb 136 (127 + m.constants.number) (λ e. omega (arith, e, few_jobs))) ∙ ap (name_of_record m.constants.number 0) (sym (low_none 0 (omega arith)));
-        back =
-            ap (λ (b : Bool). if b then (if 0 == row.dictionary then record { stack = 127 + m.constants.number; disp = 0 } else record { stack = 136; disp = 0 }) else record { stack = (0 - cpu.regs.stacks) / cpu.regs.stack_size; disp = (0 - cpu.regs.stacks) % cpu.regs.stack_size })
-            (lt-ltb 0 cpu.regs.stacks (omega (arith, low, up, at)))
-            ∙ ap (λ (b : Bool). if b then record { stack = 127 + m.constants.number; disp = 0 } else record { stack = 136; disp = 0 }) (ne_eqb 0 row.dictionary (λ e. omega (arith, e, dict, low)));
-      }
+  mcp_named = grind (arith, few_jobs, low_none)
 
   base_named : (q : Known) → Has ((1, State.Entered 1 0 None) ∷ (0, State.Entered 0 0 None) ∷ []) q → SpotNamed (base_spot m.constants.number q.0) q.0
   base_named q (inl e) = subst (λ n. SpotNamed (base_spot m.constants.number n) n) (ap (λ (z : Known). z.0) e) dictionary_named
@@ -337,25 +280,7 @@ module _ (x : Storage) (cpu : Cpu) (plan : Placement) (s : Session) (m : Session
   row_array a there d =
       let home = plan.home m.constants.number a.identity in
       let e = entry_number 1 m.constants.segments (reverse m.constants.dictionary.cells) a.identity ord.unchanging.dictionary (has_reverse m.constants.dictionary.cells (Original a.identity) d) in
-      let n : length (reverse m.constants.dictionary.cells) ≡ length m.constants.dictionary.cells = length-reverse m.constants.dictionary.cells in
-      let is = stands.holds.fits.row_homes m in_session a.identity e.0 (omega (arith, e.1, n)) in
-      let up = dictionary_under plan 160 s.jobs m stands.holds.fits.dictionaries in_session in
-      let dict = shows.dictionary in
-      let segs = shows.segments in
-      let many = shows.rows in
-      let at = stands.holds.memory.slots.regs.stacks in
-      let own_item = all_in (EntryInOrder job.arrays) m.constants.dictionary.cells (Original a.identity) ord.tasks.entries d in
-      let same : own_item.item ≡ a = same_Some own_item.item a (sym (numbers_here own_item.item own_item.live) ∙ ap (array_found m) own_item.named ∙ numbers_here a there) in
-      let owner : a.owner ≡ 1 = ap (λ (b : Array). b.owner) (sym same) ∙ own_item.owned in
-      let none = low_none 1 (omega arith) in
-      let offset : offset_of_original a.identity m.constants.dictionary.cells ≡ home - row.dictionary =
-      ap (offset_of_original a.identity) (sym dictionary_words) ∙ offset_rows row.rows row.segments a.identity e.0 (omega (arith, e.1, n, segs, many)) ∙ omega (arith, is, dict, segs) in
-      ap (λ (b : Bool). if b then beside (beside (codes "DICT") (decimal m.constants.number)) (decimal (home - row.dictionary))
-      else owner_text k m.constants.number ((home - cpu.regs.stacks) / cpu.regs.stack_size) home (marks_under home (marks_in cpu.core cpu.regs.stack_size (top_mark_in k ((home - cpu.regs.stacks) / cpu.regs.stack_size))))) (lt-ltb home cpu.regs.stacks (omega (arith, is, e.1, n, up, at)))
-      ∙ ap (λ q. beside (beside (codes "DICT") (decimal m.constants.number)) (decimal q)) (sym offset)
-      ∙ ap (λ q. beside (name_of_record m.constants.number 1 q) (decimal (offset_of_original a.identity (cells_of_record m.constants.dictionary.cells q)))) (sym none)
-      ∙ ap (λ q. beside (record_name m q) (decimal (offset_of_original a.identity (cells_of_record m.constants.dictionary.cells (record_among job.tasks q))))) (sym owner)
-      ∙ ap (name_of_array m) (sym (numbers_here a there))
+      grind (arith, length-reverse, dictionary_under, all_in, numbers_here, low_none, dictionary_words, offset_rows)
 
   array_is : (a : Array) → Has job.arrays a → array_at_home k row m.constants.number (plan.home m.constants.number a.identity) ≡ array_name m a.identity
   array_is a there = elim (original_of m.constants m.progress.job ord.tasks a there) [
@@ -382,8 +307,7 @@ module _ (x : Storage) (cpu : Cpu) (plan : Placement) (s : Session) (m : Session
       let d = words_long row.rows row.segments in
       let same = ap (λ (ws : List Word). length ws) dictionary_words in
       let low = ord.unchanging.entries in
-      let segs = shows.segments in
-      omega (arith, d, same, low, segs)
+      grind arith
 
   cell_is : (spot : ℕ → StackPlace) (reach : List Known) → ((q : Known) → Has reach q → SpotNamed (spot q.0) q.0) → (owner : ℕ) (w : Word) → WordInOrder (IsSegment m.constants) job.arrays reach owner w
       → shape_text k row m.constants.number (shape plan m.constants.number job spot w) ≡ cell_text m w
@@ -411,15 +335,10 @@ module _ (x : Storage) (cpu : Cpu) (plan : Placement) (s : Session) (m : Session
   cells_are : (spot : ℕ → StackPlace) (reach : List Known) → ((q : Known) → Has reach q → SpotNamed (spot q.0) q.0) → (owner : ℕ) (ws : List Word) → AllByRecursion (WordInOrder (IsSegment m.constants) job.arrays reach owner) ws
       → shapes_text k row m.constants.number (map (shape plan m.constants.number job spot) ws) ≡ cells_text m ws
   cells_are spot reach named owner [] o = refl
-  cells_are spot reach named owner (w ∷ ws) o =
-      ap (λ t. t ++ ended (beside (codes "CELL") (beside (decimal (2 + length (map (shape plan m.constants.number job spot) ws))) (shape_text k row m.constants.number (shape plan m.constants.number job spot w))))) (cells_are spot reach named owner ws o.1)
-      ∙ ap (λ n. cells_text m ws ++ ended (beside (codes "CELL") (beside (decimal (2 + n)) (shape_text k row m.constants.number (shape plan m.constants.number job spot w))))) (length-map ws (shape plan m.constants.number job spot))
-      ∙ ap (λ t. cells_text m ws ++ ended (beside (codes "CELL") (beside (decimal (2 + length ws)) t))) (cell_is spot reach named owner w o.0)
+  cells_are spot reach named owner (w ∷ ws) o = grind (arith, length-map, cell_is, cells_are spot reach named owner ws o.1)
 
   head_is : (spot : ℕ → StackPlace) (reach : List Known) → ((q : Known) → Has reach q → SpotNamed (spot q.0) q.0) → (st : Standing) → StandsInOrder reach st → head_text k m.constants.number (head spot st) ≡ standing_text m st
-  head_is spot reach named State.Marked o = refl
-  head_is spot reach named (State.Entered level environment back) o =
-      ap (λ t. beside (codes "LEVEL") (beside (decimal level) (beside (codes "ENV") t))) (named (environment, o.standing) o.among).is
+  head_is spot reach h st o = grind arith
 
   -- the records of a task from one of them down
   records_are : (u : Task) → Has job.tasks u → (outer : ℕ → StackPlace) (outside : List Known) → ((q : Known) → Has outside q → SpotNamed (outer q.0) q.0) → (fs : List Frame) → IsPart u outer fs → FramesInOrder (IsSegment m.constants) job.arrays outside fs

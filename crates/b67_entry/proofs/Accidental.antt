@@ -32,8 +32,7 @@ use Rattle.b67_entry.proofs.Sites.{Site, site}
 use Rattle.b67_entry.proofs.Segments.{few_segments}
 
 same_cells : (fs : List Frame) → with_top_cells fs (top fs).cells ≡ fs
-same_cells [] = refl
-same_cells (f ∷ below) = refl
+same_cells h = grind arith
 
 module _ (core : List Tagged) (r : Regs) (a : RunningContext core r) (q : Place)
     (f segment level : ℕ) (place : Place) (names : NamesEntered (reach_of a.member.progress.job a.task) f) (own : 1 < f) (high : level ≤ 31) (starts : IsSegment a.member.constants segment level place) (value : Bool) (b : Place) (good : IsPlace b) where
@@ -112,9 +111,7 @@ module _ (core : List Tagged) (r : Regs) (a : RunningContext core r) (q : Place)
   job = record a.member.progress.job { next_frame = a.member.progress.job.next_frame + 1 }
 
   core_is : Accidents.core_after a.left a.storage core r a.marks a.plan a.session a.member a.task a.holds a.running level f back spot job a.member.progress.job.next_frame refl refl free segment place ≡ core_after
-  core_is =
-      ap (λ (k : Mscw). slice_set (slice_set core (r.s + 1) (mscw_word k)) (r.s + 2) (rcw_word (return_of (Some back) stack))) (sym mark_is)
-      ∙ ap (λ (c : Rcw). slice_set (slice_set core (r.s + 1) (mscw_word mark)) (r.s + 2) (rcw_word c)) (sym rcw_is)
+  core_is = grind (arith, mark_is, rcw_is)
 
   spot_at : spot_in a.plan.running (outer_spots a.plan a.member.constants.number a.member.progress.job a.task.critical a.task.parents) a.task.frames f ≡ spot
   spot_at = ap (λ (k : ℕ). spot_in k (outer_spots a.plan a.member.constants.number a.member.progress.job a.task.critical a.task.parents) a.task.frames f) a.running.slot

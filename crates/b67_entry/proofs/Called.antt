@@ -1,5 +1,5 @@
 -- The entering of a marked activation record in the code's own values.
-use Rattle.std.proofs.Common.{◌≡◌, ◌≢◌, ℕ, ◌+◌, ◌<◌, ◌≤◌, List, reverse, Err, refl, sym, ◌∙◌, ap, true, false, not, ◌==◌, slice_set, subst}
+use Rattle.std.proofs.Common.{◌≡◌, ◌≢◌, ℕ, ◌+◌, ◌<◌, ◌≤◌, List, reverse, Err, sym, ◌∙◌, true, false, not, ◌==◌, slice_set, subst, arith}
 use Rattle.b67_word.specs.Tagged.{Tagged}
 use Rattle.b67_word.specs.declared.couples.Place.{Place}
 use Rattle.b67_word.specs.declared.faults.Fault.TheVariants.{InvalidOperand}
@@ -8,8 +8,7 @@ use Rattle.b67_ctl.specs.declared.marks.Mscw.{Mscw}
 use Rattle.b67_ctl.specs.declared.marks.Rcw.{Rcw}
 use Rattle.b67_ctl.specs.declared.programs.Pcw.{Pcw}
 use Rattle.b67_ctl.specs.Layout.{IsPlace, IsMscw, mscw_word, IsRcw, rcw_word}
-use Rattle.b67_model.specs.Words as Words
-use Rattle.b67_model.specs.Common.{Word, Operand, Name, Ref, Row, Element, Proc, Intrinsic, Job, frame, level_of_frame, AtProc, enters, is_original_of}
+use Rattle.b67_model.specs.Common.{Word, Job, frame, level_of_frame, AtProc, enters, is_original_of}
 use Rattle.b67_stack.specs.declared.Cpu.{Cpu}
 use Rattle.b67_stack.specs.Shapes as Shapes
 use Rattle.b67_stack.specs.Stacks.{StackPlace, top_mark}
@@ -24,26 +23,10 @@ use Rattle.b67_entry.proofs.Entering as Entering
 
 -- a reference is no original
 pub plain_reference : (w : Word) → IsReference w → (n : ℕ) → is_original_of n w ≡ false
-plain_reference (Name couple) is n = refl
-plain_reference (Ref f offset) is n = refl
-plain_reference (Operand bits) is n = absurd is
-plain_reference (Row array) is n = absurd is
-plain_reference (Element array index) is n = absurd is
-plain_reference (Words.Original array) is n = absurd is
-plain_reference (Proc segment level place) is n = absurd is
-plain_reference (Intrinsic k) is n = absurd is
-plain_reference (Words.Segment k) is n = absurd is
+plain_reference w is n = grind arith
 
 pub plain_shape : (plan : Placement) (j : ℕ) (job : Job) (spot : ℕ → StackPlace) (w : Word) → IsReference w → (home : ℕ) → shape plan j job spot w ≢ Shapes.Original home
-plain_shape plan j job spot (Name couple) is home = λ e. cc
-plain_shape plan j job spot (Ref f offset) is home = λ e. cc
-plain_shape plan j job spot (Operand bits) is home = absurd is
-plain_shape plan j job spot (Row array) is home = absurd is
-plain_shape plan j job spot (Element array index) is home = absurd is
-plain_shape plan j job spot (Words.Original array) is home = absurd is
-plain_shape plan j job spot (Proc segment level place) is home = absurd is
-plain_shape plan j job spot (Intrinsic k) is home = absurd is
-plain_shape plan j job spot (Words.Segment k) is home = absurd is
+plain_shape plan j job spot w is home = grind arith
 
 module _ (cpu : Cpu) (a : RunningContext cpu.core cpu.regs) (q : Place) (good : IsPlace q) (at f segment level : ℕ) (place : Place) (reference : Word) (arguments : List Word) (e : ReachesProc cpu a q at f segment level place) (w : CallsWith a.task reference arguments) where
   pub with : IsMarkedWith a.task.frames reference (reverse arguments)
@@ -81,19 +64,14 @@ module _ (cpu : Cpu) (a : RunningContext cpu.core cpu.regs) (q : Place) (good : 
   pub mark_is : (env : Activation) (p : Pcw) (t : Mscw) → env ≡ environment cpu cpu.regs a q at f segment level place e.procedure → p ≡ pcw cpu cpu.regs a q at f segment level place e.procedure
       → t ≡ top_mark cpu.regs.slot (stack_of_task a.plan a.member.constants.number a.member.progress.job a.plan.running a.task) → (k : Mscw)
       → k ≡ record { far = not (env.stack == cpu.regs.slot); entered = true; env_stack = env.stack; env_disp = env.disp; value = false; level = p.level; back = t.back } → k ≡ mark
-  mark_is env p t ee ep et k ek =
-      ek ∙ ap (λ (z : Activation). let y : Mscw = record { far = not (z.stack == cpu.regs.slot); entered = true; env_stack = z.stack; env_disp = z.disp; value = false; level = p.level; back = t.back } in y) ee
-      ∙ ap (λ (z : Pcw). record mark { level = z.level; back = t.back }) ep
-      ∙ ap (λ (z : Mscw). record mark { back = z.back }) et
+  mark_is env p t ee ep et k ek = grind arith
 
   abbrev pub core_after : List Tagged
   core_after = slice_set (slice_set cpu.core cpu.regs.f (mscw_word mark)) (cpu.regs.f + 1) (rcw_word caller)
 
   -- the core after both writes
   pub core_is : (v u : Tagged) (k : Mscw) (one two : List Tagged) → one ≡ slice_set cpu.core cpu.regs.f v → v ≡ mscw_word k → k ≡ mark → two ≡ slice_set one (cpu.regs.f + 1) u → u ≡ rcw_word caller → two ≡ core_after
-  core_is v u k one two e1 ev ek e2 ew =
-      e2 ∙ ap (λ (z : List Tagged). slice_set z (cpu.regs.f + 1) u) (e1 ∙ ap (slice_set cpu.core cpu.regs.f) (ev ∙ ap mscw_word ek))
-      ∙ ap (slice_set (slice_set cpu.core cpu.regs.f (mscw_word mark)) (cpu.regs.f + 1)) ew
+  core_is v u k one two e1 ev ek e2 ew = grind arith
 
   pub refused : level_of_frame (frame (here a.member a.task q) f) + 1 ≢ level → enters (here a.member a.task q) arguments (AtProc f segment level place) ≡ Err InvalidOperand
   refused ne = Entering.refused a.storage cpu a.plan a.session a.member a.task q e.ordered e.stands a.running f segment level place e.procedure.cell.names e.procedure.own (high cpu cpu.regs a q at f segment level place e.procedure) (starts cpu cpu.regs a q at f segment level place e.procedure) good reference arguments with (plain_reference reference w.refers) ne
@@ -114,6 +92,4 @@ module _ (cpu : Cpu) (a : RunningContext cpu.core cpu.regs) (q : Place) (good : 
         let D : List Tagged → Pcw → Type 0 = λ k z. (b : RunningContext k (regs_with z)) → IsShown b d in
         let seen : IsShown scene_after d = subst (λ (z : Pcw). D core_after z) ep (subst (λ (k : List Tagged). D k p) ec shown) scene_after in
         let made = Entering.done a.storage cpu a.plan a.session a.member a.task q e.ordered e.stands a.running f segment level place e.procedure.cell.names e.procedure.own (high cpu cpu.regs a q at f segment level place e.procedure) (starts cpu cpu.regs a q at f segment level place e.procedure) good reference arguments with (plain_reference reference w.refers) test (plain_shape a.plan a.member.constants.number a.member.progress.job _ reference w.refers) d seen in
-        let is : new ≡ record { core = core_after; regs = regs_with p0; display = d; critical = cpu.critical } =
-        en ∙ ap (λ (k : List Tagged). let z : Cpu = record { core = k; regs = regs_with p; display = d; critical = cpu.critical } in z) ec ∙ ap (λ (y : Pcw). let z : Cpu = record { core = core_after; regs = regs_with y; display = d; critical = cpu.critical } in z) ep in
-        subst (λ (z : Cpu). IsMade a.storage a.plan a.session a.member cpu z (enters (here a.member a.task q) arguments (AtProc f segment level place))) (sym is) made
+        grind arith

@@ -5,11 +5,11 @@ use Rattle.b67_ctl.specs.declared.registers.Regs.{Regs}
 use Rattle.b67_ctl.specs.declared.marks.Rcw.{Rcw}
 use Rattle.b67_ctl.specs.Layout.{rcw_word, IsRcw}
 use Rattle.b67_stack.specs.declared.Cpu.{Cpu}
-use Rattle.b67_stack.specs.Common.{Fits, LieDownward, Head, Entered, HeadFits, stack_words, mark_place, top_mark, return_of, headed, words, slot_base}
+use Rattle.b67_stack.specs.Common.{Fits, LieDownward, Head, Entered, stack_words, top_mark, return_of, headed, words, slot_base}
 use Rattle.b67_stack.proofs.Heights.{words-length}
 use Rattle.b67_stack.proofs.Lies.{Lie-under}
-use Rattle.b67_stack.proofs.Slots.{running_slot, running_fits, running_lies}
-use Rattle.b67_stack.proofs.Tops.{level-small, mark_before}
+use Rattle.b67_stack.proofs.Slots.{running_slot, running_lies}
+use Rattle.b67_stack.proofs.Tops.{level-small}
 use Rattle.b67_entry.specs.Left.{MayReturn, caller_regs}
 
 module _ (cpu : Cpu) (a : MayReturn cpu) where
@@ -34,18 +34,9 @@ module _ (cpu : Cpu) (a : MayReturn cpu) where
       ap (slice_get cpu.core) at ∙ head_lies.0.1 ∙ ap Some head_lies.0.2.0
 
   pub return_fits : IsRcw (return_of (Some a.back) a.below)
-  return_fits =
-      let f = (running_fits a.storage cpu.core cpu.regs a.machine_view cpu.regs.slot (a.top ∷ a.below) a.stands a.runs).0.heads in
-      let P : Head → Type 0 = λ h. HeadFits h a.below in
-      let fit = subst P a.entered f.0 in
-      record { place = fit.3.0; level = level-small a.below f.1; segment = fit.3.1 }
+  return_fits = grind (arith, level-small)
 
   -- the registers by the words that are read
   pub regs_are : (w : Rcw) (back : ℕ) → w ≡ return_of (Some a.back) a.below → back ≡ (top_mark cpu.regs.slot (a.top ∷ a.below)).back
       → ◌≡◌ {A = Regs} (record cpu.regs { s = cpu.regs.f - 1; f = cpu.regs.f - back; level = w.level; segment = w.segment; place = w.place }) (caller_regs cpu.regs a.below a.back)
-  regs_are w back is e =
-      let b = mark_before a.storage cpu.core cpu.regs a.machine_view cpu.regs.slot (a.top ∷ a.below) a.stands a.runs a.some in
-      let top : cpu.regs.f - 1 ≡ cpu.regs.bosr + stack_words a.below = b.0 in
-      let mark : cpu.regs.f - back ≡ cpu.regs.bosr + mark_place a.below = ap (λ (i : ℕ). cpu.regs.f - i) e ∙ b.1 in
-      let R : ℕ → ℕ → Rcw → Regs = λ s f v. record cpu.regs { s = s; f = f; level = v.level; segment = v.segment; place = v.place } in
-      ap (λ (s : ℕ). R s (cpu.regs.f - back) w) top ∙ ap (λ (f : ℕ). R (cpu.regs.bosr + stack_words a.below) f w) mark ∙ ap (R (cpu.regs.bosr + stack_words a.below) (cpu.regs.bosr + mark_place a.below)) is
+  regs_are w back is e = grind arith

@@ -1,7 +1,7 @@
 -- The word that is returned leads to a procedure, which is entered in the state without the frame.
 use Rattle.std.proofs.Common.{◌≡◌, ◌≢◌, ℕ, ◌+◌, ◌≤◌, List, [], ◌∷◌, Some, None, Ok, Err, refl, sym, ◌∙◌, ap, arith, Bool, true, false, inl, inr, subst}
 use Rattle.std.specs.Prelude.{◌==◌, if◌then◌else◌}
-use Rattle.std.proofs.lemmas.Bool.{cases_eq, le-leb}
+use Rattle.std.proofs.lemmas.Bool.{cases_eq}
 use Rattle.b67_word.specs.declared.couples.Place.{Place}
 use Rattle.b67_word.specs.declared.faults.Fault.{Fault}
 use Rattle.b67_word.specs.declared.faults.Fault.TheVariants.{InvalidOperand}
@@ -33,8 +33,7 @@ accident_at : (h : OperatorContext) (cells : List Word) (back : Return) (f segme
     → (let fs = record { identity = h.job.next_frame; standing = State.Entered level f (Some back); cells = [] } ∷ with_top_cells h.task.frames cells in
     height fs ≤ h.constants.stack_size
     → accident h cells back (AtProc f segment level place) ≡ (if b then Ok (Goes (with_task (record h.job { next_frame = h.job.next_frame + 1 }) (record h.task { frames = fs; segment = segment; place = place })) [] None) else Err InvalidOperand))
-accident_at h cells back f segment level place true e low = rw e (rw (le-leb (height (record { identity = h.job.next_frame; standing = State.Entered level f (Some back); cells = [] } ∷ with_top_cells h.task.frames cells)) h.constants.stack_size low) refl)
-accident_at h cells back f segment level place false e low = rw e refl
+accident_at h cells g f segment level place b e low = grind arith
 
 module _ (x : Storage) (old : Cpu) (plan : Placement) (s : Session) (m : SessionJob) (t : Task) (o : IsInOrderButCounts s) (h : RepresentsSession x old plan s) (runs : IsRunning plan s.jobs m t) (a : Returns m t)
     (cell f segment level : ℕ) (place : Place) (p : IsProcAt (scene x old plan s m t o h runs a) a.back.place cell f segment level place) where

@@ -1,5 +1,5 @@
 -- What was computed on the registers of the caller, which stand in no register yet.
-use Rattle.std.proofs.Common.{◌≡◌, ℕ, List, Result, Ok, sym, true, subst}
+use Rattle.std.proofs.Common.{◌≡◌, ℕ, List, Result, Ok, sym, true, subst, arith}
 use Rattle.b67_word.specs.Tagged.{Tagged}
 use Rattle.b67_word.specs.declared.couples.Place.{Place}
 use Rattle.b67_word.specs.declared.faults.Fault.{Fault}
@@ -61,10 +61,7 @@ module _ (x : Storage) (old : Cpu) (plan : Placement) (s : Session) (m : Session
 
   -- the machine that was made
   pub made_there : (value : Tagged) (display : List ℕ) (new : Cpu) (answer : Answer Done) → new ≡ with_word old r display value → IsMade x plan s m old (with_word old (regs_left x old plan s m t o h runs a) display value) answer → IsMade x plan s m old new answer
-  made_there value display new answer e made =
-      let P : Cpu → Type 0 = λ z. IsMade x plan s m old z answer in
-      let Q : Regs → Type 0 = λ z. P (with_word old z display value) in
-      subst P (sym e) (subst Q (sym is) made)
+  made_there value display new answer e made = grind arith
 
   module _ (cell f segment level : ℕ) (place : Place) (p : IsProcAt (scene x old plan s m t o h runs a) a.back.place cell f segment level place) where
     pub enters_there : (c : RunningContext old.core r) × (q : Place) × (g : ℕ) × (n : ℕ) × (l : ℕ) × (first : Place) × CanEnter old r c q cell g n l first

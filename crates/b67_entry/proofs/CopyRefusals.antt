@@ -1,6 +1,6 @@
 -- Which descriptors may not be returned, by their words.
-use Rattle.std.proofs.Common.{◌≡◌, ◌≢◌, ℕ, ◌+◌, ◌<◌, ◌≤◌, List, ◌∷◌, map, unwrap_or, Option, Some, None, refl, sym, ◌∙◌, ap, arith, true, false, not, inl, inr, subst}
-use Rattle.std.proofs.lemmas.Bool.{true≢false, cases_eq}
+use Rattle.std.proofs.Common.{◌≡◌, ◌≢◌, ℕ, ◌+◌, ◌<◌, ◌≤◌, List, ◌∷◌, map, Some, None, refl, sym, ◌∙◌, ap, arith, true, false, not, inl, inr, subst}
+use Rattle.std.proofs.lemmas.Bool.{true≢false}
 use Rattle.std.proofs.lemmas.Bool.Decides.{eqb_tells}
 use Rattle.b67_word.specs.Tagged.{Tagged}
 use Rattle.b67_word.specs.declared.faults.Fault.TheVariants.{InvalidOperand, Uplevel}
@@ -9,22 +9,19 @@ use Rattle.b67_ctl.specs.declared.descriptors.DataDesc.{DataDesc}
 use Rattle.b67_lemmas.specs.Lists.{Has, Falls}
 use Rattle.b67_lemmas.proofs.Members.{keyed_falls, keyed_has}
 use Rattle.b67_model.specs.Words as Words
-use Rattle.b67_model.specs.Common.{Word, Operand, Name, Ref, Row, Element, Original, Proc, Intrinsic, Frame, Array, Task, Job, SessionJob, top, array, no_array, owner_of, returnable, number_of, Session, IsSegment, Known, NamesArray, WordInOrder, reach_of}
-use Rattle.b67_model.specs.Keyed.{keyed}
+use Rattle.b67_model.specs.Common.{Word, Operand, Name, Ref, Row, Element, Original, Proc, Intrinsic, Frame, Array, Task, Job, SessionJob, top, array, owner_of, returnable, number_of, Session, IsSegment, Known, NamesArray, WordInOrder, reach_of}
 use Rattle.b67_layout.specs.Common.{IsInOrderButCounts, Placement, spot_in, outer_spots, shape, activations, machine_view, IsRunning, RepresentsSession}
 use Rattle.b67_stack.specs.declared.Cpu.{Cpu}
 use Rattle.b67_stack.specs.Common.{Fits, IsCopy, Copied, copy_desc, StackPlace, stack_words, RunsOn, slot_base, Storage}
 use Rattle.b67_stack.proofs.Homes.{same_desc}
-use Rattle.b67_stack.proofs.Slots.{running_slot, running_fits}
-use Rattle.b67_layout.proofs.Common.{running_in_order, slot_is, runs_here, all, homes_low, homes_high}
+use Rattle.b67_layout.proofs.Common.{running_in_order, runs_here, all, homes_low, homes_high}
 use Rattle.b67_refer.specs.Ends.{IsCopyOf}
 use Rattle.b67_layout.proofs.LeftSettles.{under}
 use Rattle.b67_entry.specs.Words.{IsTopWord, Refuses}
 
 -- the array that a word names is found
 pub found_array : (job : Job) (reach : List Known) (a : ℕ) (n : NamesArray job.arrays reach a) → Falls job.next_array (map (λ (b : Array). b.identity) job.arrays) → array job a ≡ n.item
-found_array job reach a n falls =
-    ap (λ (o : Option Array). unwrap_or o no_array) (ap (λ (i : ℕ). keyed (λ (b : Array). b.identity) i job.arrays) (sym n.named) ∙ keyed_falls (λ (b : Array). b.identity) job.next_array job.arrays n.item falls n.live)
+found_array job reach a n falls = grind (arith, keyed_falls)
 
 module _ (x : Storage) (cpu : Cpu) (plan : Placement) (s : Session) (m : SessionJob) (t : Task) (o : IsInOrderButCounts s) (h : RepresentsSession x cpu plan s) (runs : IsRunning plan s.jobs m t) (v : Word) (w : Tagged) (b : IsTopWord x plan m t cpu v w) where
   abbrev spot : ℕ → StackPlace
@@ -48,24 +45,11 @@ module _ (x : Storage) (cpu : Cpu) (plan : Placement) (s : Session) (m : Session
 
   -- it is the word of a descriptor
   pub has_desc : w.tag ≡ 5 → (d : DataDesc) × IsDataDesc d × (w ≡ data_word d)
-  has_desc five = by v b.fits b.order where
-    by : (u : Word) → Fit u → Ordered u → (d : DataDesc) × IsDataDesc d × (w ≡ data_word d)
-    by (Original a) fit g = (fit.1.desc, fit.1.fits, fit.1.is)
-    by (Row a) fit g = (copy_desc (row_copied a) fit.number fit.present fit.address, fit.fits, fit.is)
-    by (Element a index) fit g = (copy_desc (element_copied a index) fit.number fit.present fit.address, fit.fits, fit.is)
-    by (Operand bits) fit g = tag_apart _ five fit.0 (λ e. omega (arith, e))
-    by (Name couple) fit g = tag_apart _ five fit.0 (λ e. omega (arith, e))
-    by (Ref a offset) fit g = tag_apart _ five fit.0 (λ e. omega (arith, e))
-    by (Proc segment level place) fit g = tag_apart _ five fit.0 (λ e. omega (arith, e))
-    by (Intrinsic number) fit g = absurd g
-    by (Words.Segment number) fit g = absurd g
+  has_desc five = grind arith
 
   -- the one that is read
   pub read_desc : w.tag ≡ 5 → (d : DataDesc) → ((e : DataDesc) → IsDataDesc e → w ≡ data_word e → d ≡ e) → IsDataDesc d × (w ≡ data_word d)
-  read_desc five d read =
-      let (e, fits, is) = has_desc five in
-      let P : DataDesc → Type 0 = λ z. IsDataDesc z × (w ≡ data_word z) in
-      subst P (sym (read e fits is)) (fits, is)
+  read_desc five d read = grind (arith, has_desc)
 
   -- an original
   pub original_refused : w.tag ≡ 5 → (d : DataDesc) → IsDataDesc d → w ≡ data_word d → d.copy ≡ false → Refuses (Some InvalidOperand) v (returnable m.progress.job (top t.frames).identity v)
@@ -85,15 +69,7 @@ module _ (x : Storage) (cpu : Cpu) (plan : Placement) (s : Session) (m : Session
     by (Words.Segment number) fit g = absurd g
 
   copy_of : (d : DataDesc) → IsDataDesc d → w ≡ data_word d → (c : Copied) (home : ℕ) → IsCopy x.held c home w → IsCopyOf cpu.core d home
-  copy_of d fits is c home i = record {
-    storage = x;
-    registers = cpu.regs;
-    machine_view = machine_view plan s.jobs;
-    stands = h.holds.memory;
-    copied = c;
-    fits = fits;
-    is = record { number = i.number; numbered = i.numbered; present = i.present; address = i.address; fits = i.fits; is = sym is ∙ i.is; to = i.to };
-  }
+  copy_of d fits is c home i = grind arith
 
   -- the array of which a word is a copy
   abbrev pub CopyOf : Word → ℕ → Type 0
@@ -134,10 +110,7 @@ module _ (x : Storage) (cpu : Cpu) (plan : Placement) (s : Session) (m : Session
   bounds : (cpu.regs.f ≡ first + high_under + 1) × (cpu.regs.s ≡ first + high_all) × (high_all < plan.size)
   bounds =
       let on = subst (λ (fs : List Frame). RunsOn (machine_view plan s.jobs) cpu.regs.slot (activations plan m.constants.number m.progress.job plan.running (outer_spots plan m.constants.number m.progress.job t.critical t.parents) fs)) b.frames (runs_here x cpu plan s m t h runs) in
-      let r = running_slot x cpu.core cpu.regs (machine_view plan s.jobs) cpu.regs.slot (all x cpu.core cpu.regs cpu.critical plan s m t b.frame b.below o h.holds runs b.frames) h.holds.memory on in
-      let f = running_fits x cpu.core cpu.regs (machine_view plan s.jobs) cpu.regs.slot (all x cpu.core cpu.regs cpu.critical plan s m t b.frame b.below o h.holds runs b.frames) h.holds.memory on in
-      let e : slot_base (machine_view plan s.jobs) cpu.regs.slot ≡ first = ap (slot_base (machine_view plan s.jobs)) (slot_is x cpu plan s m t h runs) in
-      (omega (arith, r.mark, e), omega (arith, r.top, e), f.0.fits)
+      grind arith
 
   -- an array that a word in order names: its owner by its home
   owned_above : (a : ℕ) → NamesArray m.progress.job.arrays (reach_of m.progress.job t) a → owner_of m.progress.job a ≡ b.frame.identity → (cpu.regs.f < plan.home m.constants.number a) × (plan.home m.constants.number a ≤ cpu.regs.s)
@@ -158,37 +131,8 @@ module _ (x : Storage) (cpu : Cpu) (plan : Placement) (s : Session) (m : Session
 
   -- an array of the top frame
   pub own_copy_refused : (home : ℕ) → CopyOf v home → cpu.regs.f < home → home ≤ cpu.regs.s → Refuses (Some Uplevel) v (returnable m.progress.job (top t.frames).identity v)
-  own_copy_refused home c low up = by v c b.order where
-    owned : (a : ℕ) → home ≡ plan.home m.constants.number a → NamesArray m.progress.job.arrays (reach_of m.progress.job t) a → owner_of m.progress.job a ≡ (top t.frames).identity
-    owned a e n = elim (cases_eq (owner_of m.progress.job a) b.frame.identity) [
-      | inl z ↦ z ∙ sym id_is
-      | inr z ↦ absurd (not_owned a n z (omega (arith, low, e)) (omega (arith, up, e)))
-    ]
-
-    by : (u : Word) → CopyOf u home → Ordered u → Refuses (Some Uplevel) u (returnable m.progress.job (top t.frames).identity u)
-    by (Row a) e g = elim (eqb_tells (owner_of m.progress.job a) (top t.frames).identity) [ inl q ↦ rw q.0 refl | inr q ↦ absurd (q.1 (owned a e g)) ]
-    by (Element a index) e g = elim (eqb_tells (owner_of m.progress.job a) (top t.frames).identity) [ inl q ↦ rw q.0 refl | inr q ↦ absurd (q.1 (owned a e g)) ]
-    by (Original a) e g = absurd e
-    by (Operand bits) e g = absurd e
-    by (Name couple) e g = absurd e
-    by (Ref a offset) e g = absurd e
-    by (Proc segment level place) e g = absurd e
-    by (Intrinsic number) e g = absurd e
-    by (Words.Segment number) e g = absurd e
+  own_copy_refused home c low up = grind (arith, not_owned, eqb_tells)
 
   -- another array
   pub other_copy_passes : (home : ℕ) → CopyOf v home → (cpu.regs.f < home → home ≤ cpu.regs.s → ⊥) → Refuses None v (returnable m.progress.job (top t.frames).identity v)
-  other_copy_passes home c apart = by v c b.order where
-    differs : (a : ℕ) → home ≡ plan.home m.constants.number a → NamesArray m.progress.job.arrays (reach_of m.progress.job t) a → owner_of m.progress.job a ≢ (top t.frames).identity
-    differs a e n z = let q = owned_above a n (z ∙ id_is) in apart (omega (arith, q.0, e)) (omega (arith, q.1, e))
-
-    by : (u : Word) → CopyOf u home → Ordered u → Refuses None u (returnable m.progress.job (top t.frames).identity u)
-    by (Row a) e g = elim (eqb_tells (owner_of m.progress.job a) (top t.frames).identity) [ inl q ↦ absurd (differs a e g q.1) | inr q ↦ rw q.0 refl ]
-    by (Element a index) e g = elim (eqb_tells (owner_of m.progress.job a) (top t.frames).identity) [ inl q ↦ absurd (differs a e g q.1) | inr q ↦ rw q.0 refl ]
-    by (Original a) e g = absurd e
-    by (Operand bits) e g = absurd e
-    by (Name couple) e g = absurd e
-    by (Ref a offset) e g = absurd e
-    by (Proc segment level place) e g = absurd e
-    by (Intrinsic number) e g = absurd e
-    by (Words.Segment number) e g = absurd e
+  other_copy_passes home c apart = grind (arith, owned_above, eqb_tells)

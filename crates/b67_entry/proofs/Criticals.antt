@@ -1,30 +1,22 @@
 -- The displacement of the topmost critical mark tells whether the top frame is critical.
-use Rattle.std.proofs.Common.{◌≡◌, ◌≢◌, ℕ, suc, ◌+◌, ◌-◌, ◌<◌, ◌≤◌, List, [], ◌∷◌, Some, refl, sym, ◌∙◌, ap, arith, Bool, true, false, eqb, get_or}
+use Rattle.std.proofs.Common.{◌≡◌, ◌≢◌, ℕ, suc, ◌+◌, ◌-◌, ◌<◌, ◌≤◌, List, [], ◌∷◌, Some, refl, sym, ◌∙◌, ap, arith, eqb, get_or}
 use Rattle.std.specs.Prelude.{if◌then◌else◌}
 use Rattle.std.specs.List.{slice_get}
-use Rattle.std.proofs.lemmas.Bool.{eq-eqb, ne_eqb}
 use Rattle.std.proofs.lemmas.Option.{get_or_from_slice_get}
-use Rattle.b67_model.specs.Common.{Frame, Task, Job, SessionJob, words_of, height, top, number_of, is_critical, Session}
+use Rattle.b67_model.specs.Common.{Frame, Task, Job, SessionJob, height, top, number_of, is_critical, Session}
 use Rattle.b67_layout.specs.Common.{IsInOrderButCounts, Placement, outer_spots, activations, stack_of_task, machine_view, IsRunning, RepresentsSession, critical_mark}
 use Rattle.b67_stack.specs.declared.Cpu.{Cpu}
 use Rattle.b67_stack.specs.Common.{stack_words, mark_place, Storage, RepresentsRunning}
 use Rattle.b67_stack.proofs.Slots.{running_slot}
 use Rattle.b67_layout.proofs.Common.{height-is, running_in_order, slot_below, runs_here}
 use Rattle.b67_lemmas.proofs.Members.{keyed_has}
-use Rattle.b67_layout_records.proofs.Apart.{some_words}
 
 mark_under : (job : Job) (fs : List Frame) → critical_mark job fs < height fs
 mark_under job [] = omega arith
-mark_under job (f ∷ below) = by (mark_under job below) (is_critical job f.identity) where
-  by : critical_mark job below < height below → (b : Bool) → (if b then height below else critical_mark job below) < height below + words_of f
-  by low true = omega (arith, some_words f.standing)
-  by low false = omega (arith, low, some_words f.standing)
+mark_under job (f ∷ below) = grind (arith, mark_under job below)
 
 tells : (job : Job) (f : Frame) (below : List Frame) → eqb (critical_mark job (f ∷ below)) (height below) ≡ is_critical job f.identity
-tells job f below = by (is_critical job f.identity) where
-  by : (b : Bool) → eqb (if b then height below else critical_mark job below) (height below) ≡ b
-  by true = eq-eqb (height below) (height below) refl
-  by false = ne_eqb (critical_mark job below) (height below) (λ e. (let low = mark_under job below in omega (arith, low, e)))
+tells job f below = grind (arith, mark_under)
 
 module _ (x : Storage) (cpu : Cpu) (plan : Placement) (s : Session) (m : SessionJob) (t : Task) (o : IsInOrderButCounts s) (h : RepresentsSession x cpu plan s) (runs : IsRunning plan s.jobs m t) where
   pub slot_small : cpu.regs.slot < 120

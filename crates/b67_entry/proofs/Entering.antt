@@ -18,7 +18,7 @@ use Rattle.b67_stack.specs.Common.{Original, StackPlace, Activation, Entered, He
 use Rattle.b67_stack.proofs.Slots.{running_slot, running_fits}
 use Rattle.b67_stack.proofs.Tops.{level-small, top_size-high}
 use Rattle.b67_stack.proofs.Pushes.{Room, room_of}
-use Rattle.b67_layout.proofs.Common.{slot_is, no_objects_gone, running_in_order, fresh}
+use Rattle.b67_layout.proofs.Common.{no_objects_gone, running_in_order, fresh}
 use Rattle.b67_refer.specs.RunningContext.{RunningContext}
 use Rattle.b67_refer.proofs.Scenes.{scene, member_in_order}
 use Rattle.b67_layout_records.proofs.Heads.{entered_mark_fits}
@@ -35,8 +35,7 @@ top_cells_in_order P arrays outer [] g = (tt, tt)
 top_cells_in_order P arrays outer (f ∷ below) g = g.0
 
 apart_spot : (k : ℕ) (outer : ℕ → StackPlace) (fs : List Frame) (n : ℕ) → fs ≢ [] → (top fs).identity ≢ n → spot_in k outer fs n ≡ spot_in k outer (below_top fs) n
-apart_spot k outer [] n some ne = absurd (some refl)
-apart_spot k outer (f ∷ below) n some ne = rw (ne_eqb f.identity n ne) refl
+apart_spot k h fs n some ne = grind arith
 
 module _ (x : Storage) (old : Cpu) (plan : Placement) (s : Session) (m : SessionJob) (t : Task) (q : Place) (o : IsInOrderButCounts s) (h : RepresentsSession x old plan s) (runs : IsRunning plan s.jobs m t)
     (f segment level : ℕ) (place : Place) (names : NamesEntered (reach_of m.progress.job t) f) (own : 1 < f) (high : level ≤ 31) (starts : IsSegment m.constants segment level place) (good : IsPlace q)
@@ -90,9 +89,7 @@ module _ (x : Storage) (old : Cpu) (plan : Placement) (s : Session) (m : Session
   back_is = ap (λ (st : List Activation). (top_mark old.regs.slot st).back) (marked_stack plan m.constants.number m.progress.job plan.running outer t.frames first (reverse arguments) w)
 
   mark_is : mark ≡ mark_of plan.running (Entered level spot (Some back)) under
-  mark_is =
-      ap (λ (k : ℕ). record mark { far = not (spot.stack == k) }) (slot_is x old plan s m t h runs)
-      ∙ ap (λ (n : ℕ). record mark { far = not (spot.stack == plan.running); back = n }) back_is
+  mark_is = grind arith
 
   rcw_is : rcw ≡ return_of (Some back) under
   rcw_is =
@@ -115,9 +112,7 @@ module _ (x : Storage) (old : Cpu) (plan : Placement) (s : Session) (m : Session
   regs_after = record old.regs { level = level; segment = segment + 1; place = place }
 
   core_is : Enters.core_after x old.core old.regs old.critical plan s m t h.holds runs first (reverse arguments) w level f back spot m.progress.job.next_frame (fresh plan s m t o runs) segment place ≡ core_after
-  core_is =
-      ap (λ (k : Mscw). slice_set (slice_set old.core old.regs.f (mscw_word k)) (old.regs.f + 1) (rcw_word (return_of (Some back) under))) (sym mark_is)
-      ∙ ap (λ (c : Rcw). slice_set (slice_set old.core old.regs.f (mscw_word mark)) (old.regs.f + 1) (rcw_word c)) (sym rcw_is)
+  core_is = grind (arith, rcw_is)
 
   -- what lies at F and above
   pub two_words : (old.regs.bosr < old.regs.f) × (old.regs.f + 1 ≤ old.regs.losr)

@@ -1,5 +1,5 @@
 -- The display before an entry or an exit holds the running environment.
-use Rattle.std.proofs.Common.{◌≡◌, ◌≢◌, ℕ, ◌+◌, ◌-◌, ◌<◌, ◌≤◌, List, [], ◌∷◌, Option, Some, true, refl, sym, ◌∙◌, ap, arith, length, slice_set, subst}
+use Rattle.std.proofs.Common.{◌≡◌, ◌≢◌, ℕ, ◌+◌, ◌-◌, ◌<◌, ◌≤◌, List, [], ◌∷◌, Option, true, refl, sym, ◌∙◌, ap, arith, length, slice_set, subst}
 use Rattle.std.specs.List.{slice_get}
 use Rattle.b67_core.proofs.Writes.{slice_get-set_same, slice_get-set_other}
 use Rattle.b67_word.specs.Tagged.{Tagged}
@@ -32,15 +32,7 @@ caller_slots cpu v below back e = record { stacks = ap (λ (z : Regs). z.stacks)
 -- the mark of an entered record was written, and then another word
 pub enters_in : (core one two : List Tagged) (r : Regs) (over : ℕ) (m : Mscw) (v w : Tagged) (stack disp : ℕ) → IsMscw m → r.f < length core → r.f ≢ over → one ≡ slice_set core r.f v → v ≡ mscw_word m → two ≡ slice_set one over w
     → m.entered ≡ true → m.env_stack ≡ stack → m.env_disp ≡ disp → 2 < r.level → EntersIn two r stack disp
-enters_in core one two r over m v w stack disp fits inside ne e1 ev e2 entered slot_is disp_is high = record {
-  mark = m;
-  fits = fits;
-  there = ap (λ (k : List Tagged). slice_get k r.f) e2 ∙ slice_get-set_other one over r.f w ne ∙ ap (λ (k : List Tagged). slice_get k r.f) e1 ∙ slice_get-set_same core r.f v inside ∙ ap Some ev;
-  entered = entered;
-  slot_is = slot_is;
-  disp_is = disp_is;
-  high = high;
-}
+enters_in core one two r over m v w stack disp fits inside ne e1 ev e2 entered slot_is disp_is high = grind (arith, slice_get-set_other, slice_get-set_same)
 
 -- the running task, with nothing to release
 abbrev pub plain : (x : Storage) (cpu : Cpu) (plan : Placement) (s : Session) (m : SessionJob) (t : Task) → IsInOrderButCounts s → RepresentsSession x cpu plan s → IsRunning plan s.jobs m t → RunningContext cpu.core cpu.regs

@@ -2,7 +2,7 @@
 use Rattle.std.proofs.Common.{◌≡◌, ◌≢◌, ℕ, ◌<◌, List, [], ◌∷◌, ◌++◌, length, Option, Some, None, Ok, Err, refl, sym, ◌∙◌, ap, arith, true, not, inl, inr, ⊎_elim, subst, slice_index}
 use Rattle.std.specs.Prelude.{◌==◌}
 use Rattle.std.specs.List.{slice_get}
-use Rattle.std.proofs.lemmas.Bool.{true≢false, le-leb}
+use Rattle.std.proofs.lemmas.Bool.{true≢false}
 use Rattle.std.proofs.lemmas.Bool.Decides.{eqb_tells}
 use Rattle.std.proofs.lemmas.Option.{same_Some, slice_get_within}
 use Rattle.b67_word.specs.Tagged.{Tagged, word}
@@ -10,7 +10,7 @@ use Rattle.b67_word.specs.declared.couples.Place.{Place}
 use Rattle.b67_word.specs.declared.faults.Fault.{Fault}
 use Rattle.b67_word.specs.declared.faults.Fault.TheVariants.{InvalidOperand}
 use Rattle.b67_ctl.specs.declared.registers.Regs.{Regs}
-use Rattle.b67_model.specs.Common.{Answer, ◌>>=◌, Word, Operand, Name, Ref, Row, Element, Original, Proc, Intrinsic, Ready, Frame, Array, Task, Job, OperatorContext, SessionJob, all_frames, mcp, height, with_task, element, AtCell, AtElement, AtArray, AtProc, AtIntrinsic, follow, evaluates, returned, Done, Goes, pushes, without_arrays_of, Session}
+use Rattle.b67_model.specs.Common.{Answer, ◌>>=◌, Word, Operand, Name, Ref, Row, Element, Original, Proc, Intrinsic, Ready, Frame, Array, Task, OperatorContext, SessionJob, all_frames, mcp, element, AtCell, AtElement, AtProc, follow, evaluates, returned, Done, Goes, pushes, Session}
 use Rattle.b67_model.specs.Words as Words
 use Rattle.b67_model.specs.Chase as Chase
 use Rattle.b67_layout.specs.Common.{IsInOrderButCounts, Placement, IsRunning, RepresentsSession, IsMade, FindsAbsent, TouchedIsPresent, area_held, here}
@@ -50,48 +50,22 @@ follows h (Words.Segment number) n = refl
 -- what was found tells the end
 module _ {core : List Tagged} {r : Regs} (c : RunningContext core r) (q : Place) where
   pub fault_end : (f : Fault) (a : Answer Chase.End) → EndMeets c q (Err f) a → a ≡ Err f
-  fault_end f (Ok e) k = absurd k
-  fault_end f (Err g) k = ap Err (sym k)
+  fault_end f a k = grind arith
 
   pub cell_end : (at : ℕ) (a : Answer Chase.End) → EndMeets c q (Ok (end.Cell at)) a → (f : ℕ) × (offset : ℕ) × (bits : ℕ) × (a ≡ Ok (AtCell f offset bits)) × IsCellAt c q at f offset (Operand bits)
-  cell_end at (Ok (AtCell f offset bits)) k = (f, offset, bits, refl, k)
-  cell_end at (Ok (AtElement n i)) k = absurd k
-  cell_end at (Ok (AtArray n)) k = absurd k
-  cell_end at (Ok (AtProc f segment level place)) k = absurd k
-  cell_end at (Ok (AtIntrinsic n)) k = absurd k
-  cell_end at (Err g) k = absurd k
+  cell_end at a k = grind arith
 
   pub element_end : (original index : ℕ) (a : Answer Chase.End) → EndMeets c q (Ok (end.Element original index)) a → (n : ℕ) × (a ≡ Ok (AtElement n index)) × IsElementOf c q original n index
-  element_end original index (Ok (AtElement n i)) k = (n, ap (λ (z : ℕ). Ok (AtElement n z)) (sym k.0), subst (λ (z : ℕ). IsElementOf c q original n z) (sym k.0) k.1)
-  element_end original index (Ok (AtCell f offset bits)) k = absurd k
-  element_end original index (Ok (AtArray n)) k = absurd k
-  element_end original index (Ok (AtProc f segment level place)) k = absurd k
-  element_end original index (Ok (AtIntrinsic n)) k = absurd k
-  element_end original index (Err g) k = absurd k
+  element_end original index a k = grind arith
 
   pub proc_end : (at : ℕ) (a : Answer Chase.End) → EndMeets c q (Ok (end.Proc at)) a → (f : ℕ) × (segment : ℕ) × (level : ℕ) × (place : Place) × (a ≡ Ok (AtProc f segment level place)) × IsProcAt c q at f segment level place
-  proc_end at (Ok (AtProc f segment level place)) k = (f, segment, level, place, refl, k)
-  proc_end at (Ok (AtCell f offset bits)) k = absurd k
-  proc_end at (Ok (AtElement n i)) k = absurd k
-  proc_end at (Ok (AtArray n)) k = absurd k
-  proc_end at (Ok (AtIntrinsic n)) k = absurd k
-  proc_end at (Err g) k = absurd k
+  proc_end at a k = grind arith
 
   array_end : (h : OperatorContext) (original : ℕ) (a : Answer Chase.End) → EndMeets c q (Ok (end.Array original)) a → (a >>= evaluates h) ≡ Err InvalidOperand
-  array_end h original (Ok (AtArray n)) k = refl
-  array_end h original (Ok (AtCell f offset bits)) k = absurd k
-  array_end h original (Ok (AtElement n i)) k = absurd k
-  array_end h original (Ok (AtProc f segment level place)) k = absurd k
-  array_end h original (Ok (AtIntrinsic n)) k = absurd k
-  array_end h original (Err g) k = absurd k
+  array_end h original a k = grind arith
 
   intrinsic_end : (h : OperatorContext) (number : ℕ) (a : Answer Chase.End) → EndMeets c q (Ok (end.Intrinsic number)) a → (a >>= evaluates h) ≡ Err InvalidOperand
-  intrinsic_end h number (Ok (AtIntrinsic n)) k = refl
-  intrinsic_end h number (Ok (AtCell f offset bits)) k = absurd k
-  intrinsic_end h number (Ok (AtElement n i)) k = absurd k
-  intrinsic_end h number (Ok (AtProc f segment level place)) k = absurd k
-  intrinsic_end h number (Ok (AtArray n)) k = absurd k
-  intrinsic_end h number (Err g) k = absurd k
+  intrinsic_end h number a k = grind arith
 
 module _ (x : Storage) (old : Cpu) (plan : Placement) (s : Session) (m : SessionJob) (t : Task) (o : IsInOrderButCounts s) (h : RepresentsSession x old plan s) (runs : IsRunning plan s.jobs m t) (a : Returns m t) where
   abbrev pub scene : RunningContext old.core (regs_left x old plan s m t o h runs a)
@@ -109,12 +83,7 @@ module _ (x : Storage) (old : Cpu) (plan : Placement) (s : Session) (m : Session
 
   -- a word that is pushed there
   pushes_there : (u : Word) (touched : Option ℕ) → pushes (here_left m t a) u touched ≡ Ok (Goes (job_with x old plan s m t o h runs a (frames_with x old plan s m t o h runs a (u ∷ a.next.cells)) t.condition) [] touched)
-  pushes_there u touched =
-      let T : Task = (here_left m t a).task in
-      let fs = frames_with x old plan s m t o h runs a (u ∷ a.next.cells) in
-      let U : Task = record t { frames = fs; segment = a.back.segment; place = a.back.place } in
-      let twice : with_task (here_left m t a).job U ≡ with_task (without_arrays_of a.f.identity m.progress.job) U = ap (λ (ts : List Task). record (without_arrays_of a.f.identity m.progress.job) { tasks = ts }) (change_twice (λ (z : Task). z.number) t.number T U m.progress.job.tasks refl) in
-      rw (le-leb (height fs) m.constants.stack_size (omega (arith, height_left x old plan s m t o h runs a))) (ap (λ (j : Job). Ok (Goes j [] touched)) twice)
+  pushes_there u touched = grind (arith, change_twice, height_left)
 
   pub put_made : (u : Word) (w : Tagged) → Puts x old plan s m t o h runs a u w → (touched : Option ℕ) → TouchedIsPresent x plan m.constants.number touched → (display : List ℕ) → IsShown scene display → (answer : Answer Done) → answer ≡ pushes (here_left m t a) u touched
       → IsMade x plan s m old (with_word old (regs_left x old plan s m t o h runs a) display w) answer
@@ -155,9 +124,7 @@ module _ (x : Storage) (old : Cpu) (plan : Placement) (s : Session) (m : Session
           ap (λ (n : ℕ). element (here_left m t a).job n index) (sym q.array_of.names.named) ∙ ap (λ (z : Array). slice_index z.numbers index) same ∙ ap (λ (n : ℕ). element m.progress.job n index) q.array_of.names.named
 
       element_answer : returned (here_left m t a) v true ≡ pushes (here_left m t a) (Operand (element m.progress.job number index)) (Some number)
-      element_answer =
-          answer_is v not_operand ∙ ap (λ (z : Answer Chase.End). z >>= evaluates (here_left m t a)) is
-          ∙ ap (λ (z : ℕ). pushes (here_left m t a) (Operand z) (Some number)) element_same
+      element_answer = grind (arith, answer_is, element_same)
 
       pub element_made : (at : ℕ) (value : Tagged) (display : List ℕ) → area_held x plan m.constants.number number ≡ Some at → value ≡ word 0 (element m.progress.job number index) → IsShown scene display
           → IsMade x plan s m old (with_word old (regs_left x old plan s m t o h runs a) display value) (returned (here_left m t a) v true)

@@ -31,24 +31,19 @@ use Rattle.b67_entry.specs.Procedures.{CallsWith}
 -- what the mark says of how the frame stands
 module _ (plan : Placement) (j : ℕ) (job : Job) (k : ℕ) (outer : ℕ → StackPlace) where
   entered_by : (h : OperatorContext) (st : Standing) (spot : ℕ → StackPlace) (below : List Activation) → (mark_of k (head spot st) below).entered ≡ true → (entr h st ≡ Err InvalidOperand) × (called_on h st ≡ None)
-  entered_by h State.Marked spot below e = absurd (false≢true e)
-  entered_by h (State.Entered level environment back) spot below e = (refl, refl)
+  entered_by h st spot below e = grind arith
 
   marked_by : (st : Standing) (spot : ℕ → StackPlace) (below : List Activation) → (mark_of k (head spot st) below).entered ≡ false → st ≡ State.Marked
-  marked_by State.Marked spot below e = refl
-  marked_by (State.Entered level environment back) spot below e = absurd (false≢true (sym e))
+  marked_by st spot below e = grind arith
 
   entered_top : (h : OperatorContext) (fs : List Frame) → (top_mark k (activations plan j job k outer fs)).entered ≡ true → (entr h (top fs).standing ≡ Err InvalidOperand) × (called_on h (top fs).standing ≡ None)
-  entered_top h [] e = absurd (false≢true e)
-  entered_top h (f ∷ below) e = entered_by h f.standing (spot_in k outer below) (activations plan j job k outer below) e
+  entered_top h fs e = grind arith
 
   marked_top : (fs : List Frame) → (top_mark k (activations plan j job k outer fs)).entered ≡ false → (top fs).standing ≡ State.Marked
-  marked_top [] e = refl
-  marked_top (f ∷ below) e = marked_by f.standing (spot_in k outer below) (activations plan j job k outer below) e
+  marked_top fs e = grind arith
 
   top_cells_is : (fs : List Frame) → top_cells (activations plan j job k outer fs) ≡ map (shape plan j job (spot_in k outer fs)) (top fs).cells
-  top_cells_is [] = refl
-  top_cells_is (f ∷ below) = refl
+  top_cells_is fs = grind arith
 
 -- the cells by the first one
 pub record Parted (cells : List Word) : Type 0 where
@@ -71,26 +66,10 @@ last_has (x ∷ xs) y = inr (last_has xs y)
 -- a cell's word with tag 1 is a reference, and one without isn't
 module _ (P : Starts) (arrays : List Array) (known : List Known) (owner : ℕ) (x : Storage) (plan : Placement) (j : ℕ) (job : Job) (spot : ℕ → StackPlace) (i : ℕ) (v : Tagged) where
   pub refers : (w : Word) → WordInOrder P arrays known owner w → Fits x.held (shape plan j job spot w) i v → v.tag ≡ 1 → IsReference w
-  refers (Name couple) o f e = tt
-  refers (Ref g offset) o f e = tt
-  refers (Operand bits) o f e = let z = ap (λ (y : Tagged). y.tag) f.0 in absurd (omega (arith, z, e))
-  refers (Row array) o f e = let z = ap (λ (y : Tagged). y.tag) f.is in absurd (omega (arith, z, e))
-  refers (Element array index) o f e = let z = ap (λ (y : Tagged). y.tag) f.is in absurd (omega (arith, z, e))
-  refers (Words.Original array) o f e = let z = ap (λ (y : Tagged). y.tag) f.1.is in absurd (omega (arith, z, e))
-  refers (Proc segment level place) o f e = let z = ap (λ (y : Tagged). y.tag) f.0 in absurd (omega (arith, z, e))
-  refers (Intrinsic n) o f e = absurd o
-  refers (Words.Segment n) o f e = absurd o
+  refers w o f e = grind arith
 
   pub refers_not : (h : OperatorContext) (w : Word) → WordInOrder P arrays known owner w → Fits x.held (shape plan j job spot w) i v → v.tag ≢ 1 → follow_reference h w ≡ Err InvalidOperand
-  refers_not h (Name couple) o f ne = absurd (ne (ap (λ (y : Tagged). y.tag) f.0))
-  refers_not h (Ref g offset) o f ne = absurd (ne (ap (λ (y : Tagged). y.tag) f.0))
-  refers_not h (Operand bits) o f ne = refl
-  refers_not h (Row array) o f ne = refl
-  refers_not h (Element array index) o f ne = refl
-  refers_not h (Words.Original array) o f ne = refl
-  refers_not h (Proc segment level place) o f ne = refl
-  refers_not h (Intrinsic n) o f ne = refl
-  refers_not h (Words.Segment n) o f ne = refl
+  refers_not h w o f ne = grind arith
 
 pub same_follow : (h : OperatorContext) (w : Word) → IsReference w → follow_reference h w ≡ follow h w
 same_follow h (Name couple) is = refl
@@ -106,15 +85,7 @@ same_follow h (Words.Segment n) is = absurd is
 stands_for : {core : List Tagged} {r : Regs} (a : RunningContext core r) (at owner : ℕ) (v : Tagged) (w : Word) → IsReference w
     → Fits a.storage.held (shape a.plan a.member.constants.number a.member.progress.job (spots a.plan a.member.constants.number a.member.progress.job a.task) w) at v
     → WordInOrder (IsSegment a.member.constants) a.member.progress.job.arrays (reach_of a.member.progress.job a.task) owner w → StandsFor a at owner v w
-stands_for a at owner v (Name couple) is f o = (f, o)
-stands_for a at owner v (Ref g offset) is f o = (f, o)
-stands_for a at owner v (Operand bits) is f o = absurd is
-stands_for a at owner v (Row array) is f o = absurd is
-stands_for a at owner v (Element array index) is f o = absurd is
-stands_for a at owner v (Words.Original array) is f o = absurd is
-stands_for a at owner v (Proc segment level place) is f o = absurd is
-stands_for a at owner v (Intrinsic n) is f o = absurd is
-stands_for a at owner v (Words.Segment n) is f o = absurd is
+stands_for a at owner v w is f o = grind arith
 
 top_words : (P : Starts) (arrays : List Array) (outer : List Known) (fs : List Frame) → FramesInOrder P arrays outer fs → AllByRecursion (WordInOrder P arrays (map known_of fs ++ outer) (top fs).identity) (top fs).cells
 top_words P arrays outer [] g = tt
@@ -123,8 +94,7 @@ top_words P arrays outer (f ∷ below) g = g.0.0
 -- the row, by where the first cell leads
 pub entr_goes : (h : OperatorContext) (st : Standing) (first : Word) (arguments : List Word) (end : Answer End) → st ≡ State.Marked → reverse (cells_of h) ≡ first ∷ arguments → follow_reference h first ≡ end
     → (entr h st ≡ (end >>= entr_at h arguments)) × (called_on h st ≡ called_at end)
-entr_goes h st first arguments end marked up leads =
-    (ap (entr h) marked ∙ ap (entr_with h) up ∙ ap (λ (e : Answer End). e >>= entr_at h arguments) leads, ap (called_on h) marked ∙ ap (called_by h) up ∙ ap called_at leads)
+entr_goes h st first arguments end marked up leads = grind arith
 
 pub entr_empty : (h : OperatorContext) (st : Standing) → st ≡ State.Marked → cells_of h ≡ [] → (entr h st ≡ Err StackUnderflow) × (called_on h st ≡ None)
 entr_empty h st marked none = (ap (entr h) marked ∙ ap (λ (cs : List Word). entr_with h (reverse cs)) none, ap (called_on h) marked ∙ ap (λ (cs : List Word). called_by h (reverse cs)) none)

@@ -1,11 +1,11 @@
 -- What ENTR comes to, by the end that was found for its reference.
-use Rattle.std.proofs.Common.{◌≡◌, ℕ, List, Option, None, Ok, Err, refl, sym, ap, subst}
+use Rattle.std.proofs.Common.{◌≡◌, ℕ, List, Option, None, Ok, Err, refl, arith}
 use Rattle.b67_word.specs.Tagged.{Tagged}
 use Rattle.b67_word.specs.declared.couples.Place.{Place}
 use Rattle.b67_word.specs.declared.faults.Fault.{Fault}
 use Rattle.b67_word.specs.declared.faults.Fault.TheVariants.{InvalidOperand}
 use Rattle.b67_ctl.specs.declared.registers.Regs.{Regs}
-use Rattle.b67_model.specs.Common.{Answer, ◌>>=◌, Word, SessionJob, OperatorContext, AtCell, AtElement, AtArray, AtProc, AtIntrinsic, Done, entr_at, Session, called_at}
+use Rattle.b67_model.specs.Common.{Answer, ◌>>=◌, Word, SessionJob, OperatorContext, AtProc, AtIntrinsic, Done, entr_at, Session, called_at}
 use Rattle.b67_model.specs.Chase as Chase
 use Rattle.b67_stack.specs.declared.Cpu.{Cpu}
 use Rattle.b67_stack.specs.declared.Step.{Step}
@@ -20,8 +20,7 @@ use Rattle.b67_entry.specs.Procedures.{CallsOrMeets}
 
 -- the answer and the call, where both are known
 pub meets_plain : (x : Storage) (plan : Placement) (s : Session) (m : SessionJob) (answered : Step) (old new : Cpu) (call : Option ℕ) (answer is : Answer Done) → call ≡ None → answer ≡ is → Meets x plan s m answered old new is → CallsOrMeets x plan s m answered old new call answer
-meets_plain x plan s m answered old new call answer is none same made =
-    subst (λ (c : Option ℕ). CallsOrMeets x plan s m answered old new c answer) (sym none) (subst (λ (w : Answer Done). Meets x plan s m answered old new w) (sym same) made)
+meets_plain x plan s m answered old new call answer is none same made = grind arith
 
 pub meets_fault : (x : Storage) (plan : Placement) (s : Session) (m : SessionJob) (fault : Fault) (old new : Cpu) (call : Option ℕ) (answer : Answer Done) → (answer ≡ Err fault) × (call ≡ None) → new ≡ old → CallsOrMeets x plan s m (step.Fault fault) old new call answer
 meets_fault x plan s m fault old new call answer is same = meets_plain x plan s m (step.Fault fault) old new call answer (Err fault) is.1 is.0 (refl, same)
@@ -37,49 +36,23 @@ module _ {core : List Tagged} {r : Regs} (a : RunningContext core r) (q : Place)
     pub procedure : IsProcAt a q at f segment level place
 
   pub proc_found : (at : ℕ) (answer : Answer Chase.End) → EndMeets a q (Ok (end.Proc at)) answer → ProcFound at answer
-  proc_found at (Ok (AtProc f segment level place)) e = record { f = f; segment = segment; level = level; place = place; is = refl; procedure = e }
-  proc_found at (Ok (AtCell f offset bits)) e = absurd e
-  proc_found at (Ok (AtElement array index)) e = absurd e
-  proc_found at (Ok (AtArray array)) e = absurd e
-  proc_found at (Ok (AtIntrinsic n)) e = absurd e
-  proc_found at (Err fault) e = absurd e
+  proc_found at answer e = grind arith
 
   pub intrinsic_found : (n : ℕ) (answer : Answer Chase.End) → EndMeets a q (Ok (end.Intrinsic n)) answer → answer ≡ Ok (AtIntrinsic n)
-  intrinsic_found n (Ok (AtIntrinsic k)) e = ap (λ (i : ℕ). Ok (AtIntrinsic i)) (sym e)
-  intrinsic_found n (Ok (AtCell f offset bits)) e = absurd e
-  intrinsic_found n (Ok (AtElement array index)) e = absurd e
-  intrinsic_found n (Ok (AtArray array)) e = absurd e
-  intrinsic_found n (Ok (AtProc f segment level place)) e = absurd e
-  intrinsic_found n (Err fault) e = absurd e
+  intrinsic_found n answer e = grind arith
 
   pub fault_found : (fault : Fault) (answer : Answer Chase.End) → EndMeets a q (Err fault) answer → answer ≡ Err fault
-  fault_found fault (Err other) e = ap Err (sym e)
-  fault_found fault (Ok end) e = absurd e
+  fault_found fault answer e = grind arith
 
   -- other ends aren't entered
   abbrev pub NotEntered : OperatorContext → List Word → Answer Chase.End → Type 0
   NotEntered h arguments answer = ((answer >>= entr_at h arguments) ≡ Err InvalidOperand) × (called_at answer ≡ None)
 
   pub cell_found : (h : OperatorContext) (arguments : List Word) (at : ℕ) (answer : Answer Chase.End) → EndMeets a q (Ok (end.Cell at)) answer → NotEntered h arguments answer
-  cell_found h arguments at (Ok (AtCell f offset bits)) e = (refl, refl)
-  cell_found h arguments at (Ok (AtElement array index)) e = absurd e
-  cell_found h arguments at (Ok (AtArray array)) e = absurd e
-  cell_found h arguments at (Ok (AtProc f segment level place)) e = absurd e
-  cell_found h arguments at (Ok (AtIntrinsic n)) e = absurd e
-  cell_found h arguments at (Err fault) e = absurd e
+  cell_found h arguments at answer e = grind arith
 
   pub element_found : (h : OperatorContext) (arguments : List Word) (original index : ℕ) (answer : Answer Chase.End) → EndMeets a q (Ok (end.Element original index)) answer → NotEntered h arguments answer
-  element_found h arguments original index (Ok (AtElement array i)) e = (refl, refl)
-  element_found h arguments original index (Ok (AtCell f offset bits)) e = absurd e
-  element_found h arguments original index (Ok (AtArray array)) e = absurd e
-  element_found h arguments original index (Ok (AtProc f segment level place)) e = absurd e
-  element_found h arguments original index (Ok (AtIntrinsic n)) e = absurd e
-  element_found h arguments original index (Err fault) e = absurd e
+  element_found h arguments original index answer e = grind arith
 
   pub array_found : (h : OperatorContext) (arguments : List Word) (original : ℕ) (answer : Answer Chase.End) → EndMeets a q (Ok (end.Array original)) answer → NotEntered h arguments answer
-  array_found h arguments original (Ok (AtArray array)) e = (refl, refl)
-  array_found h arguments original (Ok (AtCell f offset bits)) e = absurd e
-  array_found h arguments original (Ok (AtElement array index)) e = absurd e
-  array_found h arguments original (Ok (AtProc f segment level place)) e = absurd e
-  array_found h arguments original (Ok (AtIntrinsic n)) e = absurd e
-  array_found h arguments original (Err fault) e = absurd e
+  array_found h arguments original answer e = grind arith

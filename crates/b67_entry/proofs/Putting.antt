@@ -24,8 +24,7 @@ use Rattle.b67_layout_records.proofs.Apart.{some_words}
 
 -- a word was put on the stack: those above it stay, and the top is one higher
 pub put_above : (old : Cpu) (r : Regs) (display : List ℕ) (w : Tagged) (new : Cpu) → new ≡ with_word old r display w → (i : ℕ) → new.regs.s < i → slice_get new.core i ≡ slice_get old.core i
-put_above old r display w new e i low =
-    let top = ap (λ (k : Cpu). k.regs.s) e in ap (λ (k : Cpu). slice_get k.core i) e ∙ slice_get-set_other old.core (r.s + 1) i w (λ z. omega arith)
+put_above old r display w new e i low = grind (arith, slice_get-set_other)
 
 pub put_top : (old : Cpu) (r : Regs) (display : List ℕ) (w : Tagged) (new : Cpu) → new ≡ with_word old r display w → (r.s < new.regs.s) × (new.regs.s ≤ r.s + 2)
 put_top old r display w new e = let top = ap (λ (k : Cpu). k.regs.s) e in (omega arith, omega arith)

@@ -1,16 +1,15 @@
 -- The whole machine where the frame is left with a word.
 use Rattle.std.proofs.Common.{◌≡◌, ◌≢◌, ℕ, ◌+◌, ◌<◌, ◌≤◌, List, ◌∷◌, map, Some, refl, sym, ◌∙◌, ap, arith, inl, inr, ◌⊎◌, subst, slice_set}
 use Rattle.std.specs.List.{slice_get}
-use Rattle.std.proofs.lemmas.Bool.{cases_eq}
 use Rattle.b67_word.specs.Tagged.{Tagged, word}
 use Rattle.b67_ctl.specs.declared.registers.Regs.{Regs}
 use Rattle.b67_core.proofs.Writes.{slice_get-set_other}
 use Rattle.b67_lemmas.specs.Lists.{Has}
-use Rattle.b67_lemmas.proofs.Members.{change_twice, has_append_left, has_map, change_found, keyed_has}
+use Rattle.b67_lemmas.proofs.Members.{change_twice, change_found, keyed_has}
 use Rattle.b67_model.specs.Common.{Word, Operand, Frame, Condition, Ready, Task, Job, SessionJob, with_top_cells, with_task, without_arrays_of, Session, IsSegment, WordInOrder, reach_of}
 use Rattle.b67_layout.specs.Common.{IsInOrderButCounts, Placement, spot_in, outer_spots, slot_of, shape, head, activations, machine_view, RepresentsTask, IsRunning, ShowsDisplay, RepresentsSession, SessionHoldsBut, RepresentsSessionBut, objects_gone, with_job, IsInStack}
 use Rattle.b67_stack.specs.declared.Cpu.{Cpu}
-use Rattle.b67_stack.specs.Common.{Shape, Fits, StackPlace, Activation, stack_words, IsStack, headed, words, CopiesName, Storage, RepresentsRunning, Represents, with_stack, MayPush}
+use Rattle.b67_stack.specs.Common.{Shape, Fits, StackPlace, Activation, stack_words, IsStack, words, CopiesName, Storage, RepresentsRunning, Represents, with_stack, MayPush}
 use Rattle.b67_stack.proofs.Slots.{running_slot, running_fits}
 use Rattle.b67_layout.proofs.Common.{OnTop, IsFree, seen-with, change-has, Shows-same, fresh, running_in_order, slot_is, others}
 use Rattle.b67_layout.proofs.Others.{outer_spots-after}
@@ -122,16 +121,13 @@ module _ (x : Storage) (old : Cpu) (plan : Placement) (s : Session) (m : Session
     shape_same = shape_below m.progress.job a.f.identity plan m.constants.number plan.running (outer x old plan s m t o h runs a) a.f (a.next ∷ a.more) v refl b.passes
 
     fits_old : Fits x.held old_shape old.regs.s w
-    fits_old =
-        let Q : List Frame → Type 0 = λ fs. Fits x.held (shape plan m.constants.number m.progress.job (spot_in plan.running (outer x old plan s m t o h runs a) fs) v) old.regs.s w in
-        subst Q (sym b.word.frames ∙ a.frames) b.word.fits
+    fits_old = grind arith
 
     cells_are : a.f.cells ≡ v ∷ b.word.rest
     cells_are = ap (λ (f : Frame). f.cells) (sym frame_is) ∙ b.word.cells
 
     in_words : Has (words old.regs.slot (on_top x old plan s m t o h runs a ∷ under x old plan s m t o h runs a)) old_shape
-    in_words = has_append_left (on_top x old plan s m t o h runs a).cells (headed old.regs.slot (on_top x old plan s m t o h runs a).head (under x old plan s m t o h runs a) (words old.regs.slot (under x old plan s m t o h runs a))) old_shape
-        (has_map (shape plan m.constants.number m.progress.job (spot_in plan.running (outer x old plan s m t o h runs a) (a.f ∷ a.next ∷ a.more))) a.f.cells v (subst (λ (cs : List Word). Has cs v) (sym cells_are) (inl refl)))
+    in_words = grind arith
 
     may_new : MayPush (machine_view plan s.jobs).objects (new_shape v)
     may_new = subst (MayPush (machine_view plan s.jobs).objects) shape_same
@@ -203,7 +199,4 @@ module _ (x : Storage) (old : Cpu) (plan : Placement) (s : Session) (m : Session
 
     -- only a word of the stack has changed
     pub changed_with : (i : ℕ) → (slice_get new_core i ≡ slice_get old.core i) ⊎ IsInStack old.regs i
-    changed_with i = elim (cases_eq i top_at) [
-      | inl e ↦ inr (omega (arith, e, top_inside), omega (arith, e, top_inside))
-      | inr ne ↦ inl (slice_get-set_other old.core top_at i w (λ e. ne e))
-    ]
+    changed_with i = grind (arith, top_inside, slice_get-set_other)

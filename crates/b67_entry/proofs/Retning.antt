@@ -8,11 +8,10 @@ use Rattle.b67_word.specs.declared.faults.Fault.{Fault}
 use Rattle.b67_word.specs.declared.faults.Fault.TheVariants.{MarkPending, StackUnderflow, CriticalBlock}
 use Rattle.b67_ctl.specs.Layout.{flag_bit}
 use Rattle.b67_ctl.specs.declared.marks.Mscw.{Mscw}
-use Rattle.b67_model.specs.Common.{Answer, Word, Operand, Name, Ref, Row, Element, Original, Proc, Intrinsic, Standing, Frame, Task, SessionJob, top, returnable, returned, retn, Leaves, is_critical, Session, IsSegment, known_of, outer_of, FramesInOrder, WordInOrder, reach_of}
-use Rattle.b67_model.specs.Words as Words
+use Rattle.b67_model.specs.Common.{Answer, Word, Frame, Task, SessionJob, top, returnable, returned, retn, Leaves, is_critical, Session, IsSegment, known_of, outer_of, FramesInOrder, WordInOrder}
 use Rattle.b67_layout.specs.Common.{IsInOrderButCounts, Placement, spot_in, outer_spots, shape, head, activations, stack_of_task, machine_view, IsRunning, RepresentsSession, here}
 use Rattle.b67_stack.specs.declared.Cpu.{Cpu}
-use Rattle.b67_stack.specs.Common.{Fits, StackPlace, Activation, mark_of, top_mark, RunsOn, Storage, top_cells}
+use Rattle.b67_stack.specs.Common.{Fits, StackPlace, Activation, top_mark, RunsOn, Storage, top_cells}
 use Rattle.b67_stack.proofs.Cells.{cell_word}
 use Rattle.b67_stack.proofs.Tops.{empty_at}
 use Rattle.b67_stack.proofs.Pushes.{Room, room_of}
@@ -21,9 +20,9 @@ use Rattle.b67_layout.proofs.Starts.{runs_here}
 use Rattle.b67_entry.specs.Left.{Returns}
 use Rattle.b67_entry.specs.Words.{IsTopWord, Refuses}
 use Rattle.b67_entry.specs.Returned.{ReturnsWord}
-use Rattle.b67_entry.proofs.Exits.{leaves_critical, leaves_last}
-use Rattle.b67_entry.proofs.Retns.{retn_pending, retn_empty, retn_refused, retn_passed}
-use Rattle.b67_entry.proofs.Sorted.{IsEntered, is_pending, is_entered, is_last, returns_of}
+use Rattle.b67_entry.proofs.Exits.{leaves_last}
+use Rattle.b67_entry.proofs.Retns.{retn_empty, retn_passed}
+use Rattle.b67_entry.proofs.Sorted.{IsEntered, is_entered, is_last, returns_of}
 use Rattle.b67_law_order.proofs.Maps.{IsOperand}
 
 no_cells : {A B : Type 0} (f : A → B) (xs : List A) → map f xs ≡ [] → xs ≡ []
@@ -31,8 +30,7 @@ no_cells f [] e = refl
 no_cells f (x ∷ xs) e = let z : ⊥ = cc in absurd z
 
 fault_is : (fault : Fault) (v : Word) (answer : Answer Word) → Refuses (Some fault) v answer → answer ≡ Err fault
-fault_is fault v (Ok u) r = absurd r
-fault_is fault v (Err other) r = ap Err (sym r)
+fault_is fault v answer r = grind arith
 
 -- the same by the refusal that was found
 pub refusal_faults : (found : Option Fault) (fault : Fault) (v : Word) (answer : Answer Word) → found ≡ Some fault → Refuses found v answer → Refuses (Some fault) v answer
@@ -42,8 +40,7 @@ pub refusal_passes : (found : Option Fault) (v : Word) (answer : Answer Word) �
 refusal_passes found v answer e r = subst (λ (z : Option Fault). Refuses z v answer) e r
 
 passed_is : (v : Word) (answer : Answer Word) → Refuses None v answer → answer ≡ Ok v
-passed_is v (Ok u) r = ap Ok r
-passed_is v (Err other) r = absurd r
+passed_is v answer r = grind arith
 
 module _ (x : Storage) (cpu : Cpu) (plan : Placement) (s : Session) (m : SessionJob) (t : Task) (o : IsInOrderButCounts s) (h : RepresentsSession x cpu plan s) (runs : IsRunning plan s.jobs m t) where
   abbrev outer : ℕ → StackPlace
@@ -60,9 +57,7 @@ module _ (x : Storage) (cpu : Cpu) (plan : Placement) (s : Session) (m : Session
 
   module _ (mark : Mscw) (is : mark ≡ top_mark cpu.regs.slot (stack_of_task plan m.constants.number m.progress.job plan.running t)) where
     pub pending : (next : Place) → mark.entered ≡ false → retn (here m t next) ≡ Err MarkPending
-    pending next n =
-        let p = is_pending plan m t plan.running cpu.regs.slot outer (running_in_order plan s m t o runs).1 mark is n in
-        retn_pending m t next p.f p.below p.frames p.marked
+    pending next n = grind arith
 
     module _ (n : mark.entered ≡ true) where
       pub top_entered : IsEntered t
@@ -117,19 +112,14 @@ module _ (x : Storage) (cpu : Cpu) (plan : Placement) (s : Session) (m : Session
         cells_with = ap (λ (f : Frame). f.cells) frame_is ∙ b.cells
 
         pub refused : (next : Place) (fault : Fault) → Refuses (Some fault) v (returnable m.progress.job (top t.frames).identity v) → retn (here m t next) ≡ Err fault
-        refused next fault r =
-            let p = top_entered in
-            retn_refused m t next p.f p.below p.level p.environment p.back p.frames p.entered v b.rest cells_with fault (fault_is fault v (returnable m.progress.job (top t.frames).identity v) r)
+        refused next fault r = grind arith
 
         module _ (passes : Refuses None v (returnable m.progress.job (top t.frames).identity v)) where
           pub passes_is : returnable m.progress.job (top t.frames).identity v ≡ Ok v
           passes_is = passed_is v (returnable m.progress.job (top t.frames).identity v) passes
 
           pub critical : (next : Place) → is_critical m.progress.job (top t.frames).identity ≡ true → retn (here m t next) ≡ Err CriticalBlock
-          critical next c =
-              let p = top_entered in
-              retn_passed m t next p.f p.below p.level p.environment p.back p.frames p.entered v b.rest cells_with passes_is
-              ∙ leaves_critical m t next (λ after value. returned after v value) p.f p.below p.level p.environment p.back p.frames p.entered c
+          critical next c = grind arith
 
           module _ (free : is_critical m.progress.job (top t.frames).identity ≡ false) where
             pub ended : (next : Place) → mark.back ≡ 0 → retn (here m t next) ≡ Ok Leaves
@@ -148,40 +138,12 @@ module _ (x : Storage) (cpu : Cpu) (plan : Placement) (s : Session) (m : Session
 
   -- the caller of a frame wants a value where its mark says so
   pub value_is : (mark : Mscw) → mark ≡ top_mark cpu.regs.slot (stack_of_task plan m.constants.number m.progress.job plan.running t) → (a : Returns m t) → mark.value ≡ a.back.value
-  value_is mark is a =
-      let spot = spot_in plan.running outer (a.next ∷ a.more) in
-      let below = activations plan m.constants.number m.progress.job plan.running outer (a.next ∷ a.more) in
-      ap (λ (n : Mscw). n.value) is
-      ∙ ap (λ (fs : List Frame). (top_mark cpu.regs.slot (activations plan m.constants.number m.progress.job plan.running outer fs)).value) a.frames
-      ∙ ap (λ (z : Standing). (mark_of cpu.regs.slot (head spot z) below).value) a.entered
+  value_is mark is a = grind arith
 
   -- an operand by its tag
   pub operand_is : (v : Word) (w : Tagged) → IsTopWord x plan m t cpu v w → w.tag ≡ 0 → IsOperand v
-  operand_is v w b zero = by v b.fits b.order where
-    apart : {A : Type 0} (u : Tagged) → w ≡ u → u.tag ≢ 0 → A
-    apart u is ne = absurd (ne (sym (ap (λ (z : Tagged). z.tag) is) ∙ zero))
-
-    by : (u : Word) → Fits x.held (shape plan m.constants.number m.progress.job (spot_in plan.running outer (b.frame ∷ b.below)) u) cpu.regs.s w → WordInOrder (IsSegment m.constants) m.progress.job.arrays (reach_of m.progress.job t) b.frame.identity u → IsOperand u
-    by (Operand bits) fit g = tt
-    by (Name couple) fit g = apart _ fit.0 (λ e. omega (arith, e))
-    by (Ref f offset) fit g = apart _ fit.0 (λ e. omega (arith, e))
-    by (Row a) fit g = apart _ fit.is (λ e. omega (arith, e))
-    by (Element a index) fit g = apart _ fit.is (λ e. omega (arith, e))
-    by (Original a) fit g = apart _ fit.1.is (λ e. omega (arith, e))
-    by (Proc segment level place) fit g = apart _ fit.0 (λ e. omega (arith, e))
-    by (Intrinsic number) fit g = absurd g
-    by (Words.Segment number) fit g = absurd g
+  operand_is v w b zero = grind arith
 
   -- no operand has another tag
   pub not_operand : (v : Word) (w : Tagged) → IsTopWord x plan m t cpu v w → w.tag ≢ 0 → IsOperand v → ⊥
-  not_operand v w b ne is = by v b.fits is where
-    by : (u : Word) → Fits x.held (shape plan m.constants.number m.progress.job (spot_in plan.running outer (b.frame ∷ b.below)) u) cpu.regs.s w → IsOperand u → ⊥
-    by (Operand bits) fit i = ne (ap (λ (z : Tagged). z.tag) fit.0)
-    by (Name couple) fit i = i
-    by (Ref f offset) fit i = i
-    by (Row a) fit i = i
-    by (Element a index) fit i = i
-    by (Original a) fit i = i
-    by (Proc segment level place) fit i = i
-    by (Intrinsic number) fit i = i
-    by (Words.Segment number) fit i = i
+  not_operand v w b ne is = grind arith

@@ -1,11 +1,9 @@
 -- What RETN answers by the case of the top frame and of its word.
-use Rattle.std.proofs.Common.{◌≡◌, ℕ, ◌+◌, ◌≤◌, List, [], ◌∷◌, Option, Some, None, Ok, Err, refl, sym, ◌∙◌, ap, arith, Bool, true, false, inl, inr, ◌⊎◌}
-use Rattle.std.proofs.lemmas.Bool.{le-leb}
+use Rattle.std.proofs.Common.{◌≡◌, ℕ, ◌+◌, ◌≤◌, List, [], ◌∷◌, Option, Some, None, Ok, Err, refl, ◌∙◌, ap, arith, Bool, false, ◌⊎◌}
 use Rattle.b67_word.specs.declared.couples.Place.{Place}
 use Rattle.b67_word.specs.declared.faults.Fault.{Fault}
 use Rattle.b67_word.specs.declared.faults.Fault.TheVariants.{MarkPending, StackUnderflow}
-use Rattle.b67_model.specs.Common.{Answer, ◌>>=◌, Word, Operand, Name, Ref, Row, Element, Original, Proc, Intrinsic, Standing, Return, Frame, Task, Job, OperatorContext, SessionJob, height, top, with_top_cells, with_task, Goes, top_of, is_critical, without_arrays_of, pushes, returnable, returned, leaves, retn_word, retn}
-use Rattle.b67_model.specs.Words as Words
+use Rattle.b67_model.specs.Common.{Answer, ◌>>=◌, Word, Standing, Return, Frame, Task, OperatorContext, SessionJob, height, top, with_top_cells, with_task, Goes, top_of, is_critical, without_arrays_of, pushes, returnable, returned, leaves, retn_word, retn}
 use Rattle.b67_model.specs.State as State
 use Rattle.b67_layout.specs.Meets.{here}
 use Rattle.b67_layout_records.proofs.Leaves.{task_at}
@@ -14,32 +12,7 @@ use Rattle.b67_lemmas.proofs.Members.{change_twice}
 use Rattle.b67_law_order.proofs.Maps.{IsOperand}
 
 at_once : (h : OperatorContext) (v : Word) (value : Bool) → (value ≡ false) ⊎ IsOperand v → returned h v value ≡ pushes h v None
-at_once h (Operand bits) false e = refl
-at_once h (Operand bits) true e = refl
-at_once h (Name couple) false e = refl
-at_once h (Ref g offset) false e = refl
-at_once h (Row a) false e = refl
-at_once h (Element a index) false e = refl
-at_once h (Original a) false e = refl
-at_once h (Proc segment level place) false e = refl
-at_once h (Intrinsic number) false e = refl
-at_once h (Words.Segment number) false e = refl
-at_once h (Name couple) true (inl e) = absurd (let z : ⊥ = cc in z)
-at_once h (Ref g offset) true (inl e) = absurd (let z : ⊥ = cc in z)
-at_once h (Row a) true (inl e) = absurd (let z : ⊥ = cc in z)
-at_once h (Element a index) true (inl e) = absurd (let z : ⊥ = cc in z)
-at_once h (Original a) true (inl e) = absurd (let z : ⊥ = cc in z)
-at_once h (Proc segment level place) true (inl e) = absurd (let z : ⊥ = cc in z)
-at_once h (Intrinsic number) true (inl e) = absurd (let z : ⊥ = cc in z)
-at_once h (Words.Segment number) true (inl e) = absurd (let z : ⊥ = cc in z)
-at_once h (Name couple) true (inr e) = absurd e
-at_once h (Ref g offset) true (inr e) = absurd e
-at_once h (Row a) true (inr e) = absurd e
-at_once h (Element a index) true (inr e) = absurd e
-at_once h (Original a) true (inr e) = absurd e
-at_once h (Proc segment level place) true (inr e) = absurd e
-at_once h (Intrinsic number) true (inr e) = absurd e
-at_once h (Words.Segment number) true (inr e) = absurd e
+at_once h v value e = grind arith
 
 module _ (m : SessionJob) (t : Task) (q : Place) where
   by_top : (s : Standing) (cells : List Word) → (top t.frames).standing ≡ s → (top t.frames).cells ≡ cells → retn (here m t q) ≡ retn_word (here m t q) s cells
@@ -67,8 +40,7 @@ module _ (m : SessionJob) (t : Task) (q : Place) where
 
       -- it is left with that word
       pub retn_passed : returnable m.progress.job (top t.frames).identity v ≡ Ok v → retn (here m t q) ≡ leaves (here m t q) (top_of (here m t q)).standing (λ after value. returned after v value)
-      retn_passed passes = with_word ∙ ap (λ (r : Answer Word). r >>= λ u. leaves (here m t q) (State.Entered level environment back) (λ after value. returned after u value)) passes
-          ∙ ap (λ (s : Standing). leaves (here m t q) s (λ after value. returned after v value)) (sym (on f below (State.Entered level environment back) e is))
+      retn_passed passes = grind arith
 
   -- on the caller's frame
   module _ (f next : Frame) (more : List Frame) (level environment : ℕ) (back : Return) (e : t.frames ≡ f ∷ next ∷ more) (is : f.standing ≡ State.Entered level environment (Some back))
@@ -82,11 +54,7 @@ module _ (m : SessionJob) (t : Task) (q : Place) where
     -- a word that is pushed there
     pub pushes_left : (u : Word) (touched : Option ℕ) → height (next ∷ more) + 1 ≤ m.constants.stack_size
         → pushes here_left u touched ≡ Ok (Goes (with_task (without_arrays_of f.identity m.progress.job) (task_at t (with_top_cells (next ∷ more) (u ∷ next.cells)) back.segment back.place t.condition)) [] touched)
-    pushes_left u touched low =
-        let T : Task = task_at t (next ∷ more) back.segment back.place t.condition in
-        let U : Task = task_at t (with_top_cells (next ∷ more) (u ∷ next.cells)) back.segment back.place t.condition in
-        let twice : with_task here_left.job U ≡ with_task (without_arrays_of f.identity m.progress.job) U = ap (λ (ts : List Task). record (without_arrays_of f.identity m.progress.job) { tasks = ts }) (change_twice (λ (x : Task). x.number) t.number T U m.progress.job.tasks refl) in
-        rw (le-leb (height (with_top_cells (next ∷ more) (u ∷ next.cells))) m.constants.stack_size (omega (arith, low))) (ap (λ (j : Job). Ok (Goes j [] touched)) twice)
+    pushes_left u touched low = grind (arith, change_twice)
 
     pub retn_pushed : (back.value ≡ false) ⊎ IsOperand v → height (next ∷ more) + 1 ≤ m.constants.stack_size
         → retn (here m t q) ≡ Ok (Goes (with_task (without_arrays_of f.identity m.progress.job) (task_at t (with_top_cells (next ∷ more) (v ∷ next.cells)) back.segment back.place t.condition)) [] None)

@@ -8,7 +8,7 @@ use Rattle.b67_ctl.specs.Layout.{mscw_word, rcw_word}
 use Rattle.b67_core.proofs.Writes.{slice_get-set_other}
 use Rattle.b67_lemmas.specs.Lists.{Has}
 use Rattle.b67_model.specs.State.{Return}
-use Rattle.b67_stack.specs.Common.{Shape, Is, Original, Copy, Fits, LieDownward, StackPlace, Head, Entered, Activation, IsStack, stack_words, mark_place, stack_level, mark_of, return_of, headed, words, PagedObject, MachineView, RunsOn, slot_base, CopiesName, Storage, RepresentsRunning, Represents, with_stack, MayPush}
+use Rattle.b67_stack.specs.Common.{Shape, Is, Copy, Fits, LieDownward, StackPlace, Head, Entered, Activation, IsStack, stack_words, mark_place, stack_level, mark_of, return_of, headed, words, PagedObject, MachineView, RunsOn, slot_base, CopiesName, Storage, RepresentsRunning, Represents, with_stack, MayPush}
 use Rattle.b67_stack.proofs.Lies.{Lie-push, Lie-under}
 use Rattle.b67_stack.proofs.Heights.{words-length}
 use Rattle.b67_stack.proofs.Homes.{not_home}
@@ -42,9 +42,7 @@ Represents-over x core r p k a below c w s u clear may fit room = Represents-slo
 
 -- a word that isn't an original fits at any address
 pub fits_anywhere : (x : Storage) (objects : List PagedObject) (c : Shape) (i j : ℕ) (w : Tagged) → MayPush objects c → Fits x.held c i w → Fits x.held c j w
-fits_anywhere x objects (Is v) i j w may fit = fit
-fits_anywhere x objects (Original home) i j w may fit = absurd may
-fits_anywhere x objects (Copy d home) i j w may fit = fit
+fits_anywhere x objects c i j w may fit = grind arith
 
 -- an entered record on others
 module _ (x : Storage) (core : List Tagged) (r : Regs) (p : MachineView) (k : ℕ) (a b : Activation) (more : List Activation) (level : ℕ) (environment : StackPlace) (back : Return)

@@ -1,12 +1,11 @@
 -- The frame is left and a word is put on the caller's: the machine represents the session afterwards.
-use Rattle.std.proofs.Common.{◌≡◌, ◌≢◌, ℕ, List, ◌∷◌, map, Ok, refl, sym, ◌∙◌, ap, Bool, true, false, not, inl, inr, subst}
+use Rattle.std.proofs.Common.{◌≡◌, ◌≢◌, ℕ, List, ◌∷◌, map, Ok, sym, ◌∙◌, ap, Bool, true, false, not, inl, inr, subst, arith}
 use Rattle.std.specs.Prelude.{◌==◌}
 use Rattle.std.proofs.lemmas.Bool.{true≢false}
 use Rattle.std.proofs.lemmas.Bool.Decides.{eqb_tells}
 use Rattle.b67_word.specs.declared.faults.Fault.TheVariants.{Uplevel}
 use Rattle.b67_lemmas.specs.Lists.{Has, Falls}
-use Rattle.b67_model.specs.Common.{◌>>◌, needs, Word, Operand, Name, Ref, Row, Element, Original, Proc, Intrinsic, Frame, Array, JobConstants, Job, array, owner_of, returnable, IsSegment, Known, NamesArray, WordInOrder}
-use Rattle.b67_model.specs.Words as Words
+use Rattle.b67_model.specs.Common.{◌>>◌, needs, Word, Ref, Row, Element, Frame, Array, JobConstants, Job, array, owner_of, returnable, IsSegment, Known, NamesArray, WordInOrder}
 use Rattle.b67_stack.specs.Common.{Shape, StackPlace, PagedObject, CopiesName, MayPush}
 use Rattle.b67_layout.specs.Common.{Placement, spot_in, shape}
 use Rattle.b67_layout_records.proofs.Nowhere.{SameArray, array_stays}
@@ -19,8 +18,7 @@ module _ (job : Job) (id : ℕ) where
   Passes v = returnable job id v ≡ Ok v
 
   needed : (b : Bool) (v : Word) → (needs (not b) Uplevel >> Ok v) ≡ Ok v → b ≡ false
-  needed true v e = let z : ⊥ = cc in absurd z
-  needed false v e = refl
+  needed b v e = grind arith
 
   -- it isn't a reference into the frame
   pub other_frame : (g offset : ℕ) → returnable job id (Ref g offset) ≡ Ok (Ref g offset) → g ≢ id
@@ -36,30 +34,11 @@ module _ (job : Job) (id : ℕ) where
   -- it is seen from the frames below as from the frame
   pub shape_below : (plan : Placement) (j k : ℕ) (outer : ℕ → StackPlace) (f : Frame) (below : List Frame) (v : Word) → f.identity ≡ id → returnable job id v ≡ Ok v
       → shape plan j job (spot_in k outer (f ∷ below)) v ≡ shape plan j job (spot_in k outer below) v
-  shape_below plan j k outer f below (Ref g offset) is e =
-      let same : spot_in k outer (f ∷ below) g ≡ spot_in k outer below g = elim (eqb_tells f.identity g) [ inl s ↦ absurd (other_frame g offset e (sym s.1 ∙ is)) | inr s ↦ rw s.0 refl ] in
-      let S : StackPlace → Shape = λ s. shape plan j job (λ i. s) (Ref g offset) in
-      ap S same
-  shape_below plan j k outer f below (Operand bits) is e = refl
-  shape_below plan j k outer f below (Name couple) is e = refl
-  shape_below plan j k outer f below (Row a) is e = refl
-  shape_below plan j k outer f below (Element a index) is e = refl
-  shape_below plan j k outer f below (Original a) is e = refl
-  shape_below plan j k outer f below (Proc segment level place) is e = refl
-  shape_below plan j k outer f below (Intrinsic number) is e = refl
-  shape_below plan j k outer f below (Words.Segment number) is e = refl
+  shape_below plan j k outer f below v is e = grind arith
 
   -- it may be put on a stack
   pub may_push : (plan : Placement) (j : ℕ) (spot : ℕ → StackPlace) (objects : List PagedObject) (shapes : List Shape) (v : Word) → CopiesName objects shapes → Has shapes (shape plan j job spot v) → returnable job id v ≡ Ok v → MayPush objects (shape plan j job spot v)
-  may_push plan j spot objects shapes (Row a) copies h e = copies _ (plan.home j a) h
-  may_push plan j spot objects shapes (Element a index) copies h e = copies _ (plan.home j a) h
-  may_push plan j spot objects shapes (Original a) copies h e = let z : ⊥ = cc in absurd z
-  may_push plan j spot objects shapes (Operand bits) copies h e = tt
-  may_push plan j spot objects shapes (Name couple) copies h e = tt
-  may_push plan j spot objects shapes (Ref g offset) copies h e = tt
-  may_push plan j spot objects shapes (Proc segment level place) copies h e = tt
-  may_push plan j spot objects shapes (Intrinsic number) copies h e = tt
-  may_push plan j spot objects shapes (Words.Segment number) copies h e = tt
+  may_push plan j spot objects shapes v copies h e = grind arith
 
   -- and its array stays
   kept : (new : Job) (reach : List Known) (a : ℕ) → NamesArray job.arrays reach a → new.arrays ≡ others id job.arrays → Falls job.next_array (map (λ (b : Array). b.identity) job.arrays) → owner_of job a ≢ id → array new a ≡ array job a
@@ -68,12 +47,4 @@ module _ (job : Job) (id : ℕ) where
       subst (λ (i : ℕ). array new i ≡ array job i) n.named (array_stays new job id is falls n.item n.live (λ e. ne (ap (λ (b : Array). b.owner) same ∙ e)))
 
   pub array_kept : (new : Job) (constants : JobConstants) (reach : List Known) (v : Word) → WordInOrder (IsSegment constants) job.arrays reach id v → new.arrays ≡ others id job.arrays → Falls job.next_array (map (λ (b : Array). b.identity) job.arrays) → returnable job id v ≡ Ok v → SameArray new job v
-  array_kept new constants reach (Row a) g is falls e = kept new reach a g is falls (other_row a e)
-  array_kept new constants reach (Element a index) g is falls e = kept new reach a g is falls (other_element a index e)
-  array_kept new constants reach (Operand bits) g is falls e = tt
-  array_kept new constants reach (Name couple) g is falls e = tt
-  array_kept new constants reach (Ref h offset) g is falls e = tt
-  array_kept new constants reach (Original a) g is falls e = tt
-  array_kept new constants reach (Proc segment level place) g is falls e = tt
-  array_kept new constants reach (Intrinsic number) g is falls e = tt
-  array_kept new constants reach (Words.Segment number) g is falls e = tt
+  array_kept new constants reach v g is falls e = grind (arith, kept)

@@ -1,10 +1,10 @@
 -- How the running task's top frame stands, and what the mark at F says of it.
-use Rattle.std.proofs.Common.{◌≡◌, ◌≢◌, ℕ, ◌+◌, List, [], ◌∷◌, map, length, Option, Some, None, refl, sym, ◌∙◌, ap, arith, true, false, subst}
+use Rattle.std.proofs.Common.{◌≡◌, ◌≢◌, ℕ, ◌+◌, List, [], ◌∷◌, length, Option, Some, None, refl, ◌∙◌, ap, arith, true, false, subst}
 use Rattle.b67_ctl.specs.declared.marks.Mscw.{Mscw}
 use Rattle.b67_model.specs.State as State
 use Rattle.b67_model.specs.Common.{Standing, Return, Frame, Task, JobConstants, Job, level_of_frame, running, IsSegment, ReturnsInOrder, StackInOrder, TaskInOrder}
 use Rattle.b67_stack.specs.Common.{Shape, StackPlace, Head, Marked, Entered, Activation, head_size, top_size, mark_of, top_mark}
-use Rattle.b67_layout.specs.Common.{Placement, spot_in, shape, head, activations}
+use Rattle.b67_layout.specs.Common.{Placement, spot_in, head, activations}
 
 -- marked, or entered as the bottom one, or entered over others with a return to these
 pub data TopCase (constants : JobConstants) (t : Task) : Type 0 where
@@ -37,8 +37,7 @@ module _ (plan : Placement) (j : ℕ) (job : Job) (k i : ℕ) (outer : ℕ → S
   entered_by s spot below level environment back e = (ap (λ (z : Standing). (mark_of i (head spot z) below).entered) e, ap (λ (z : Standing). (mark_of i (head spot z) below).back) e)
 
   size_some : (h : Head) (cells : List Shape) → head_size h + length cells ≢ 0
-  size_some Marked cells e = omega (arith, e)
-  size_some (Entered level environment back) cells e = omega (arith, e)
+  size_some h cells e = grind arith
 
   -- the mark of each
   pub mark_pending : (fs : List Frame) (f : Frame) (below : List Frame) → fs ≡ f ∷ below → f.standing ≡ State.Marked → (top_mark i (activations plan j job k outer fs)).entered ≡ false
@@ -46,12 +45,8 @@ module _ (plan : Placement) (j : ℕ) (job : Job) (k i : ℕ) (outer : ℕ → S
 
   pub mark_last : (fs : List Frame) (f : Frame) (level environment : ℕ) → fs ≡ f ∷ [] → f.standing ≡ State.Entered level environment None
       → ((top_mark i (activations plan j job k outer fs)).entered ≡ true) × ((top_mark i (activations plan j job k outer fs)).back ≡ 0)
-  mark_last fs f level environment e is =
-      let m = entered_by f.standing (spot_in k outer []) [] level environment None is in
-      (ap (λ (gs : List Frame). (mark_on gs).entered) e ∙ m.0, ap (λ (gs : List Frame). (mark_on gs).back) e ∙ m.1)
+  mark_last fs f level environment e is = grind arith
 
   pub mark_inner : (fs : List Frame) (f next : Frame) (more : List Frame) (level environment : ℕ) (back : Return) → fs ≡ f ∷ next ∷ more → f.standing ≡ State.Entered level environment (Some back)
       → ((top_mark i (activations plan j job k outer fs)).entered ≡ true) × ((top_mark i (activations plan j job k outer fs)).back ≢ 0)
-  mark_inner fs f next more level environment back e is =
-      let m = entered_by f.standing (spot_in k outer (next ∷ more)) (activations plan j job k outer (next ∷ more)) level environment (Some back) is in
-      (ap (λ (gs : List Frame). (mark_on gs).entered) e ∙ m.0, λ z. size_some (head (spot_in k outer more) next.standing) (map (shape plan j job (spot_in k outer (next ∷ more))) next.cells) (sym m.1 ∙ sym (ap (λ (gs : List Frame). (mark_on gs).back) e) ∙ z))
+  mark_inner fs f next more level environment back e is = grind arith

@@ -51,9 +51,7 @@ module _ (cpu : Cpu) (r : Regs) (a : RunningContext cpu.core r) (q : Place) (at 
   pcw_there = e.cell.there ∙ ap Some e.cell.stands.0.0
 
   pub pcw_fits : IsPcw pcw
-  pcw_fits =
-      let few = few_segments a.member.constants a.ordered.constants in
-      record { place = record { syllable = starts.syllable_fits; word = starts.word_fits }; level = omega (arith, high); segment = omega (arith, starts.within, few) }
+  pcw_fits = grind (arith, few_segments)
 
   pub level_small : level_of_frame (frame (here a.member a.task q) f) ≤ 31
   level_small = let w = site cpu.core r a q f e.cell.names e.own in omega (arith, w.level, w.high)
@@ -89,18 +87,14 @@ module _ (cpu : Cpu) (r : Regs) (a : RunningContext cpu.core r) (q : Place) (at 
     -- the mark of these readings
     pub mark_is : (env : Activation) (p : Pcw) → env ≡ environment → p ≡ pcw → (k : Mscw)
         → k ≡ record { far = not (env.stack == r.slot); entered = true; env_stack = env.stack; env_disp = env.disp; value = value; level = p.level; back = r.s + 1 - r.f } → k ≡ mark
-    mark_is env p ee ep k ek =
-        ek ∙ ap (λ (z : Activation). let y : Mscw = record { far = not (z.stack == r.slot); entered = true; env_stack = z.stack; env_disp = z.disp; value = value; level = p.level; back = r.s + 1 - r.f } in y) ee
-        ∙ ap (λ (z : Pcw). record mark { level = z.level }) ep
+    mark_is env p ee ep k ek = grind arith
 
     abbrev pub core_after : List Tagged
     core_after = slice_set (slice_set cpu.core (r.s + 1) (mscw_word mark)) (r.s + 2) (rcw_word caller)
 
     -- the core after both writes
     pub core_is : (v w : Tagged) (k : Mscw) (one two : List Tagged) → one ≡ slice_set cpu.core (r.s + 1) v → v ≡ mscw_word k → k ≡ mark → two ≡ slice_set one (r.s + 2) w → w ≡ rcw_word caller → two ≡ core_after
-    core_is v w k one two e1 ev ek e2 ew =
-        e2 ∙ ap (λ (z : List Tagged). slice_set z (r.s + 2) w) (e1 ∙ ap (slice_set cpu.core (r.s + 1)) (ev ∙ ap mscw_word ek))
-        ∙ ap (slice_set (slice_set cpu.core (r.s + 1) (mscw_word mark)) (r.s + 2)) ew
+    core_is v w k one two e1 ev ek e2 ew = grind arith
 
     pub refused : level_of_frame (frame (here a.member a.task q) f) + 1 ≢ level → accident (here a.member a.task q) (cells_of (here a.member a.task q)) (back_to (here a.member a.task q) value back) (AtProc f segment level place) ≡ Err InvalidOperand
     refused ne = Accidental.refused cpu.core r a q f segment level place e.cell.names e.own high starts value back good ne
@@ -124,6 +118,4 @@ module _ (cpu : Cpu) (r : Regs) (a : RunningContext cpu.core r) (q : Place) (at 
             let D : List Tagged → Pcw → Type 0 = λ k z. (b : RunningContext k (regs_with z)) → IsShown b d in
             let seen : IsShown scene_after d = subst (λ (z : Pcw). D core_after z) ep (subst (λ (k : List Tagged). D k p) ec shown) scene_after in
             let made = Accidental.done cpu.core r a q f segment level place e.cell.names e.own high starts value back good test room clear d cpu.critical em seen in
-            let is : new ≡ record { core = core_after; regs = regs_with pcw; display = d; critical = cpu.critical } =
-            en ∙ ap (λ (k : List Tagged). let z : Cpu = record { core = k; regs = regs_with p; display = d; critical = cpu.critical } in z) ec ∙ ap (λ (y : Pcw). let z : Cpu = record { core = core_after; regs = regs_with y; display = d; critical = cpu.critical } in z) ep in
-            subst (λ (z : Cpu). RecordEntered a z (accident (here a.member a.task q) (cells_of (here a.member a.task q)) (back_to (here a.member a.task q) value back) (AtProc f segment level place))) (sym is) made
+            grind arith

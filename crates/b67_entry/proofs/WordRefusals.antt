@@ -42,8 +42,7 @@ module _ (x : Storage) (cpu : Cpu) (plan : Placement) (s : Session) (m : Session
   pub place_is : cpu.regs.f - cpu.regs.bosr ≡ height b.below
   place_is =
       let on = subst (λ (fs : List Frame). RunsOn (machine_view plan s.jobs) cpu.regs.slot (activations plan m.constants.number m.progress.job plan.running (outer_spots plan m.constants.number m.progress.job t.critical t.parents) fs)) b.frames (runs_here x cpu plan s m t h runs) in
-      let r = running_slot x cpu.core cpu.regs (machine_view plan s.jobs) cpu.regs.slot (activations plan m.constants.number m.progress.job plan.running (outer_spots plan m.constants.number m.progress.job t.critical t.parents) (b.frame ∷ b.below)) h.holds.memory on in
-      omega (arith, r.first, r.mark, height-is plan m.constants.number m.progress.job plan.running (outer_spots plan m.constants.number m.progress.job t.critical t.parents) b.below)
+      grind (arith, height-is)
 
   -- the fields of a reference in the top frame
   abbrev fields : ℕ → ℕ → Sirw

@@ -1,13 +1,11 @@
 -- Which of the two top cells is the value, where a store leads to a procedure.
-use Rattle.std.proofs.Common.{◌≡◌, ◌≢◌, ℕ, ◌+◌, ◌-◌, ◌≤◌, List, [], ◌∷◌, Ok, Err, refl, sym, ◌∙◌, ap, Bool, true, subst}
+use Rattle.std.proofs.Common.{◌≡◌, ◌≢◌, ℕ, ◌+◌, ◌-◌, ◌≤◌, List, [], ◌∷◌, Ok, Err, refl, sym, ◌∙◌, ap, Bool, true, subst, arith}
 use Rattle.std.specs.Prelude.{if◌then◌else◌}
 use Rattle.b67_word.specs.Tagged.{Tagged}
 use Rattle.b67_word.specs.declared.couples.Place.{Place}
 use Rattle.b67_word.specs.declared.faults.Fault.{Fault}
-use Rattle.b67_model.specs.Common.{Answer, ◌>>=◌, in_order, AtProc, follow, Task, SessionJob, OperatorContext, Done, Word, Operand, Name, Ref, Row, Element, Original, Proc, Intrinsic, operand}
-use Rattle.b67_model.specs.Chase as Chase
+use Rattle.b67_model.specs.Common.{Answer, ◌>>=◌, in_order, follow, Task, SessionJob, OperatorContext, Word, Operand, operand}
 use Rattle.b67_model.specs.Rows as rows
-use Rattle.b67_model.specs.Words as Words
 use Rattle.b67_stack.specs.declared.Cpu.{Cpu}
 use Rattle.b67_stack.specs.Represents.{Storage}
 use Rattle.b67_layout.specs.Common.{Placement, here, IsWordOf, IsAt, cells}
@@ -20,15 +18,7 @@ use Rattle.b67_exec.proofs.Unders.{is_operand}
 use Rattle.b67_exec_cells.proofs.Rows.{an_operand}
 
 other_by : (x : Storage) (plan : Placement) (m : SessionJob) (t : Task) (w lower : Word) (at : ℕ) (v : Tagged) → IsWordOf x plan m t w at v → v.tag ≢ 0 → in_order w lower ≡ (w, lower)
-other_by x plan m t (Operand n) lower at v i ne = absurd (ne (ap (λ (z : Tagged). z.tag) i.0))
-other_by x plan m t (Name c) lower at v i ne = refl
-other_by x plan m t (Ref f o) lower at v i ne = refl
-other_by x plan m t (Row a) lower at v i ne = refl
-other_by x plan m t (Element a d) lower at v i ne = refl
-other_by x plan m t (Original a) lower at v i ne = refl
-other_by x plan m t (Proc g l p) lower at v i ne = refl
-other_by x plan m t (Intrinsic n) lower at v i ne = refl
-other_by x plan m t (Words.Segment n) lower at v i ne = refl
+other_by x plan m t w lower at v i ne = grind arith
 
 -- what enters is an operand and an end
 record Stored (h : OperatorContext) (value reference : Word) : Type 0 where
@@ -43,11 +33,7 @@ stored_by h value reference (Err f) is e = absurd (let z : ⊥ = cc in z)
 module _ (x : Storage) (cpu : Cpu) (plan : Placement) (m : SessionJob) (t : Task) (q : Place) (u v : Tagged) (enters : enters_at (store_end (here m t q) (cells t)) ≡ true) where
   -- two cells are there
   pub two_there : (f : Fault) → GivesTwo x plan m t cpu (cells t) (Err f) → ⊥
-  two_there f given = by_cells (cells t) enters given where
-    by_cells : (cs : List Word) → enters_at (store_end (here m t q) cs) ≡ true → GivesTwo x plan m t cpu cs (Err f) → ⊥
-    by_cells [] e g = let z : ⊥ = cc in z
-    by_cells (b ∷ []) e g = let z : ⊥ = cc in z
-    by_cells (b ∷ a ∷ rest) e g = let k = g.2 in let z : ⊥ = cc in z
+  two_there f given = grind arith
 
   pub value_over : GivesTwo x plan m t cpu (cells t) (Ok (u, v)) → cpu.regs.f + 2 ≤ cpu.regs.s → v.tag ≡ 0 → ValueOver cpu x plan m t q u v
   value_over given enough zero = by_cells (cells t) refl enters given where
@@ -88,14 +74,7 @@ module _ (x : Storage) (cpu : Cpu) (plan : Placement) (m : SessionJob) (t : Task
     pub same : (keeps : Bool) → rows.store keeps (here m t q) (cells t) ≡ rows.load (here m t q) (cells t)
 
   row_by : (b a : Word) (rest : List Word) (keeps : Bool) (bits : ℕ) (p : AtProcedure (follow (here m t q) b)) → in_order b a ≡ (b, a) → operand a ≡ Ok bits → rows.store keeps (here m t q) (b ∷ a ∷ rest) ≡ rows.load (here m t q) (b ∷ a ∷ rest)
-  row_by b a rest keeps bits p order o =
-      let S : Word × Word → Answer Done = λ two. operand two.1 >>= λ n. follow (here m t q) two.0 >>= λ f. rows.store_at (here m t q) rest (if keeps then two.1 ∷ rest else rest) n f in
-      let O : Answer ℕ → Answer Done = λ z. z >>= λ n. follow (here m t q) b >>= λ f. rows.store_at (here m t q) rest (if keeps then a ∷ rest else rest) n f in
-      let F : Answer Chase.End → Answer Done = λ z. z >>= λ f. rows.store_at (here m t q) rest (if keeps then a ∷ rest else rest) bits f in
-      let L : Answer Chase.End → Answer Done = λ z. z >>= λ f. rows.load_at (here m t q) (a ∷ rest) f in
-      let aw : a ≡ Operand bits = is_operand a bits o in
-      let M : Word → Answer Done = λ z. rows.load_at (here m t q) (z ∷ rest) (AtProc p.frame p.segment p.level p.place) in
-      ap S order ∙ ap O o ∙ ap F p.is ∙ ap M (sym aw) ∙ ap L (sym p.is)
+  row_by b a rest keeps bits p order o = grind arith
 
   pub on_top : GivesTwo x plan m t cpu (cells t) (Ok (u, v)) → v.tag ≢ 0 → OnTop
   on_top given other = by_cells (cells t) refl enters given where

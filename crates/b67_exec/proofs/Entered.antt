@@ -1,10 +1,10 @@
 -- Ends at procedures, and what entering them makes.
-use Rattle.std.proofs.Common.{◌≡◌, ◌≢◌, ℕ, List, Ok, Err, refl, sym, Bool, true, false, subst}
+use Rattle.std.proofs.Common.{◌≡◌, ◌≢◌, ℕ, List, Ok, Err, sym, Bool, true, false, subst, arith}
 use Rattle.b67_word.specs.Tagged.{Tagged}
 use Rattle.b67_word.specs.declared.couples.Place.{Place}
 use Rattle.b67_word.specs.declared.faults.Fault.{Fault}
 use Rattle.b67_ctl.specs.declared.registers.Regs.{Regs}
-use Rattle.b67_model.specs.Common.{Answer, ◌>>=◌, AtCell, AtElement, AtArray, AtProc, AtIntrinsic, chase, Name, accident, back_to, evaluates, Task, SessionJob, Done, cells_of, Session}
+use Rattle.b67_model.specs.Common.{Answer, ◌>>=◌, AtProc, chase, Name, accident, back_to, evaluates, Task, SessionJob, Done, cells_of, Session}
 use Rattle.b67_model.specs.Chase as Chase
 use Rattle.b67_model.specs.Rows as rows
 use Rattle.b67_layout.specs.Common.{IsInOrderButCounts, Placement, IsRunning, RepresentsSession, here, Meets}
@@ -29,54 +29,34 @@ pub record AtProcedure (e : Answer Chase.End) : Type 0 where
   pub is : e ≡ Ok (AtProc frame segment level place)
 
 at_by : (e : Chase.End) → is_procedure_end e ≡ true → AtProcedure (Ok e)
-at_by (AtProc f segment level place) is = record { frame = f; segment = segment; level = level; place = place; is = refl }
-at_by (AtCell f offset bits) is = absurd (let z : ⊥ = cc in z)
-at_by (AtElement n i) is = absurd (let z : ⊥ = cc in z)
-at_by (AtArray n) is = absurd (let z : ⊥ = cc in z)
-at_by (AtIntrinsic n) is = absurd (let z : ⊥ = cc in z)
+at_by e is = grind arith
 
 pub at_procedure : (e : Answer Chase.End) → enters_at e ≡ true → AtProcedure e
-at_procedure (Ok e) is = at_by e is
-at_procedure (Err f) is = absurd (let z : ⊥ = cc in z)
+at_procedure e is = grind arith
 
 module _ {core : List Tagged} {r : Regs} (a : RunningContext core r) (q : Place) where
   -- what was found where the end is a procedure's
   found_by : (found : End) (f segment level : ℕ) (place : Place) → EndMeets a q (Ok found) (Ok (AtProc f segment level place)) → (cell : ℕ) × (found ≡ end.Proc cell) × IsProcAt a q cell f segment level place
-  found_by (end.Proc cell) f segment level place i = (cell, refl, i)
-  found_by (end.Cell at) f segment level place i = absurd i
-  found_by (end.Element original index) f segment level place i = absurd i
-  found_by (end.Array original) f segment level place i = absurd i
-  found_by (end.Intrinsic n) f segment level place i = absurd i
+  found_by found f segment level place i = grind arith
 
   pub no_fault : (fault : Fault) (e : Answer Chase.End) (f segment level : ℕ) (place : Place) → e ≡ Ok (AtProc f segment level place) → EndMeets a q (Err fault) e → ⊥
   no_fault fault e f segment level place is i = let P : Answer Chase.End → Type 0 = λ z. EndMeets a q (Err fault) z in subst P is i
 
 -- an answer other than a call's, and a call's
 pub met_by : (x : Storage) (plan : Placement) (s : Session) (m : SessionJob) (r : Step) (old new : Cpu) (b : Bool) (answer : Answer Done) → ((n : ℕ) → r ≢ step.Call n) → EntersOrMeets x plan s m r old new b answer → Meets x plan s m r old new answer
-met_by x plan s m r old new true answer other i = absurd (other 255 i.0)
-met_by x plan s m r old new false answer other i = i
+met_by x plan s m r old new b answer other i = grind arith
 
 pub called_by : (x : Storage) (plan : Placement) (s : Session) (m : SessionJob) (n : ℕ) (old new : Cpu) (b : Bool) (answer : Answer Done) → EntersOrMeets x plan s m (step.Call n) old new b answer → (b ≡ true) × (new ≡ old)
-called_by x plan s m n old new true answer i = (refl, i.1)
-called_by x plan s m n old new false answer i = absurd i
+called_by x plan s m n old new b answer i = grind arith
 
 -- an end that isn't a procedure's
 other_by : (plan : Placement) (m : SessionJob) (core : List Tagged) (found : End) (e : Chase.End) → IsEnd plan m core found e → ((cell : ℕ) → found ≢ end.Proc cell) → is_procedure_end e ≡ false
-other_by plan m core found (AtCell f offset bits) is other = refl
-other_by plan m core found (AtElement n i) is other = refl
-other_by plan m core found (AtArray n) is other = refl
-other_by plan m core found (AtIntrinsic n) is other = refl
-other_by plan m core (end.Proc cell) (AtProc f segment level place) is other = absurd (other cell refl)
-other_by plan m core (end.Cell at) (AtProc f segment level place) is other = absurd is
-other_by plan m core (end.Element original index) (AtProc f segment level place) is other = absurd is
-other_by plan m core (end.Array original) (AtProc f segment level place) is other = absurd is
-other_by plan m core (end.Intrinsic n) (AtProc f segment level place) is other = absurd is
+other_by plan m core found e is other = grind arith
 
 -- what is made at such an end
 pub met_at : (x : Storage) (plan : Placement) (s : Session) (m : SessionJob) (r : Step) (old new : Cpu) (found : End) (e : Answer Chase.End) (answer : Answer Done) → FindsEnd plan m old.core (Ok found) e → ((cell : ℕ) → found ≢ end.Proc cell)
     → EntersOrMeets x plan s m r old new (enters_at e) answer → Meets x plan s m r old new answer
-met_at x plan s m r old new found (Ok e) answer is other i = subst (λ (b : Bool). EntersOrMeets x plan s m r old new b answer) (other_by plan m old.core found e is other) i
-met_at x plan s m r old new found (Err f) answer is other i = absurd is
+met_at x plan s m r old new found e answer is other i = grind arith
 
 module _ (x : Storage) (cpu : Cpu) (plan : Placement) (s : Session) (m : SessionJob) (t : Task) (ordered : IsInOrderButCounts s) (h : RepresentsSession x cpu plan s) (runs : IsRunning plan s.jobs m t) where
   pub reaches : (q : Place) (cell f segment level : ℕ) (place : Place) → IsProcAt (here_scene x cpu plan s m t ordered h runs) q cell f segment level place → ReachesProc cpu (here_scene x cpu plan s m t ordered h runs) q cell f segment level place

@@ -3,12 +3,11 @@ use Rattle.std.proofs.Common.{◌≡◌, ℕ, ◌+◌, ◌<◌, ◌≤◌, List,
 use Rattle.std.specs.Prelude.{nat_le}
 use Rattle.std.specs.List.{slice_get}
 use Rattle.std.proofs.lemmas.Bool.{cases_eq}
-use Rattle.std.proofs.lemmas.Bool.Decides.{eqb_tells}
 use Rattle.b67_word.specs.Tagged.{Tagged}
 use Rattle.b67_word.specs.declared.couples.Place.{Place}
 use Rattle.b67_ctl.specs.declared.registers.Regs.{Regs}
 use Rattle.b67_word.specs.declared.faults.Fault.TheVariants.{InvalidOperand, StackOverflow}
-use Rattle.b67_model.specs.Common.{Answer, ◌>>◌, needs, AtProc, accident, back_to, level_of_frame, NamesEntered, number_of, Session, Frame, Entered, Array, Task, Job, JobProgress, SessionJob, top, with_top_cells, with_task, height, frame, Done, Goes, cells_of, Word, Proc}
+use Rattle.b67_model.specs.Common.{Answer, ◌>>◌, needs, AtProc, accident, back_to, NamesEntered, number_of, Session, Frame, Array, Task, Job, JobProgress, SessionJob, top, with_top_cells, with_task, height, Done, Goes, cells_of, Word, Proc}
 use Rattle.b67_layout.specs.Common.{IsInOrderButCounts, Placement, address_of, machine_view, stack_of_task, IsRunning, SessionHoldsBut, RepresentsSession, RepresentsSessionBut, here, with_job, IsMade}
 use Rattle.b67_model.specs.Keyed.{change_keyed}
 use Rattle.b67_lemmas.specs.Lists.{Has}
@@ -28,8 +27,7 @@ use Rattle.b67_entry.specs.Left.{going_on}
 use Rattle.b67_exec.proofs.Looks.{spots-same, reach-same, level-same, cell-same}
 
 cells-back : (fs : List Frame) (cs : List Word) → with_top_cells (with_top_cells fs cs) (top (with_top_cells fs cs)).cells ≡ with_top_cells fs cs
-cells-back [] cs = refl
-cells-back (f ∷ below) cs = refl
+cells-back fs cs = grind arith
 
 -- a procedure was entered over other cells, or nothing has changed since these were there
 abbrev pub EntersOver : Storage → Placement → Session → SessionJob → Step → Cpu → Cpu → Cpu → Answer Done → Type 0
@@ -40,10 +38,7 @@ EntersOver x plan s m _ old between new answer = ⊥
 -- a member that is changed twice
 jobs-twice : (n : ℕ) (a b : JobProgress) (xs : List SessionJob) → change_keyed number_of n (λ (y : SessionJob). record y { progress = b }) (change_keyed number_of n (λ (y : SessionJob). record y { progress = a }) xs) ≡ change_keyed number_of n (λ (y : SessionJob). record y { progress = b }) xs
 jobs-twice n a b [] = refl
-jobs-twice n a b (y ∷ ys) = elim (eqb_tells (number_of y) n) [
-  | inl e ↦ rw e.0 (rw e.0 refl)
-  | inr e ↦ rw e.0 (rw e.0 (ap (λ (more : List SessionJob). y ∷ more) (jobs-twice n a b ys)))
-]
+jobs-twice n a b (y ∷ ys) = grind (arith, jobs-twice n a b ys)
 
 -- the answer of an entry, by what it reads
 abbrev entered_by : Job → Task → (size level wanted segment : ℕ) → Place → Frame → List Frame → List Task → Answer Done
@@ -107,17 +102,7 @@ module _ (x : Storage) (old : Cpu) (plan : Placement) (s : Session) (m : Session
   -- the answers are one
   pub same_answer : (q : Place) (value : Bool) (back : Place) (f segment level : ℕ) (place : Place)
       → accident (here member0 task0 q) (cells_of (here member0 task0 q)) (back_to (here member0 task0 q) value back) (AtProc f segment level place) ≡ accident (here m t q) cs (back_to (here m t q) value back) (AtProc f segment level place)
-  same_answer q value back f segment level place =
-      let fr : Frame = record { identity = m.progress.job.next_frame; standing = Entered level f (Some (back_to (here m t q) value back)); cells = [] } in
-      let A : ℕ → List Frame → List Task → Answer Done = λ lv below ts. entered_by m.progress.job t m.constants.stack_size lv level segment place fr below ts in
-      let n : level_of_frame (frame (here member0 task0 q) f) ≡ level_of_frame (frame (here m t q) f) = level-same plan s m t ordered runs cs t.place q f in
-      let T : Task = record t { frames = fr ∷ with_top_cells t.frames cs; segment = segment; place = place } in
-      let tasks : change_keyed (λ (u : Task). u.number) t.number (λ (u : Task). T) (with_task m.progress.job (task_with t cs t.place)).tasks ≡ change_keyed (λ (u : Task). u.number) t.number (λ (u : Task). T) m.progress.job.tasks =
-      change_twice (λ (u : Task). u.number) t.number (task_with t cs t.place) T m.progress.job.tasks refl in
-      let last : List Task → Answer Done = λ ts. needs (level_of_frame (frame (here m t q) f) + 1 == level) InvalidOperand >> (needs (nat_le (height (fr ∷ with_top_cells t.frames cs)) m.constants.stack_size) StackOverflow >> Ok (Goes (record m.progress.job { next_frame = m.progress.job.next_frame + 1; tasks = ts }) [] None)) in
-      ap (λ (lv : ℕ). A lv (with_top_cells (with_top_cells t.frames cs) (top (with_top_cells t.frames cs)).cells) (with_task m.progress.job (task_with t cs t.place)).tasks) n
-      ∙ ap (λ (fs : List Frame). A (level_of_frame (frame (here m t q) f)) fs (with_task m.progress.job (task_with t cs t.place)).tasks) (cells-back t.frames cs)
-      ∙ ap last tasks
+  same_answer q value back f segment level place = grind (arith, level-same, change_twice, cells-back)
 
   module _ (within : (i : ℕ) → (slice_get cpu0.core i ≡ slice_get old.core i) ⊎ ((old.regs.bosr < i) × (i ≤ old.regs.losr))) where
     made : (new : Cpu) (answer other : Answer Done) → answer ≡ other → RecordEntered scene0 new answer → IsMade x plan s m old new other

@@ -1,7 +1,5 @@
 -- What a call answers behind which a far operator stands, by the step there.
-use Rattle.std.proofs.Common.{◌≡◌, ◌≢◌, ◌+◌, List, Bool, true, false, ap, sym, subst, arith}
-use Rattle.std.specs.Prelude.{slice_get}
-use Rattle.b67_word.specs.Tagged.{Tagged}
+use Rattle.std.proofs.Common.{◌≡◌, ◌≢◌, ◌+◌, Bool, true, false, subst, arith}
 use Rattle.b67_word.specs.declared.couples.Place.{Place}
 use Rattle.b67_model.specs.declared.operators.Op.{Op}
 use Rattle.b67_model.specs.Common.{row, called}
@@ -25,11 +23,7 @@ module _ (op : Op) (next : Place) (old new : Cpu) (r : RunsSome old) where
 
   -- another answer is the reason
   pub refused : (step why : Step) → why ≡ step → step ≢ Done → RowAnswers op next old new step → RowRefused op next old new why
-  refused step why is other each = record {
-    same = same step other each;
-    other = subst (λ (z : Step). z ≢ Done) (sym is) other;
-    row = subst (RowAnswers op next old new) (sym is) each;
-  }
+  refused step why is other each = grind (arith, same)
 
   pub on_by : (step : Step) (made : Bool) (why : Step) → SaysDone step made why → RowAnswers op next old new step → (step ≡ Done → StaysInSegment old new next) → MadeOn op next old made new why
   on_by step true why done each stays = (subst (RowAnswers op next old new) done each, stays done)
@@ -51,22 +45,16 @@ module _ (op : Op) (next : Place) (old new : Cpu) (r : RunsSome old) where
 
   -- short ways
   pub on_shortly : (step : Step) (made : Bool) → SaysMade step made → RowAnswers op next old new step → (step ≡ Done → StaysInSegment old new next) → OnShortly op next old made new
-  on_shortly step true done each stays = (subst (RowAnswers op next old new) done each, stays done)
-  on_shortly step false other each stays = same step other each
+  on_shortly step made done each stays = grind (arith, same)
 
   pub away_shortly : (step : Step) (made : Bool) → SaysMade step made → RowAnswers op next old new step → AwayShortly op next old made new
-  away_shortly step true done each = subst (RowAnswers op next old new) done each
-  away_shortly step false other each = same step other each
+  away_shortly step made done each = grind (arith, same)
 
   pub stayed_shortly : (step : Step) (went : Went) → ShortlyOn step went → RowAnswers op next old new step → (step ≡ Done → StaysInSegment old new next) → WentShortly op next old went new
-  stayed_shortly step wents.On done each stays = (subst (RowAnswers op next old new) done each, stays done)
-  stayed_shortly step wents.Away says each stays = absurd says
-  stayed_shortly step wents.Not other each stays = same step other each
+  stayed_shortly step went done each stays = grind (arith, same)
 
   pub entered_shortly : (step : Step) (went : Went) → ShortlyAway step went → RowAnswers op next old new step → WentShortly op next old went new
-  entered_shortly step wents.On says each = absurd says
-  entered_shortly step wents.Away done each = subst (RowAnswers op next old new) done each
-  entered_shortly step wents.Not other each = same step other each
+  entered_shortly step went says each = grind (arith, same)
 
 pub leaving_by : (op : Op) (old new : Cpu) → RunsSome old → (step : Step) (made : Bool) (why : Step) → SaysDone step made why → ((next : Place) → RowAnswers op next old new step) → (step ≡ Done → CutsRecord old new) → MadeLeaving op old made new why
 leaving_by op old new r step true why done each cuts = (λ next. subst (RowAnswers op next old new) done (each next), cuts done)
@@ -78,33 +66,23 @@ leaving_shortly op old new r step false other each cuts = same op r.task.place o
 
 -- a short way that isn't one
 pub on_rest : (op : Op) (next : Place) (old new : Cpu) (made : Bool) → made ≡ false → OnShortly op next old made new → new ≡ old
-on_rest op next old new true is m = absurd (let z : ⊥ = cc in z)
-on_rest op next old new false is m = m
+on_rest op next old new made is m = grind arith
 
 pub on_short : (op : Op) (next : Place) (old new : Cpu) (made : Bool) → made ≡ true → OnShortly op next old made new → RowMade op next old new × StaysInSegment old new next
-on_short op next old new true is m = m
-on_short op next old new false is m = absurd (let z : ⊥ = cc in z)
+on_short op next old new made is m = grind arith
 
 pub away_rest : (op : Op) (next : Place) (old new : Cpu) (made : Bool) → made ≡ false → AwayShortly op next old made new → new ≡ old
-away_rest op next old new true is m = absurd (let z : ⊥ = cc in z)
-away_rest op next old new false is m = m
+away_rest op next old new made is m = grind arith
 
 pub away_short : (op : Op) (next : Place) (old new : Cpu) (made : Bool) → made ≡ true → AwayShortly op next old made new → RowMade op next old new
-away_short op next old new true is m = m
-away_short op next old new false is m = absurd (let z : ⊥ = cc in z)
+away_short op next old new made is m = grind arith
 
 pub leaving_rest : (op : Op) (old new : Cpu) (made : Bool) → made ≡ false → LeavesShortly op old made new → new ≡ old
-leaving_rest op old new true is m = absurd (let z : ⊥ = cc in z)
-leaving_rest op old new false is m = m
+leaving_rest op old new made is m = grind arith
 
 pub leaving_short : (op : Op) (old new : Cpu) (made : Bool) → made ≡ true → LeavesShortly op old made new → ((next : Place) → RowMade op next old new) × CutsRecord old new
-leaving_short op old new true is m = m
-leaving_short op old new false is m = absurd (let z : ⊥ = cc in z)
+leaving_short op old new made is m = grind arith
 
 -- EXIT leaves core as it was
 pub exit_cuts : (old new : Cpu) → new.core ≡ old.core → new.regs.s + 1 ≡ old.regs.f → CutsRecord old new
-exit_cuts old new core top = record {
-  above = λ i over. ap (λ (words : List Tagged). slice_get words i) core;
-  low = omega (arith, top);
-  high = omega (arith, top);
-}
+exit_cuts old new core top = grind arith

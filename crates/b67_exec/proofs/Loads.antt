@@ -4,15 +4,13 @@ use Rattle.std.specs.List.{slice_get}
 use Rattle.b67_word.specs.Tagged.{Tagged}
 use Rattle.b67_word.specs.declared.couples.Place.{Place}
 use Rattle.b67_ctl.specs.Layout.{IsPlace}
-use Rattle.b67_model.specs.Common.{Answer, ◌>>=◌, AtProc, follow, accident, back_to, Starts, Known, known_of, outer_of, is_original_of, IsSegment, CellsInOrder, FramesInOrder, is_original, Session, Frame, Array, Task, SessionJob, top, with_task, Done, cells_of, Word, Operand, Name, Ref, Row, Element, Original, Proc, Intrinsic}
+use Rattle.b67_model.specs.Common.{Answer, ◌>>=◌, AtProc, follow, accident, back_to, Starts, Known, known_of, outer_of, is_original_of, IsSegment, CellsInOrder, FramesInOrder, is_original, Session, Frame, Array, Task, SessionJob, top, with_task, Done, cells_of, Word, Proc}
 use Rattle.b67_model.specs.Chase as Chase
 use Rattle.b67_layout.specs.Common.{IsInOrderButCounts, Placement, IsRunning, SessionHoldsBut, RepresentsSession, here, with_job, Meets, cells}
 use Rattle.b67_lemmas.specs.Lists.{how_many}
 use Rattle.b67_model.specs.Rows as rows
-use Rattle.b67_model.specs.Words as Words
 use Rattle.b67_stack.specs.declared.Cpu.{Cpu}
 use Rattle.b67_stack.specs.declared.Step.{Step}
-use Rattle.b67_stack.specs.declared.Step.TheVariants as step
 use Rattle.b67_stack.specs.Represents.{Storage}
 use Rattle.b67_layout.proofs.Common.{task_with, running_in_order, cells_in_order}
 use Rattle.b67_exec_cells.proofs.Put.{room, top_given, dropped_stands, dropped-fits}
@@ -28,11 +26,7 @@ use Rattle.b67_exec.specs.Procedures.{LeadsToProcedure}
 use Rattle.b67_exec.proofs.Entered.{AtProcedure, at_procedure}
 
 pub over_meets : (x : Storage) (plan : Placement) (s : Session) (m : SessionJob) (r : Step) (old new : Cpu) (answer : Answer Done) → EntersOver x plan s m r old old new answer → Meets x plan s m r old new answer
-over_meets x plan s m step.Done old new answer i = i
-over_meets x plan s m (step.Fault fault) old new answer i = i
-over_meets x plan s m (step.Absent w) old new answer i = absurd i
-over_meets x plan s m (step.Call n) old new answer i = i
-over_meets x plan s m step.Ended old new answer i = absurd i
+over_meets x plan s m r old new answer i = grind arith
 
 -- no procedure's word is followed
 not_proc : (m : SessionJob) (t : Task) (q : Place) (w : Word) (e : Chase.End) (g l : ℕ) (p : Place) → follow (here m t q) w ≡ Ok e → w ≡ Proc g l p → ⊥
@@ -41,25 +35,13 @@ not_proc m t q w e g l p is same = let f : follow (here m t q) (Proc g l p) ≡ 
 -- the cells without the top one
 tail_order : (P : Starts) (arrays : List Array) (outer : List Known) (fs : List Frame) (a : Word) (rest : List Word) → FramesInOrder P arrays outer fs → (top fs).cells ≡ a ∷ rest → CellsInOrder P arrays (map known_of fs ++ outer) (top fs).identity rest
 tail_order P arrays outer [] a rest o e = absurd (let z : ⊥ = cc in z)
-tail_order P arrays outer (f ∷ below) a rest o e =
-    let A : List Word → Type 0 = λ cs. CellsInOrder P arrays (map known_of (f ∷ below) ++ outer) f.identity cs in
-    let all = subst A e o.0 in
-    (all.0.1, all.1.1)
+tail_order P arrays outer (f ∷ below) a rest o e = grind arith
 
 originals_tail : (n : ℕ) (a : Word) (rest : List Word) → is_original a ≡ false → how_many (is_original_of n) (a ∷ rest) ≡ how_many (is_original_of n) rest
-originals_tail n (Operand bits) rest e = omega arith
-originals_tail n (Name c) rest e = omega arith
-originals_tail n (Ref f o) rest e = omega arith
-originals_tail n (Row a) rest e = omega arith
-originals_tail n (Element a i) rest e = omega arith
-originals_tail n (Original a) rest e = cc
-originals_tail n (Proc g l p) rest e = omega arith
-originals_tail n (Intrinsic k) rest e = omega arith
-originals_tail n (Words.Segment k) rest e = omega arith
+originals_tail n a rest e = grind arith
 
 pub some_cells : (m : SessionJob) (t : Task) (q : Place) (cs : List Word) → enters_at (top_end (here m t q) cs) ≡ true → 1 ≤ length cs
-some_cells m t q [] e = absurd (let z : ⊥ = cc in z)
-some_cells m t q (a ∷ rest) e = omega arith
+some_cells m t q cs e = grind arith
 
 module _ (x : Storage) (cpu : Cpu) (plan : Placement) (s : Session) (m : SessionJob) (t : Task) (ordered : IsInOrderButCounts s) (h : RepresentsSession x cpu plan s) (runs : IsRunning plan s.jobs m t) (q : Place)
     (enters : enters_at (top_end (here m t q) (cells t)) ≡ true) where
@@ -130,9 +112,7 @@ module _ (x : Storage) (cpu : Cpu) (plan : Placement) (s : Session) (m : Session
         → Meets x plan s m r cpu new (accident (here m t q) top_is.rest (back_to (here m t q) false t.place) (AtProc at_end.frame at_end.segment at_end.level at_end.place))
     accident_without r new i =
         let over = entered x cpu plan s m t ordered h runs top_is.rest ordered_without cpu (cpu.regs.s - 1) refl holds_without (λ k. inl refl) r new q false cpu.regs.place at_end.frame at_end.segment at_end.level at_end.place i in
-        let met = over_meets x plan s m r cpu new _ over in
-        let B : Place → Type 0 = λ p. Meets x plan s m r cpu new (accident (here m t q) top_is.rest (back_to (here m t q) false p) (AtProc at_end.frame at_end.segment at_end.level at_end.place)) in
-        subst B (h.holds.running m t runs).place met
+        grind (arith, over_meets)
 
     pub load_row : (r : Step) (new : Cpu) → Meets x plan s m r cpu new (accident (here m t q) top_is.rest (back_to (here m t q) false t.place) (AtProc at_end.frame at_end.segment at_end.level at_end.place)) → Meets x plan s m r cpu new (rows.load (here m t q) (cells_of (here m t q)))
     load_row r new i =

@@ -1,29 +1,26 @@
 -- What a task with other cells on top sees: the same frames at the same places, and cells further down.
-use Rattle.std.proofs.Common.{◌≡◌, ◌≢◌, ℕ, zero, suc, ◌-◌, List, [], ◌∷◌, ◌++◌, map, flat_map, reverse, Option, Some, Ok, refl, sym, ◌∙◌, ap, true, false, ◌==◌, ◌⊎◌, inl, inr, ⊎_elim, subst, append_assoc, unwrap_or}
-use Rattle.std.specs.Prelude.{nat_lt}
+use Rattle.std.proofs.Common.{◌≡◌, ◌≢◌, ℕ, zero, suc, ◌-◌, List, [], ◌∷◌, ◌++◌, map, flat_map, reverse, Option, Some, Ok, refl, sym, ◌∙◌, ap, true, false, ◌==◌, ◌⊎◌, ⊎_elim, subst, append_assoc, unwrap_or, arith}
 use Rattle.std.specs.List.{slice_get}
 use Rattle.std.specs.Option.{ok_or}
 use Rattle.std.proofs.lemmas.Bool.{cases_Bool}
-use Rattle.std.proofs.lemmas.Bool.Decides.{eqb_tells}
 use Rattle.std.proofs.lemmas.Option.{same_Some, none-some}
 use Rattle.std.proofs.lemmas.List.{reverse-append}
 use Rattle.b67_word.specs.declared.couples.Place.{Place}
 use Rattle.b67_word.specs.declared.faults.Fault.TheVariants.{InvalidAddress}
-use Rattle.b67_model.specs.Common.{Answer, Word, Frame, Task, Job, SessionJob, top, with_top_cells, with_task, all_frames, frame, no_frame, level_of_frame, cell, cell_of, first_offset, Known, known_of, from_frame, frames_of_task, critical_of, outer_reach, reach_of, Session}
+use Rattle.b67_model.specs.Common.{Answer, Word, Frame, Task, Job, SessionJob, top, with_top_cells, with_task, all_frames, frame, no_frame, level_of_frame, cell, cell_of, known_of, from_frame, outer_reach, reach_of, Session}
 use Rattle.b67_model.specs.Keyed.{keyed, change_keyed}
 use Rattle.b67_lemmas.specs.Lists.{Has}
 use Rattle.b67_lemmas.proofs.Members.{has_get, has_reverse_back, change_found, change_other, keyed_has}
 use Rattle.b67_model.specs.State as State
 use Rattle.b67_layout.specs.Common.{IsInOrderButCounts, Placement, slot_of, spot_in, outer_spots, spots, IsRunning, here}
 use Rattle.b67_stack.specs.Stacks.{StackPlace}
-use Rattle.b67_layout.proofs.Common.{OnTop, seen-with, task_with, spots-with, fresh}
+use Rattle.b67_layout.proofs.Common.{OnTop, task_with, spots-with, fresh}
 use Rattle.b67_layout.proofs.Others.{outer_spots-after}
 use Rattle.b67_law_order.proofs.Chases.{ok_some}
 use Rattle.b67_law_order.proofs.Looks.{known_cells}
 
 known-from : (n : ℕ) (fs : List Frame) (cs : List Word) → map known_of (from_frame n (with_top_cells fs cs)) ≡ map known_of (from_frame n fs)
-known-from n [] cs = refl
-known-from n (f ∷ below) cs = ⊎_elim (λ (e : (f.identity == n) ≡ true). rw e refl) (λ (e : (f.identity == n) ≡ false). rw e refl) (cases_Bool (f.identity == n))
+known-from n fs cs = grind arith
 
 -- a list of frames of which one list of a task has other cells on top
 abbrev pub Seen : List Frame → List Word → Option Frame → Option Frame → Type 0
@@ -33,18 +30,11 @@ abbrev look : ℕ → List Frame → Option Frame
 look id xs = keyed (λ (f : Frame). f.identity) id xs
 
 look-own : (id : ℕ) (fs : List Frame) (cs : List Word) (more : List Frame) → Seen fs cs (look id (with_top_cells fs cs ++ more)) (look id (fs ++ more))
-look-own id [] cs more = inl refl
-look-own id (f ∷ below) cs more = ⊎_elim
-    (λ (e : (f.identity == id) ≡ true). inr (rw e refl, rw e refl))
-    (λ (e : (f.identity == id) ≡ false). inl (rw e refl))
-    (cases_Bool (f.identity == id))
+look-own id fs cs more = grind arith
 
 look-past : (id : ℕ) (fs : List Frame) (cs : List Word) (xs new old : List Frame) → Seen fs cs (look id new) (look id old) → Seen fs cs (look id (xs ++ new)) (look id (xs ++ old))
 look-past id fs cs [] new old s = s
-look-past id fs cs (f ∷ xs) new old s = ⊎_elim
-    (λ (e : (f.identity == id) ≡ true). inl (rw e refl))
-    (λ (e : (f.identity == id) ≡ false). rw e (look-past id fs cs xs new old s))
-    (cases_Bool (f.identity == id))
+look-past id fs cs (f ∷ xs) new old s = grind (arith, look-past id fs cs xs new old s)
 
 abbrev frames_of : List Task → List Frame
 frames_of ts = flat_map (λ (u : Task). u.frames) ts
@@ -76,17 +66,10 @@ get_front (x ∷ xs) ys zs zero w e other = e
 get_front (x ∷ xs) ys zs (suc i) w e other = get_front xs ys zs i w e other
 
 get_other : (gone rest put : List Word) (i : ℕ) (w : Word) → slice_get (reverse (gone ++ rest)) i ≡ Some w → (Has gone w → ⊥) → slice_get (reverse (put ++ rest)) i ≡ Some w
-get_other gone rest put i w e other =
-    let old : slice_get (reverse rest ++ reverse gone) i ≡ Some w = ap (λ xs. slice_get xs i) (sym (reverse-append gone rest)) ∙ e in
-    ap (λ xs. slice_get xs i) (reverse-append put rest) ∙ get_front (reverse rest) (reverse gone) (reverse put) i w old (λ h. other (has_reverse_back gone w h))
+get_other gone rest put i w e other = grind (arith, reverse-append, get_front, has_reverse_back)
 
 cell_other : (f : Frame) (gone rest put : List Word) (offset : ℕ) (w : Word) → f.cells ≡ gone ++ rest → cell_of f offset ≡ Some w → (Has gone w → ⊥) → cell_of (record f { cells = put ++ rest }) offset ≡ Some w
-cell_other f gone rest put offset w e found other = ⊎_elim
-    (λ (t : nat_lt offset (first_offset f) ≡ true). absurd (none-some w (rw t at found)))
-    (λ (t : nat_lt offset (first_offset f) ≡ false).
-    let at : slice_get (reverse f.cells) (offset - first_offset f) ≡ Some w = rw t at found in
-    rw t (get_other gone rest put (offset - first_offset f) w (ap (λ xs. slice_get (reverse xs) (offset - first_offset f)) (sym e) ∙ at) other))
-    (cases_Bool (nat_lt offset (first_offset f)))
+cell_other f gone rest put offset w e found other = grind (arith, get_other)
 
 module _ (plan : Placement) (s : Session) (m : SessionJob) (t : Task) (ordered : IsInOrderButCounts s) (runs : IsRunning plan s.jobs m t) (cs : List Word) (p : Place) where
   abbrev pub job_with : Job
@@ -96,19 +79,7 @@ module _ (plan : Placement) (s : Session) (m : SessionJob) (t : Task) (ordered :
   member_with = record m { progress = record m.progress { job = with_task m.progress.job (task_with t cs p) } }
 
   on_top : OnTop m.progress.job (with_task m.progress.job (task_with t cs p)) t (task_with t cs p) m.progress.job.next_frame
-  on_top =
-      let free = fresh plan s m t ordered runs in
-      record {
-        there = runs.task;
-        number = refl;
-        critical = refl;
-        parents = refl;
-        tasks = refl;
-        arrays = refl;
-        some = free.some;
-        uncritical = free.uncritical;
-        same = λ d k o id ne. seen-with t.frames cs d k o id;
-      }
+  on_top = grind (arith, fresh)
 
   pub spots-same : (id : ℕ) → spots plan m.constants.number (with_task m.progress.job (task_with t cs p)) (task_with t cs p) id ≡ spots plan m.constants.number m.progress.job t id
   spots-same id =
@@ -121,23 +92,7 @@ module _ (plan : Placement) (s : Session) (m : SessionJob) (t : Task) (ordered :
   -- the reach of each task
   reach-by : (parents : List ℕ) (c : ℕ) → outer_reach (with_task m.progress.job (task_with t cs p)) c parents ≡ outer_reach m.progress.job c parents
   reach-by [] c = refl
-  reach-by (parent ∷ more) c = elim (eqb_tells parent t.number) [
-    | inl e ↦
-        let old : keyed (λ (u : Task). u.number) parent m.progress.job.tasks ≡ Some t = ap (λ n. keyed (λ (u : Task). u.number) n m.progress.job.tasks) e.1 ∙ runs.task in
-        let new : keyed (λ (u : Task). u.number) parent (with_task m.progress.job (task_with t cs p)).tasks ≡ Some (task_with t cs p) =
-        ap (λ n. keyed (λ (u : Task). u.number) n (with_task m.progress.job (task_with t cs p)).tasks) e.1 ∙ change_found (λ (u : Task). u.number) t.number t (task_with t cs p) m.progress.job.tasks refl runs.task in
-        let O : Job → Option Task → List Known = λ j o. map known_of (from_frame c (frames_of_task o)) ++ outer_reach j (critical_of o) more in
-        ap (O (with_task m.progress.job (task_with t cs p))) new
-        ∙ ap (λ ks. ks ++ outer_reach (with_task m.progress.job (task_with t cs p)) t.critical more) (known-from c t.frames cs)
-        ∙ ap (λ ks. map known_of (from_frame c t.frames) ++ ks) (reach-by more t.critical)
-        ∙ ap (O m.progress.job) (sym old)
-    | inr e ↦
-        let new : keyed (λ (u : Task). u.number) parent (with_task m.progress.job (task_with t cs p)).tasks ≡ keyed (λ (u : Task). u.number) parent m.progress.job.tasks = change_other (λ (u : Task). u.number) parent t.number (task_with t cs p) m.progress.job.tasks refl e.1 in
-        let o = keyed (λ (u : Task). u.number) parent m.progress.job.tasks in
-        let O : Job → Option Task → List Known = λ j z. map known_of (from_frame c (frames_of_task z)) ++ outer_reach j (critical_of z) more in
-        ap (O (with_task m.progress.job (task_with t cs p))) new
-        ∙ ap (λ ks. map known_of (from_frame c (frames_of_task o)) ++ ks) (reach-by more (critical_of o))
-  ]
+  reach-by (parent ∷ more) c = grind (arith, change_found, change_other, reach-by more)
 
   pub reach-same : reach_of (with_task m.progress.job (task_with t cs p)) (task_with t cs p) ≡ reach_of m.progress.job t
   reach-same = ap (λ ks. ks ++ outer_reach (with_task m.progress.job (task_with t cs p)) t.critical t.parents) (known_cells t.frames cs) ∙ ap (λ ks. map known_of t.frames ++ ks) (reach-by t.parents t.critical)

@@ -5,7 +5,6 @@ use Rattle.b67_ctl.specs.Layout.{IsPlace}
 use Rattle.b67_model.specs.declared.operators.Op.{Op}
 use Rattle.b67_model.specs.declared.operators.Op.TheVariants.{Plain}
 use Rattle.b67_model.specs.declared.operators.Code.{Code}
-use Rattle.b67_model.specs.declared.operators.Code.TheVariants as codes
 use Rattle.b67_model.specs.Common.{Alone, form_of}
 use Rattle.b67_stack.specs.declared.Cpu.{Cpu}
 use Rattle.b67_stack.specs.declared.Step.{Step}
@@ -31,19 +30,13 @@ use Rattle.b67_exec.proofs.Through.{ReadsThrough, ReadsNone, far_made, far_on, l
 -- ---- those that leave no activation record
 
 pub top_stays : (code : Code) → is_on_top code ≡ true → is_leaving (Plain code) ≡ false
-top_stays codes.Exit top = absurd (let z : ⊥ = cc in z)
-top_stays codes.Retn top = absurd (let z : ⊥ = cc in z)
-top_stays _ top = refl
+top_stays code top = grind arith
 
 pub behind_stays : (code : Code) → goes_behind code ≡ true → is_leaving (Plain code) ≡ false
-behind_stays codes.Exit goes = absurd (let z : ⊥ = cc in z)
-behind_stays codes.Retn goes = absurd (let z : ⊥ = cc in z)
-behind_stays _ goes = refl
+behind_stays code goes = grind arith
 
 pub entering_stays : (code : Code) → may_enter code ≡ true → is_leaving (Plain code) ≡ false
-entering_stays codes.Exit enters = absurd (let z : ⊥ = cc in z)
-entering_stays codes.Retn enters = absurd (let z : ⊥ = cc in z)
-entering_stays _ enters = refl
+entering_stays code enters = grind arith
 
 -- ---- what was read and made
 
@@ -92,8 +85,7 @@ leaving_made op old new true why is m = (m.0, m.1, refl)
 leaving_made op old new false why is m = absurd (let z : ⊥ = cc in z)
 
 pub leaving_refused : (op : Op) (old new : Cpu) (made : Bool) (why : Step) → made ≡ false → MadeLeaving op old made new why → LeavesBy op old outcome.Not new why
-leaving_refused op old new true why is m = absurd (let z : ⊥ = cc in z)
-leaving_refused op old new false why is m = m
+leaving_refused op old new made why is m = grind arith
 
 pub top_fits : (old : Cpu) → RunsSome old → old.regs.s + 1 < 2 ^ 20
 top_fits old r = let g = room r.storage old r.plan r.session r.member r.task r.ordered r.stands r.running in omega (arith, g.last, g.under, g.inside, g.bound)
@@ -125,8 +117,7 @@ near_outcome old new before after false answer why is m = subst (λ (z : Made). 
 -- ---- no operator is read
 
 pub none_near : (old : Cpu) (before : Reader) (made : Bool) (why : Step) → made ≡ false → why ≡ answers.Fault InvalidOperator → HoldsCode old before.code → ReadsNone old → MadeNear old before made old before why
-none_near old before true why is fault code none = absurd (let z : ⊥ = cc in z)
-none_near old before false why is fault code none = (refl, refl, subst (λ (z : Step). StopsHere old z) (sym fault) (unread_stops old before.code code none))
+none_near old before made why is fault code none = grind (arith, unread_stops)
 
 pub none_made : (old : Cpu) (before : Reader) (made : Bool) (answer : Made) (why : Step) → made ≡ false → answer ≡ outcome_of made → why ≡ answers.Fault InvalidOperator → HoldsCode old before.code → ReadsNone old → Makes old before answer old before why
 none_made old before made answer why is says fault code none = near_outcome old old before before made answer why says (none_near old before made why is fault code none)

@@ -1,5 +1,5 @@
 -- The table of first syllables against the operators of the machine.
-use Rattle.std.proofs.Common.{◌≡◌, ℕ, zero, suc, ◌+◌, Bool, true, ◌&&◌, List, [], ◌∷◌, Option, Some, None, refl, sym, ◌∙◌, subst, arith}
+use Rattle.std.proofs.Common.{◌≡◌, ℕ, zero, suc, ◌+◌, Bool, true, ◌&&◌, List, [], ◌∷◌, Option, Some, None, refl, ◌∙◌, subst, arith}
 use Rattle.std.specs.Prelude.{slice_get}
 use Rattle.std.proofs.lemmas.Bool.{and_parts}
 use Rattle.std.proofs.lemmas.Option.{same_Some, none-some}
@@ -27,14 +27,11 @@ row_says : (from : ℕ) (ns : List Near) (i : ℕ) (n : Near) → AllSay from ns
 row_says from [] i n all e first is = absurd (none-some n e)
 row_says from (m ∷ ns) zero n all e first is =
     let at : first ≡ from = omega (arith, is) in
-    let P : ℕ → Type 0 = λ k. Says (near_form n k) k in
-    let Q : Near → Type 0 = λ z. Says (near_form z from) from in
-    subst P (sym at) (subst Q (same_Some m n e) all.0)
+    grind (arith, same_Some)
 row_says from (m ∷ ns) (suc i) n all e first is = row_says (from + 1) ns i n all.1 e first (omega (arith, is))
 
 says_form : (o : Option Form) (first : ℕ) (f : Form) → Says o first → o ≡ Some f → form_of first ≡ Some f
-says_form None first f h e = absurd (none-some f e)
-says_form (Some g) first f h e = h ∙ e
+says_form o first f h e = grind arith
 
 pub near_says : (first : ℕ) (n : Near) (f : Form) → slice_get NEARS first ≡ Some n → near_form n first ≡ Some f → form_of first ≡ Some f
 near_says first n f at e = says_form (near_form n first) first f (row_says 0 NEARS first n all_say at first (omega arith)) e

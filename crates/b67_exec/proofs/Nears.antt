@@ -1,6 +1,5 @@
 -- A near operator: other cells on the running stack, and the same segment, held as it was.
-use Rattle.std.proofs.Common.{◌≡◌, ◌≢◌, ℕ, ◌+◌, ◌-◌, ◌*◌, ◌^◌, ◌≤◌, Bool, true, false, List, [], ◌∷◌, ◌++◌, map, flat_map, length, Option, Some, None, Ok, Err, refl, sym, ◌∙◌, ap, subst, arith}
-use Rattle.std.specs.Prelude.{nat_le}
+use Rattle.std.proofs.Common.{◌≡◌, ◌≢◌, ℕ, ◌+◌, ◌-◌, ◌*◌, ◌^◌, ◌≤◌, Bool, true, false, List, [], ◌∷◌, ◌++◌, map, flat_map, length, Option, Some, None, Ok, refl, sym, ◌∙◌, ap, subst, arith}
 use Rattle.std.specs.List.{slice_get, slice_range}
 use Rattle.std.proofs.lemmas.List.{length-map}
 use Rattle.std.proofs.lemmas.Option.{same_Some}
@@ -21,7 +20,7 @@ use Rattle.b67_model.specs.declared.operators.Op.{Op}
 use Rattle.b67_model.specs.declared.operators.Op.TheVariants.{Namc, Lt8, Lt16, Lt48, Mpcw, Plain}
 use Rattle.b67_model.specs.declared.operators.Code.{Code}
 use Rattle.b67_model.specs.declared.operators.Code.TheVariants as codes
-use Rattle.b67_model.specs.Common.{Answer, ◌>>=◌, ◌>>◌, needs, is_proc, proc_of, cells_of, Word, Done, Goes, Line, Task, Job, SessionJob, Session, Segment, with_task, with_top_cells, height, leaves_cells, OperatorContext, row, called, code_of, number_of}
+use Rattle.b67_model.specs.Common.{Answer, ◌>>=◌, ◌>>◌, needs, is_proc, proc_of, cells_of, Word, Done, Goes, Line, Task, Job, SessionJob, Session, Segment, with_task, leaves_cells, OperatorContext, row, called, code_of, number_of}
 use Rattle.b67_stack.specs.declared.Cpu.{Cpu}
 use Rattle.b67_stack.specs.declared.Step.{Step}
 use Rattle.b67_stack.specs.declared.Step.TheVariants as answers
@@ -41,20 +40,14 @@ use Rattle.b67_exec.specs.Near.{HoldsCode, is_straight, branch_op}
 
 -- an operator that was made calls no intrinsic
 pub made_near : (x : Storage) (plan : Placement) (s : Session) (m : SessionJob) (old new : Cpu) (calls : Option ℕ) (answer : Answer Done) → CallsOrMeets x plan s m answers.Done old new calls answer → IsMade x plan s m old new answer
-made_near x plan s m old new (Some n) answer i = absurd (let e = i.0 in let z : ⊥ = cc in z)
-made_near x plan s m old new None answer i = i
+made_near x plan s m old new calls answer i = grind arith
 
 -- after another answer nothing has changed
 pub unmet : (x : Storage) (plan : Placement) (s : Session) (m : SessionJob) (answered : Step) (old new : Cpu) (answer : Answer Done) → answered ≢ answers.Done → Meets x plan s m answered old new answer → new ≡ old
-unmet x plan s m answers.Done old new answer other i = absurd (other refl)
-unmet x plan s m (answers.Absent found) old new answer other i = i.1
-unmet x plan s m (answers.Call n) old new answer other i = absurd i
-unmet x plan s m (answers.Fault fault) old new answer other i = i.1
-unmet x plan s m answers.Ended old new answer other i = i.1
+unmet x plan s m answered old new answer other i = grind arith
 
 pub unmade : (x : Storage) (plan : Placement) (s : Session) (m : SessionJob) (answered : Step) (old new : Cpu) (calls : Option ℕ) (answer : Answer Done) → answered ≢ answers.Done → CallsOrMeets x plan s m answered old new calls answer → new ≡ old
-unmade x plan s m answered old new (Some n) answer other i = i.1
-unmade x plan s m answered old new None answer other i = unmet x plan s m answered old new answer other i
+unmade x plan s m answered old new calls answer other i = grind arith
 
 -- ---- the rows
 
@@ -67,16 +60,10 @@ module _ (m : SessionJob) (t : Task) (job : Job) (printed : List Line) (touched 
     pub goes : Goes_to place
 
   pub leaves : (q : Place) → Goes_to q → (cs : List Word) → leaves_cells (here m t q) cs None ≡ Ok (Goes job printed touched) → LeavesCells
-  leaves q goes cs e = by_test (nat_le (height (with_top_cells t.frames cs)) m.constants.stack_size) refl where
-    by_test : (b : Bool) → nat_le (height (with_top_cells t.frames cs)) m.constants.stack_size ≡ b → LeavesCells
-    by_test true test =
-        let made : ◌≡◌ {A = Answer Done} (Ok (Goes (with_task m.progress.job (task_with t cs q)) [] None)) (Ok (Goes job printed touched)) = rw test at e in
-        record { cells = cs; place = q; is = sym (let k : with_task m.progress.job (task_with t cs q) ≡ job = cc in k); goes = goes }
-    by_test false test = absurd (let made = rw test at e in let z : ⊥ = cc in z)
+  leaves q goes cs e = grind arith
 
   by_cells : (q : Place) → Goes_to q → (r : Answer (List Word)) → (r >>= λ ds. leaves_cells (here m t q) ds None) ≡ Ok (Goes job printed touched) → LeavesCells
-  by_cells q goes (Err why) e = absurd (let z : ⊥ = cc in z)
-  by_cells q goes (Ok ds) e = leaves q goes ds e
+  by_cells q goes r e = grind arith
 
   by_code : (q : Place) → Goes_to q → (code : Code) → is_quick code ≡ true → row (Plain code) (here m t q) ≡ Ok (Goes job printed touched) → LeavesCells
   by_code q goes codes.Zero near e = leaves q goes _ e
@@ -96,8 +83,7 @@ module _ (m : SessionJob) (t : Task) (job : Job) (printed : List Line) (touched 
   by_code q goes _ near e = absurd (let z : ⊥ = cc in z)
 
   by_needs : (q : Place) → Goes_to q → (fits : Bool) (fault : Fault) (cs : List Word) → (needs fits fault >> leaves_cells (here m t q) cs None) ≡ Ok (Goes job printed touched) → LeavesCells
-  by_needs q goes false fault cs e = absurd (let z : ⊥ = cc in z)
-  by_needs q goes true fault cs e = leaves q goes cs e
+  by_needs q goes fits fault cs e = grind arith
 
   -- an operator that goes on behind it
   pub straight_leaves : (q : Place) → Goes_to q → (op : Op) → is_straight op ≡ true → row op (here m t q) ≡ Ok (Goes job printed touched) → LeavesCells
@@ -112,28 +98,17 @@ module _ (m : SessionJob) (t : Task) (job : Job) (printed : List Line) (touched 
 -- ---- descriptors
 
 bit_low : (b : Bool) → flag_bit b ≤ 1
-bit_low true = omega arith
-bit_low false = omega arith
+bit_low b = grind arith
 
 same_bit : (a b : Bool) → flag_bit a ≡ flag_bit b → a ≡ b
-same_bit true true e = refl
-same_bit false false e = refl
-same_bit true false e = absurd (omega (arith, e))
-same_bit false true e = absurd (omega (arith, e))
+same_bit a b e = grind arith
 
 same_fields : (a b : SegDesc) → a.present ≡ b.present → a.words ≡ b.words → a.address ≡ b.address → a ≡ b
-same_fields a b present words address = by a.present a.words a.address present words address where
-  by : (p : Bool) (w n : ℕ) → p ≡ b.present → w ≡ b.words → n ≡ b.address → ◌≡◌ {A = SegDesc} (record { present = p; words = w; address = n }) b
-  by p w n same_p same_w same_n = rw (same_p, same_w, same_n) refl
+same_fields a b present words address = grind arith
 
 -- a word is one descriptor's
 pub same_desc : (a b : SegDesc) → IsSegDesc a → IsSegDesc b → seg_word a ≡ seg_word b → a ≡ b
-same_desc a b p q e =
-    let bits : flag_bit a.present * 2 ^ 47 + a.words * 2 ^ 20 + a.address ≡ flag_bit b.present * 2 ^ 47 + b.words * 2 ^ 20 + b.address = ap (λ (w : Tagged). w.bits) e in
-    same_fields a b
-    (same_bit a.present b.present (omega (arith, bits, p.address, q.address, p.words, q.words, bit_low a.present, bit_low b.present)))
-    (omega (arith, bits, p.address, q.address, p.words, q.words, bit_low a.present, bit_low b.present))
-    (omega (arith, bits, p.address, q.address, p.words, q.words, bit_low a.present, bit_low b.present))
+same_desc a b p q e = grind arith
 
 -- ---- the segment
 
@@ -166,12 +141,7 @@ module _ (x : Storage) (old new : Cpu) (plan : Placement) (s : Session) (m : Ses
 
   -- the running segment's descriptor stands where it stood
   pub word_after : slice_get new.core (new.regs.dict + new.regs.segment) ≡ Some (seg_word (code_desc x plan m t))
-  word_after =
-      let o = h.holds.running m t runs in
-      let at : new.regs.dict + new.regs.segment ≡ plan.dictionary m.constants.number + 1 + t.segment = omega (arith, o.dict, o.segment, dict_is, segment_is) in
-      let d = code_desc x plan m t in
-      ap (slice_get new.core) at ∙ (stands.holds.memory.objects object there).home
-      ∙ ap (λ (n : ℕ). Some (seg_word (record { present = d.present; words = n; address = d.address }))) (ap length (sym code-is))
+  word_after = grind (arith, there)
 
   contents-words : (tag : ℕ) (ns : List ℕ) → contents (map (word tag) ns) ≡ ns
   contents-words tag [] = refl
@@ -182,8 +152,7 @@ module _ (x : Storage) (old new : Cpu) (plan : Placement) (s : Session) (m : Ses
   words_after desc words given is =
       let C : Option ℕ → Type 0 = λ o. Content x new.core object o (code_held x plan m t).chain in
       let up = (subst C (present x old plan s m t ordered h runs desc given.0 given.1) (stands.holds.memory.objects object there).content).0 in
-      let n : desc.words ≡ length (map (word 3) segment.0.code) = ap (λ (d : SegDesc). d.words) given.0 ∙ ap length code-is ∙ sym (length-map segment.0.code (word 3)) in
-      ap contents (is ∙ upward-range new.core desc.address desc.words (map (word 3) segment.0.code) n up) ∙ contents-words 3 segment.0.code ∙ sym code-is
+      grind (arith, length-map, upward-range, contents-words)
 
 -- ---- what stays
 
@@ -224,11 +193,7 @@ module _ (old new : Cpu) (r : RunsSome old) (answer : Answer Done) (k : IsMade r
   shows = let S : Job → Type 0 = λ j. RepresentsSessionBut (objects_gone r.plan r.member k.job) r.storage new r.plan (with_job r.session r.member j) in subst S l.is k.stands
 
   found_member : IsRunning r.plan (with_job r.session r.member job).jobs (record r.member { progress = record r.member.progress { job = job } }) task
-  found_member = record {
-    member = member_after r.session r.member job r.running.member;
-    task = change_found (λ (u : Task). u.number) r.task.number r.task task r.member.progress.job.tasks refl r.running.task;
-    slot = r.running.slot;
-  }
+  found_member = grind (arith, member_after, change_found)
 
   pub place_on : new.regs.place ≡ l.place
   place_on = (shows.holds.running _ _ found_member).place
@@ -241,28 +206,19 @@ module _ (old new : Cpu) (r : RunsSome old) (answer : Answer Done) (k : IsMade r
 
 -- a near operator leaves no activation record and calls no intrinsic
 code_stays : (code : Code) → is_quick code ≡ true → is_leaving (Plain code) ≡ false
-code_stays codes.Exit near = absurd (let z : ⊥ = cc in z)
-code_stays codes.Retn near = absurd (let z : ⊥ = cc in z)
-code_stays _ near = refl
+code_stays code near = grind arith
 
 pub straight_stays : (op : Op) → is_straight op ≡ true → is_leaving op ≡ false
-straight_stays (Plain code) near = code_stays code near
-straight_stays _ near = refl
+straight_stays op near = grind arith
 
 code_calls : (code : Code) → is_quick code ≡ true → (h : OperatorContext) → called (Plain code) h ≡ None
-code_calls codes.Entr near h = absurd (let z : ⊥ = cc in z)
-code_calls _ near h = refl
+code_calls code near h = grind arith
 
 pub straight_calls : (op : Op) → is_straight op ≡ true → (h : OperatorContext) → called op h ≡ None
-straight_calls (Plain code) near h = code_calls code near h
-straight_calls _ near h = refl
+straight_calls op near h = grind arith
 
 pub branch_stays : (always wanted : Bool) (target : Place) → is_leaving (branch_op always wanted target) ≡ false
-branch_stays true wanted target = refl
-branch_stays false true target = refl
-branch_stays false false target = refl
+branch_stays always wanted target = grind arith
 
 pub branch_calls : (always wanted : Bool) (target : Place) (h : OperatorContext) → called (branch_op always wanted target) h ≡ None
-branch_calls true wanted target h = refl
-branch_calls false true target h = refl
-branch_calls false false target h = refl
+branch_calls always wanted target h = grind arith

@@ -1,6 +1,6 @@
 -- The entry where the value stands over the reference, by what was read.
 use Rattle.std.proofs.Common.{◌≡◌, ◌≢◌, ℕ, ◌-◌, ◌<◌, ◌≤◌, List, [], ◌∷◌, ◌++◌, map, length, Err, refl, sym, ◌∙◌, ap, arith, Bool, false, subst, slice_set}
-use Rattle.std.specs.List.{AllByRecursion, slice_get}
+use Rattle.std.specs.List.{slice_get}
 use Rattle.b67_core.proofs.Writes.{slice_get-set_other}
 use Rattle.b67_word.specs.Tagged.{Tagged}
 use Rattle.b67_word.specs.declared.couples.Place.{Place}
@@ -28,10 +28,7 @@ use Rattle.b67_exec.specs.Stores.{ValueOver}
 use Rattle.b67_exec.proofs.Unders.{under_scene, under_enters, under_made, under_fault}
 
 second_order : (P : Starts) (arrays : List Array) (outer : List Known) (fs : List Frame) (b a : Word) (rest : List Word) → FramesInOrder P arrays outer fs → (top fs).cells ≡ b ∷ a ∷ rest → WordInOrder P arrays (map known_of fs ++ outer) (top fs).identity a
-second_order P arrays outer [] b a rest o e = absurd (let z : ⊥ = cc in z)
-second_order P arrays outer (f ∷ below) b a rest o e =
-    let A : List Word → Type 0 = λ cs. AllByRecursion (WordInOrder P arrays (map known_of (f ∷ below) ++ outer) f.identity) cs in
-    (subst A e o.0.0).1.0
+second_order P arrays outer fs b a rest o e = grind arith
 
 -- what accidental entry requires and answers on other registers
 abbrev pub MayEnter : Cpu → Regs → ℕ → Type 0
@@ -106,8 +103,4 @@ module _ (x : Storage) (cpu : Cpu) (plan : Placement) (s : Session) (m : Session
         → record new { core = written } ≡ cpu
     restored written keeps fault i is =
         let f = stored_fault keeps fault i in
-        let W : Cpu → List Tagged = λ z. slice_set z.core (z.regs.s - 1) u in
-        let e : written ≡ cpu.core = is ∙ ap W f.1 ∙ f.2 in
-        let R : Cpu → Cpu = λ z. record z { core = written } in
-        let C : List Tagged → Cpu = λ z. record cpu { core = z } in
-        ap R f.1 ∙ ap C e
+        grind (arith, slice_set)

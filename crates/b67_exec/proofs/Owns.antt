@@ -1,5 +1,5 @@
 -- Stores and loads through references that need no search, as the rows of their operators.
-use Rattle.std.proofs.Common.{◌≡◌, ℕ, Bool, true, false, List, [], ◌∷◌, ◌++◌, length, Ok, refl, sym, subst, ◌⊎◌, ⊎_elim}
+use Rattle.std.proofs.Common.{◌≡◌, ℕ, Bool, true, false, List, [], ◌∷◌, ◌++◌, length, Ok, refl, sym, subst, ◌⊎◌, ⊎_elim, arith}
 use Rattle.b67_word.specs.Tagged.{Tagged}
 use Rattle.b67_word.specs.declared.couples.Place.{Place}
 use Rattle.b67_model.specs.declared.operators.Code.{Code}
@@ -27,12 +27,10 @@ module _ (next : Place) (old new : Cpu) where
   Stored keeps = ForEach old (λ x plan s m t. IsMade x plan s m old new (rows.store keeps (here m t next) (cells_of (here m t next))))
 
   stod_made : (made : Bool) → (made ≡ true → Stored false) → (made ≡ true → StaysInSegment old new next) → (made ≡ false → new ≡ old) → OnShortly (Plain codes.Stod) next old made new
-  stod_made true each stays rest = (each refl, stays refl)
-  stod_made false each stays rest = rest refl
+  stod_made made each stays rest = grind arith
 
   ston_made : (made : Bool) → (made ≡ true → Stored true) → (made ≡ true → StaysInSegment old new next) → (made ≡ false → new ≡ old) → OnShortly (Plain codes.Ston) next old made new
-  ston_made true each stays rest = (each refl, stays refl)
-  ston_made false each stays rest = rest refl
+  ston_made made each stays rest = grind arith
 
   -- either of the two
   pub store_made : (code : Code) (keeps made : Bool) → ((code ≡ codes.Stod) × (keeps ≡ false)) ⊎ ((code ≡ codes.Ston) × (keeps ≡ true)) → (made ≡ true → Stored keeps) → (made ≡ true → StaysInSegment old new next) → (made ≡ false → new ≡ old)

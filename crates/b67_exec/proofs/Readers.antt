@@ -1,8 +1,7 @@
 -- Code that is read syllable after syllable.
-use Rattle.std.proofs.Common.{◌≡◌, ℕ, ◌+◌, ◌-◌, ◌*◌, ◌/◌, ◌%◌, ◌^◌, ◌<◌, ◌≤◌, List, get_or, length, Some, None, sym, ◌∙◌, ap, arith, subst, inl, inr}
+use Rattle.std.proofs.Common.{◌≡◌, ℕ, ◌+◌, ◌-◌, ◌*◌, ◌/◌, ◌%◌, ◌^◌, ◌<◌, ◌≤◌, List, get_or, length, Some, None, ◌∙◌, ap, arith}
 use Rattle.std.specs.Prelude.{slice_index}
 use Rattle.std.specs.List.{slice_range}
-use Rattle.std.proofs.lemmas.Bool.{cases_eq}
 use Rattle.b67_word.specs.Tagged.{Tagged, contents}
 use Rattle.b67_word.specs.declared.couples.Place.{Place}
 use Rattle.b67_ctl.specs.declared.descriptors.SegDesc.{SegDesc}
@@ -18,22 +17,7 @@ use Rattle.b67_exec.specs.Near.{ReaderAt}
 
 -- below six
 by_six : (P : ℕ → Type 0) → P 0 → P 1 → P 2 → P 3 → P 4 → P 5 → (n : ℕ) → n < 6 → P n
-by_six P a b c d e f n low = elim (cases_eq n 0) [
-  | inl k ↦ subst P (sym k) a
-  | inr n0 ↦ elim (cases_eq n 1) [
-    | inl k ↦ subst P (sym k) b
-    | inr n1 ↦ elim (cases_eq n 2) [
-      | inl k ↦ subst P (sym k) c
-      | inr n2 ↦ elim (cases_eq n 3) [
-        | inl k ↦ subst P (sym k) d
-        | inr n3 ↦ elim (cases_eq n 4) [
-          | inl k ↦ subst P (sym k) e
-          | inr n4 ↦ let k : n ≡ 5 = omega (arith, low, n0, n1, n2, n3, n4) in subst P (sym k) f
-        ]
-      ]
-    ]
-  ]
-]
+by_six P a b c d e f n low = grind arith
 
 -- the first of the syllables from syllable k on, by the word
 pub top_is : (w k : ℕ) → k < 6 → (w % 2 ^ (48 - 8 * k) * 2 ^ (16 + 8 * k)) / 2 ^ 56 ≡ w / 256 ^ (5 - k) % 256
@@ -60,8 +44,7 @@ module _ (x : Storage) (cpu : Cpu) (plan : Placement) (s : Session) (m : Session
   word-in words i w is low got =
       let n : words ≡ slice_range cpu.core desc.address (desc.address + length (code_of m.constants t.segment)) = is ∙ ap (λ (k : ℕ). slice_range cpu.core desc.address (desc.address + k)) words-are in
       let c : contents words ≡ code_of m.constants t.segment = code-read x cpu plan s m t ordered h runs desc.address words (present x cpu plan s m t ordered h runs desc given.0 given.1) n in
-      let inside : i < length words = omega (arith, low, words-are, ap length c, length-map words (λ (v : Tagged). v.bits)) in
-      ap (λ (ns : List ℕ). slice_index ns i) (sym c) ∙ get_or-map (λ (v : Tagged). v.bits) words i w 0 inside ∙ ap (λ (v : Tagged). v.bits) (sym got)
+      grind (arith, length-map, get_or-map)
 
   pub in-core : desc.address + desc.words ≤ length cpu.core
   in-core = let i = desc-inside x cpu plan s m t ordered h runs desc given.0 given.1 in omega (arith, i)
@@ -74,57 +57,24 @@ module _ (x : Storage) (cpu : Cpu) (plan : Placement) (s : Session) (m : Session
 
 -- the next syllable of the word
 pub stepped : (r : Reader) (code : List ℕ) (k : ℕ) → ReaderAt r code k → r.word < length code → r.syllable < 5 → (more : ℕ) → more ≡ k + 1 → ReaderAt (record r { syllable = r.syllable + 1; bits = r.bits * 2 ^ 8 % 2 ^ 64 }) code more
-stepped r code k a inside some more is = record {
-  in_word = omega (arith, some);
-  at = omega (arith, a.at, is);
-  within = omega (arith, a.at, is, inside, some);
-  bits = λ there. ap (λ (z : ℕ). z * 2 ^ 8 % 2 ^ 64) (a.bits inside) ∙ shifted_is (slice_index code r.word) r.syllable some;
-  ends = λ out. absurd (omega (arith, out, inside));
-}
+stepped r code k a inside some more is = grind (arith, shifted_is)
 
 -- the first one of the next word
 pub crossed : (r : Reader) (code : List ℕ) (k : ℕ) → ReaderAt r code k → 5 ≤ r.syllable → r.word + 1 < length code → (bits : ℕ) → bits ≡ slice_index code (r.word + 1) * 2 ^ 16 → bits < 2 ^ 64 → (more : ℕ) → more ≡ k + 1
     → ReaderAt (record { code = r.code; word = r.word + 1; syllable = 0; bits = bits }) code more
-crossed r code k a last inside bits is small more more_is = record {
-  in_word = omega arith;
-  at = omega (arith, a.at, a.in_word, last, more_is);
-  within = omega (arith, a.at, a.in_word, more_is, inside);
-  bits = λ there. omega (arith, is, small);
-  ends = λ out. absurd (omega (arith, out, inside));
-}
+crossed r code k a last inside bits is small more more_is = grind arith
 
 -- the first one of a word
 pub opened : (desc : SegDesc) (code : List ℕ) (word bits : ℕ) → word < length code → bits ≡ slice_index code word * 2 ^ 16 → bits < 2 ^ 64
     → ReaderAt (record { code = desc; word = word; syllable = 0; bits = bits }) code (6 * word)
-opened desc code word bits inside is small = record {
-  in_word = omega arith;
-  at = omega arith;
-  within = omega (arith, inside);
-  bits = λ there. omega (arith, is, small);
-  ends = λ out. absurd (omega (arith, out, inside));
-}
+opened desc code word bits inside is small = grind arith
 
 -- the end of the code
 pub ended : (desc : SegDesc) (code : List ℕ) (word bits : ℕ) → word ≡ length code → form_of (bits / 2 ^ 56) ≡ None
     → ReaderAt (record { code = desc; word = word; syllable = 0; bits = bits }) code (6 * word)
-ended desc code word bits end none = record {
-  in_word = omega arith;
-  at = omega arith;
-  within = omega (arith, end);
-  bits = λ there. absurd (omega (arith, there, end));
-  ends = λ past. none;
-}
+ended desc code word bits end none = grind arith
 
 -- the one at a place
 pub begun : (desc : SegDesc) (code : List ℕ) (place : Place) (word bits by : ℕ) → place.syllable < 6 → place.word < length code → word ≡ slice_index code place.word * 2 ^ 16 → word < 2 ^ 64 → by ≡ place.syllable → bits ≡ word * 2 ^ (8 * by) % 2 ^ 64
     → ReaderAt (record { code = desc; word = place.word; syllable = place.syllable; bits = bits }) code (count_at place + 0)
-begun desc code place word bits by in_word inside word_is small by_is bits_is =
-    let w : ℕ = slice_index code place.word in
-    let low : w < 2 ^ 48 = omega (arith, word_is, small) in
-    record {
-      in_word = in_word;
-      at = omega arith;
-      within = omega (arith, in_word, inside);
-      ends = λ out. absurd (omega (arith, out, inside));
-      bits = λ there. bits_is ∙ ap (λ (z : ℕ). z * 2 ^ (8 * by) % 2 ^ 64) word_is ∙ ap (λ (z : ℕ). w * 2 ^ 16 * 2 ^ (8 * z) % 2 ^ 64) by_is ∙ from_is w place.syllable in_word low;
-    }
+begun desc code place word bits by in_word inside word_is small by_is bits_is = grind (arith, from_is)

@@ -1,11 +1,10 @@
 -- The operator that was read: its parameters, and the intrinsic that it calls.
-use Rattle.std.proofs.Common.{◌≡◌, ℕ, Option, Some, Ok, sym, subst}
+use Rattle.std.proofs.Common.{◌≡◌, ℕ, Some, Ok, arith}
 use Rattle.b67_word.specs.declared.couples.Place.{Place}
 use Rattle.b67_ctl.specs.Layout.{IsPlace}
 use Rattle.b67_model.specs.declared.operators.Op.{Op}
-use Rattle.b67_model.specs.declared.operators.Op.TheVariants.{Valc, Namc, Lt8, Lt16, Lt48, Mpcw, Brun, Brtr, Brfl, Bset, Brst, Isol, Insr, Plain}
 use Rattle.b67_model.specs.Common.{Reading, reading_of, step_by, step, Task, JobConstants, SessionJob, Session, SettingInOrder}
-use Rattle.b67_law_order.proofs.Readings.{OpBits, ReadFits}
+use Rattle.b67_law_order.proofs.Readings.{OpBits}
 use Rattle.b67_law_order.proofs.Segments.{reading_fits}
 use Rattle.b67_stack.specs.declared.Cpu.{Cpu}
 use Rattle.b67_stack.specs.declared.Step.{Step}
@@ -13,28 +12,13 @@ use Rattle.b67_stack.specs.Represents.{Storage}
 use Rattle.b67_layout.specs.Placement.{Placement}
 use Rattle.b67_exec_cells.specs.Running.{code_area}
 use Rattle.b67_entry.specs.Procedures.{CallsOrMeets}
-use Rattle.b67_exec.specs.Operators.{ParametersHaveBits, called_by_reading, OperatorAt, OperatorMeets}
+use Rattle.b67_exec.specs.Operators.{ParametersHaveBits, called_by_reading, OperatorMeets}
 
 fits_by : (op : Op) → OpBits op → ParametersHaveBits op
-fits_by (Valc couple) o = o
-fits_by (Namc couple) o = o
-fits_by (Lt8 n) o = tt
-fits_by (Lt16 n) o = tt
-fits_by (Lt48 bits) o = o
-fits_by (Mpcw bits) o = tt
-fits_by (Brun target) o = tt
-fits_by (Brtr target) o = tt
-fits_by (Brfl target) o = tt
-fits_by (Bset n) o = tt
-fits_by (Brst n) o = tt
-fits_by (Isol high width) o = tt
-fits_by (Insr high width) o = tt
-fits_by (Plain code) o = tt
+fits_by op o = grind arith
 
 pub read_fits : (constants : JobConstants) (t : Task) (op : Op) (next : Place) → SettingInOrder constants → ◌≡◌ {A = Reading} (Ok (op, next)) (reading_of constants t) → ParametersHaveBits op × IsPlace next
-read_fits constants t op next g is =
-    let r : ReadFits (Ok (op, next)) = subst ReadFits (sym is) (reading_fits constants t g) in
-    (fits_by op r.0, record { syllable = r.1.1; word = r.1.0 })
+read_fits constants t op next g is = grind (arith, reading_fits)
 
 -- what making the operator that was read answers
 abbrev ByReading : Storage → Placement → Session → SessionJob → Task → Step → Cpu → Cpu → Reading → Type 0
@@ -43,6 +27,4 @@ ByReading x plan s m t answered old new reading = CallsOrMeets x plan s m answer
 pub operator_read : (x : Storage) (plan : Placement) (s : Session) (m : SessionJob) (t : Task) (answered : Step) (old new : Cpu) (at : ℕ) (reading : Reading) → code_area x plan m t ≡ Some at → reading ≡ reading_of m.constants t
     → CallsOrMeets x plan s m answered old new (called_by_reading m t reading) (step_by m.constants m.progress.job t reading) → OperatorMeets x plan s m t answered old new
 unfolding step
-operator_read x plan s m t answered old new at reading area is made =
-    let P : Option ℕ → Type 0 = λ o. OperatorAt x plan s m t answered old new o in
-    subst P (sym area) (subst (ByReading x plan s m t answered old new) is made)
+operator_read x plan s m t answered old new at reading area is made = grind arith

@@ -1,5 +1,5 @@
 -- An operator that isn't made, since its segment is absent or its place is outside it.
-use Rattle.std.proofs.Common.{◌≡◌, ℕ, ◌+◌, ◌≤◌, Bool, true, false, List, length, Option, None, Err, refl, sym, ap, subst, inl, inr, ◌⊎◌, arith}
+use Rattle.std.proofs.Common.{◌≡◌, ℕ, ◌+◌, ◌≤◌, Bool, true, false, List, length, None, Err, refl, sym, subst, inl, inr, ◌⊎◌, arith}
 use Rattle.std.specs.Prelude.{nat_lt}
 use Rattle.std.proofs.lemmas.Bool.Decides.{nat_tests}
 use Rattle.b67_word.specs.declared.couples.Place.{Place}
@@ -13,19 +13,11 @@ use Rattle.b67_stack.specs.declared.Step.TheVariants as answers
 use Rattle.b67_layout.specs.Common.{RunsSome, ForEach}
 use Rattle.b67_exec_cells.specs.Running.{GivesSegment}
 use Rattle.b67_exec.specs.Near.{HoldsCode, IsOutside, StopsHere}
-use Rattle.b67_exec.specs.Operators.{OperatorAt}
 use Rattle.b67_exec.proofs.Readers.{words-are}
 use Rattle.b67_exec.proofs.Through.{unread_stops}
 
 pub absent_stops : (cpu : Cpu) → RunsSome cpu → ForEach cpu (λ x plan s m t. GivesSegment x plan m t None) → StopsHere cpu (answers.Absent (Code cpu.regs.segment))
-absent_stops cpu q none = record {
-  other = λ e. cc;
-  row = λ x plan s m t ordered h runs.
-      let o = h.holds.running m t runs in
-      let at : cpu.regs.segment ≡ t.segment + 1 = omega (arith, o.segment) in
-      let answered = answers.Absent (Code cpu.regs.segment) in
-      subst (λ (area : Option ℕ). OperatorAt x plan s m t answered cpu cpu area) (sym (none x plan s m t ordered h runs)) (ap (λ (n : ℕ). answers.Absent (Code n)) at, refl);
-}
+absent_stops cpu q none = grind arith
 
 outside : (code : List ℕ) (at : Place) → (6 ≤ at.syllable) ⊎ (length code ≤ at.word) → operator_at code at ≡ Err BadPlace
 outside code at (inl far) = let one : nat_lt at.syllable 6 ≡ false = grind (arith, nat_tests) in rw one refl

@@ -1,8 +1,6 @@
 -- An operator read syllable after syllable, and where the reader stands once the task has gone on.
-use Rattle.std.proofs.Common.{◌≡◌, ℕ, ◌+◌, ◌-◌, ◌*◌, ◌/◌, ◌%◌, ◌^◌, ◌<◌, ◌≤◌, ◌≢◌, Bool, true, false, List, [], ◌∷◌, length, Option, Some, None, Ok, Err, refl, sym, ◌∙◌, ap, subst, arith, inl, inr}
+use Rattle.std.proofs.Common.{◌≡◌, ℕ, ◌+◌, ◌-◌, ◌*◌, ◌/◌, ◌%◌, ◌^◌, ◌<◌, ◌≤◌, ◌≢◌, Bool, true, false, List, [], ◌∷◌, length, Option, Some, None, Ok, Err, refl, sym, ◌∙◌, ap, subst, arith}
 use Rattle.std.specs.Prelude.{nat_lt, nat_le, slice_index}
-use Rattle.std.proofs.lemmas.Option.{none-some}
-use Rattle.std.proofs.lemmas.Bool.{cases_lt}
 use Rattle.std.proofs.lemmas.Bool.Decides.{nat_tests}
 use Rattle.b67_word.specs.declared.couples.Place.{Place}
 use Rattle.b67_word.specs.declared.faults.Fault.TheVariants.{InvalidOperator}
@@ -10,9 +8,7 @@ use Rattle.b67_ctl.specs.declared.descriptors.SegDesc.{SegDesc}
 use Rattle.b67_model.specs.declared.operators.Op.{Op}
 use Rattle.b67_model.specs.declared.operators.Op.TheVariants.{Plain}
 use Rattle.b67_model.specs.declared.operators.Code.{Code}
-use Rattle.b67_model.specs.declared.operators.Code.TheVariants as codes
 use Rattle.b67_arith.specs.declared.numerics.Numeric.{Numeric}
-use Rattle.b67_arith.specs.declared.numerics.Numeric.TheVariants as numeric
 use Rattle.b67_arith.specs.Numerics.{of_numbers}
 use Rattle.b67_model.specs.declared.operators.Undecodable.{Undecodable}
 use Rattle.b67_model.specs.declared.operators.Undecodable.TheVariants.{PastEnd}
@@ -42,24 +38,15 @@ use Rattle.b67_exec.proofs.Readers.{top_is, words-are}
 -- ---- what is read
 
 pub same_place : (p q : Place) → p.word ≡ q.word → p.syllable ≡ q.syllable → p ≡ q
-same_place p q word syllable = by p.word p.syllable word syllable where
-  by : (w k : ℕ) → w ≡ q.word → k ≡ q.syllable → ◌≡◌ {A = Place} (record { word = w; syllable = k }) q
-  by w k same_w same_k = rw (same_w, same_k) refl
+same_place p q word syllable = grind arith
 
 -- the syllable on top of a reader
 pub syllable_at : (r : Reader) (code : List ℕ) (k : ℕ) → ReaderAt r code k → r.word < length code → r.bits / 2 ^ 56 ≡ syllable code k
-syllable_at r code k a inside =
-    let word : k / 6 ≡ r.word = omega (arith, a.at, a.in_word) in
-    let rest : 5 - k % 6 ≡ 5 - r.syllable = omega (arith, a.at, a.in_word) in
-    ap (λ (z : ℕ). z / 2 ^ 56) (a.bits inside) ∙ top_is (slice_index code r.word) r.syllable a.in_word
-    ∙ ap (λ (z : ℕ). slice_index code r.word / 256 ^ z % 256) (sym rest) ∙ ap (λ (z : ℕ). slice_index code z / 256 ^ (5 - k % 6) % 256) (sym word)
+syllable_at r code k a inside = grind (arith, top_is)
 
 -- its place
 place_is : (r : Reader) (code : List ℕ) (k : ℕ) → ReaderAt r code k → place_at k ≡ reader_place r
-place_is r code k a =
-    let word : k / 6 ≡ r.word = omega (arith, a.at, a.in_word) in
-    let rest : k % 6 ≡ r.syllable = omega (arith, a.at, a.in_word) in
-    rw (word, rest) refl
+place_is r code k a = grind arith
 
 -- the code goes on up to it
 ends_before : (next : Reader) (code : List ℕ) (k : ℕ) (op : Op) → ReaderAt next code k → ends_at code k op ≡ Ok (op, reader_place next)
@@ -69,22 +56,15 @@ ends_before next code k op a =
 
 -- or ends behind its last syllable
 ends_behind : (last : Reader) (code : List ℕ) (k : ℕ) (op : Op) → ReaderAt last code k → last.word < length code → ends_at code (k + 1) op ≡ Ok (op, place_at (k + 1))
-ends_behind last code k op a inside =
-    let test : nat_le (k + 1) (6 * length code) ≡ true = (let low : k + 1 ≤ 6 * length code = omega (arith, a.at, a.in_word, inside) in grind (arith, nat_tests)) in
-    rw test refl
+ends_behind last code k op a inside = grind arith
 
 -- an operator goes past the end of the code
 past_end : (code : List ℕ) (k : ℕ) (op : Op) → 6 * length code < k → ends_at code k op ≡ Err PastEnd
-past_end code k op past =
-    let test : nat_le k (6 * length code) ≡ false = grind (arith, nat_tests) in
-    rw test refl
+past_end code k op past = grind arith
 
 -- where a first syllable begins an operator, it isn't behind the end of the code
 within_code : (r : Reader) (code : List ℕ) (k : ℕ) (f : Form) → ReaderAt r code k → form_of (r.bits / 2 ^ 56) ≡ Some f → r.word < length code
-within_code r code k f a is = elim (cases_lt r.word (length code)) [
-  | inl low ↦ low
-  | inr high ↦ absurd (none-some f (sym (a.ends high) ∙ is))
-]
+within_code r code k f a is = grind arith
 
 module _ (code : List ℕ) (at : Place) (r : Reader) (in_word : at.syllable < 6) (a : ReaderAt r code (count_at at + 0)) where
   begins : (f : Form) → form_of (r.bits / 2 ^ 56) ≡ Some f → operator_at code at ≡ reads code (count_at at) (Some f)
@@ -93,10 +73,7 @@ module _ (code : List ℕ) (at : Place) (r : Reader) (in_word : at.syllable < 6)
       let one : nat_lt at.syllable 6 ≡ true = grind (arith, nat_tests) in
       let inside : at.word < length code = omega (arith, a.at, a.in_word, there, in_word) in
       let two : nat_lt at.word (length code) ≡ true = grind (arith, nat_tests) in
-      let same : count_at at + 0 ≡ count_at at = omega arith in
-      let first : r.bits / 2 ^ 56 ≡ syllable code (count_at at) = syllable_at r code (count_at at + 0) a there ∙ ap (syllable code) same in
-      let form : form_of (syllable code (count_at at)) ≡ Some f = ap form_of (sym first) ∙ is in
-      rw (one, two) (ap (reads code (count_at at)) form)
+      grind (arith, syllable_at)
 
   lone : (op : Code) (next : Reader) → form_of (r.bits / 2 ^ 56) ≡ Some (Alone op) → ReaderAt next code (count_at at + 1) → operator_at code at ≡ Ok (Plain op, reader_place next)
   lone op next is b = begins (Alone op) is ∙ ends_before next code (count_at at + 1) (Plain op) b
@@ -169,8 +146,7 @@ inside_code cpu r n i x plan s m t ordered h runs = let same = words-are x cpu p
 pub inside_of : (cpu : Cpu) (r : Reader) (n : ℕ) (f : Form) → RunsSome cpu → ReaderBehind cpu r n → form_of (r.bits / 2 ^ 56) ≡ Some f → ReaderInside cpu r n
 inside_of cpu r n f q b is =
     let same = words-are q.storage cpu q.plan q.session q.member q.task q.ordered q.stands q.running r.code (b.code q.storage q.plan q.session q.member q.task q.ordered q.stands q.running) in
-    let low = within_code r (code_of q.member.constants q.task.segment) (count_at q.task.place + n) f (b.at q.storage q.plan q.session q.member q.task q.ordered q.stands q.running) is in
-    record { behind = b; inside = omega (arith, same, low) }
+    grind (arith, within_code)
 
 module _ (cpu : Cpu) (r : Reader) (b : ReaderBehind cpu r 0) where
   in_its_word : (x : Storage) (plan : Placement) (s : Session) (m : SessionJob) (t : Task) → RepresentsSession x cpu plan s → IsRunning plan s.jobs m t → t.place.syllable < 6
@@ -412,35 +388,24 @@ pub form_at : (said n : Near) (first top : ℕ) (F : ℕ → Form) → ((g : For
 form_at said n first top F known top_is is says = let P : ℕ → Type 0 = λ z. form_of z ≡ Some (F z) in subst P top_is (known (F first) (ap (λ (k : Near). near_form k first) is ∙ says))
 
 pub word_straight : (procedure : Bool) (bits : ℕ) → is_straight (word_op procedure bits) ≡ true
-word_straight true bits = refl
-word_straight false bits = refl
+word_straight procedure bits = grind arith
 
 pub moves_straight : (code : Code) → moves_cells code ≡ true → is_straight (Plain code) ≡ true
-moves_straight codes.Zero is = refl
-moves_straight codes.One is = refl
-moves_straight codes.Push is = refl
-moves_straight codes.Dlet is = refl
-moves_straight codes.Exch is = refl
-moves_straight codes.Dupl is = refl
-moves_straight _ is = absurd (let z : ⊥ = cc in z)
+moves_straight code is = grind arith
 
 pub numbers_straight : (op : Numeric) → is_straight (Plain (code_of_numbers op)) ≡ true
-numbers_straight numeric.Add = refl
-numbers_straight _ = refl
+numbers_straight op = grind arith
 
 pub numbers_row : (op : Numeric) (h : OperatorContext) → on_cells (on_two (of_numbers op)) h ≡ row (Plain (code_of_numbers op)) h
-numbers_row numeric.Add h = refl
-numbers_row _ h = refl
+numbers_row op h = grind arith
 
 pub branch_row : (wanted : Bool) (target : Place) (h : OperatorContext) → branch_if wanted h (cells_of h) target ≡ row (branch_op false wanted target) h
-branch_row true target h = refl
-branch_row false target h = refl
+branch_row wanted target h = grind arith
 
 -- a row under another name, at the same place
 pub each_as : (old new : Cpu) (answered : Step) (op : Op) (p q : Place) (f : OperatorContext → Answer Done) → p ≡ q → ((h : OperatorContext) → f h ≡ row op h)
     → ForEach old (λ x plan s m t. Meets x plan s m answered old new (f (here m t p))) → ForEach old (λ x plan s m t. Meets x plan s m answered old new (row op (here m t q)))
-each_as old new answered op p q f same is each x plan s m t ordered h runs =
-    subst (λ (z : Answer Done). Meets x plan s m answered old new z) (ap (λ (z : Place). f (here m t z)) same ∙ is (here m t q)) (each x plan s m t ordered h runs)
+each_as old new answered op p q f same is each x plan s m t ordered h runs = grind arith
 
 -- a reader at a place of the code
 pub aimed : (cpu : Cpu) (aim : Reader) (target : Place) → RunsSome cpu → target.syllable < 6 → ForEach cpu (λ x plan s m t. ReaderAt aim (code_of m.constants t.segment) (count_at target + 0)) → reader_place aim ≡ target

@@ -1,5 +1,5 @@
 -- A store into a procedure: the value stays, the reference goes, and the procedure is entered.
-use Rattle.std.proofs.Common.{◌≡◌, ◌≢◌, ℕ, ◌+◌, ◌-◌, ◌<◌, ◌≤◌, List, [], ◌∷◌, ◌++◌, map, length, Ok, Err, refl, sym, ◌∙◌, ap, arith, cond, ltb, Bool, true, false, inl, inr, ◌⊎◌, ⊎_elim, subst, slice_set}
+use Rattle.std.proofs.Common.{◌≡◌, ◌≢◌, ℕ, ◌+◌, ◌-◌, ◌<◌, ◌≤◌, List, [], ◌∷◌, ◌++◌, map, length, Ok, Err, refl, sym, ◌∙◌, ap, arith, cond, Bool, false, ◌⊎◌, ⊎_elim, subst, slice_set}
 use Rattle.std.specs.Prelude.{if◌then◌else◌}
 use Rattle.std.specs.List.{slice_get}
 use Rattle.std.proofs.lemmas.Bool.{cases_eq}
@@ -9,13 +9,12 @@ use Rattle.b67_word.specs.declared.couples.Place.{Place}
 use Rattle.b67_word.specs.declared.faults.Fault.{Fault}
 use Rattle.b67_word.specs.declared.faults.Fault.TheVariants.{InvalidIndex}
 use Rattle.b67_core.proofs.Writes.{slice_get-set_other}
-use Rattle.b67_model.specs.Common.{Answer, ◌>>=◌, array, AtElement, AtProc, follow, accident, back_to, Starts, Known, known_of, outer_of, is_original_of, IsSegment, CellsInOrder, FramesInOrder, is_original, Session, Frame, Array, Task, SessionJob, OperatorContext, top, with_task, Done, cells_of, Word, Operand, Name, Ref, Row, Element, Original, Proc, Intrinsic, operand}
+use Rattle.b67_model.specs.Common.{Answer, ◌>>=◌, AtElement, AtProc, follow, accident, back_to, Starts, Known, known_of, outer_of, is_original_of, IsSegment, CellsInOrder, FramesInOrder, is_original, Session, Frame, Array, Task, SessionJob, OperatorContext, top, with_task, Done, cells_of, Word, Operand, Proc, operand}
 use Rattle.b67_model.specs.Chase as Chase
 use Rattle.b67_layout.specs.Common.{IsInOrderButCounts, Placement, IsRunning, SessionHoldsBut, RepresentsSession, here, with_job, Meets, IsWordOf, IsAt, cells}
 use Rattle.b67_lemmas.specs.Lists.{Has, how_many}
 use Rattle.b67_lemmas.proofs.Places.{set-back}
 use Rattle.b67_model.specs.Rows as rows
-use Rattle.b67_model.specs.Words as Words
 use Rattle.b67_stack.specs.declared.Cpu.{Cpu}
 use Rattle.b67_stack.specs.declared.Step.{Step}
 use Rattle.b67_stack.specs.declared.Step.TheVariants as step
@@ -32,68 +31,30 @@ use Rattle.b67_exec.proofs.Entered.{AtProcedure}
 
 -- the value of an operand
 pub is_operand : (b : Word) (bits : ℕ) → operand b ≡ Ok bits → b ≡ Operand bits
-is_operand (Operand n) bits e = cc
-is_operand (Name c) bits e = cc
-is_operand (Ref f o) bits e = cc
-is_operand (Row a) bits e = cc
-is_operand (Element a i) bits e = cc
-is_operand (Original a) bits e = cc
-is_operand (Proc g l p) bits e = cc
-is_operand (Intrinsic n) bits e = cc
-is_operand (Words.Segment n) bits e = cc
+is_operand b bits e = grind arith
 
 -- what leads to a procedure is a reference
 leads_plain : (h : OperatorContext) (a : Word) (f segment level : ℕ) (place : Place) → follow h a ≡ Ok (AtProc f segment level place) → is_original a ≡ false
-leads_plain h (Operand n) f segment level place e = refl
-leads_plain h (Name c) f segment level place e = refl
-leads_plain h (Ref g o) f segment level place e = refl
-leads_plain h (Row b) f segment level place e = refl
-leads_plain h (Element b i) f segment level place e = refl
-leads_plain h (Original b) f segment level place e = cc
-leads_plain h (Proc g l p) f segment level place e = refl
-leads_plain h (Intrinsic n) f segment level place e = refl
-leads_plain h (Words.Segment n) f segment level place e = refl
+leads_plain h a f segment level place e = grind arith
 
 -- an element is no procedure, whether its index is below the length or not
 no_element : (test : Bool) (b k f segment level : ℕ) (place : Place) → (let end : Answer Chase.End = cond test (Ok (AtElement b k)) (Err InvalidIndex) in end ≡ Ok (AtProc f segment level place)) → ⊥
-no_element true b k f segment level place e = cc
-no_element false b k f segment level place e = cc
+no_element test b k f segment level place e = grind arith
 
 leads_tag : (x : Storage) (plan : Placement) (m : SessionJob) (t : Task) (h : OperatorContext) (a : Word) (at : ℕ) (u : Tagged) (f segment level : ℕ) (place : Place) → follow h a ≡ Ok (AtProc f segment level place) → IsWordOf x plan m t a at u → u.tag ≡ 1
-leads_tag x plan m t h (Operand n) at u f segment level place e i = cc
-leads_tag x plan m t h (Name c) at u f segment level place e i = ap (λ (w : Tagged). w.tag) i.0
-leads_tag x plan m t h (Ref g o) at u f segment level place e i = ap (λ (w : Tagged). w.tag) i.0
-leads_tag x plan m t h (Row b) at u f segment level place e i = cc
-leads_tag x plan m t h (Element b k) at u f segment level place e i = absurd (no_element (ltb k (length (array h.job b).numbers)) b k f segment level place e)
-leads_tag x plan m t h (Original b) at u f segment level place e i = cc
-leads_tag x plan m t h (Proc g l p) at u f segment level place e i = cc
-leads_tag x plan m t h (Intrinsic n) at u f segment level place e i = cc
-leads_tag x plan m t h (Words.Segment n) at u f segment level place e i = cc
+leads_tag x plan m t h a at u f segment level place e i = grind arith
 
 -- the cells with the value in the reference's place
 value_order : (P : Starts) (arrays : List Array) (outer : List Known) (fs : List Frame) (bits : ℕ) (a : Word) (rest : List Word) → FramesInOrder P arrays outer fs → (top fs).cells ≡ Operand bits ∷ a ∷ rest
     → CellsInOrder P arrays (map known_of fs ++ outer) (top fs).identity (Operand bits ∷ rest)
 value_order P arrays outer [] bits a rest o e = absurd (let z : ⊥ = cc in z)
-value_order P arrays outer (f ∷ below) bits a rest o e =
-    let A : List Word → Type 0 = λ cs. CellsInOrder P arrays (map known_of (f ∷ below) ++ outer) f.identity cs in
-    let all = subst A e o.0 in
-    ((all.0.0, all.0.1.1), (tt, all.1.1.1))
+value_order P arrays outer (f ∷ below) bits a rest o e = grind arith
 
 originals_without : (n bits : ℕ) (a : Word) (rest : List Word) → is_original a ≡ false → how_many (is_original_of n) (Operand bits ∷ rest) ≡ how_many (is_original_of n) (Operand bits ∷ a ∷ rest)
-originals_without n bits (Operand k) rest e = omega arith
-originals_without n bits (Name c) rest e = omega arith
-originals_without n bits (Ref f o) rest e = omega arith
-originals_without n bits (Row b) rest e = omega arith
-originals_without n bits (Element b i) rest e = omega arith
-originals_without n bits (Original b) rest e = cc
-originals_without n bits (Proc g l p) rest e = omega arith
-originals_without n bits (Intrinsic k) rest e = omega arith
-originals_without n bits (Words.Segment k) rest e = omega arith
+originals_without n bits a rest e = grind arith
 
 no_proc : (h : OperatorContext) (bits : ℕ) (a : Word) (f segment level : ℕ) (place : Place) → follow h a ≡ Ok (AtProc f segment level place) → (g l : ℕ) (p : Place) → Has (Operand bits ∷ a ∷ []) (Proc g l p) → ⊥
-no_proc h bits a f segment level place e g l p (inl z) = cc
-no_proc h bits a f segment level place e g l p (inr (inl z)) = let k : follow h (Proc g l p) ≡ Ok (AtProc f segment level place) = ap (follow h) (sym z) ∙ e in let b : ⊥ = cc in b
-no_proc h bits a f segment level place e g l p (inr (inr z)) = z
+no_proc h bits a f segment level place e g l p k = grind arith
 
 module _ (x : Storage) (cpu : Cpu) (plan : Placement) (s : Session) (m : SessionJob) (t : Task) (ordered : IsInOrderButCounts s) (h : RepresentsSession x cpu plan s) (runs : IsRunning plan s.jobs m t) (q : Place)
     (bits : ℕ) (a : Word) (rest : List Word) (e : cells t ≡ Operand bits ∷ a ∷ rest) (p : AtProcedure (follow (here m t q) a)) (u v : Tagged)
@@ -116,8 +77,7 @@ module _ (x : Storage) (cpu : Cpu) (plan : Placement) (s : Session) (m : Session
   under_holds =
       let r = room x cpu plan s m t ordered h runs in
       let d = (replaced_stands x cpu plan s m t ordered h runs 2 (cpu.regs.s - 1) v t.place (Operand bits ∷ a ∷ []) rest (Operand bits) e refl enough (omega (arith, enough)) (omega (arith, r.last)) (refl, (plain, tt)) tt at_v.is).holds in
-      let P : Place → Type 0 = λ z. SessionHoldsBut [] x (slice_set cpu.core (cpu.regs.s - 1) v) (record cpu.regs { s = cpu.regs.s - 1; place = z }) cpu.critical plan (with_job s m (with_task m.progress.job (task_with t (Operand bits ∷ rest) t.place))) in
-      subst P (sym (h.holds.running m t runs).place) d
+      grind arith
 
   abbrev pub under_scene : RunningContext (slice_set cpu.core (cpu.regs.s - 1) v) (record cpu.regs { s = cpu.regs.s - 1 })
   under_scene = scene0 x cpu plan s m t ordered h runs (Operand bits ∷ rest) under_ordered under_cpu (cpu.regs.s - 1) refl under_holds
@@ -134,15 +94,11 @@ module _ (x : Storage) (cpu : Cpu) (plan : Placement) (s : Session) (m : Session
       i)
 
   under_within : (i : ℕ) → (slice_get (slice_set cpu.core (cpu.regs.s - 1) v) i ≡ slice_get cpu.core i) ⊎ ((cpu.regs.bosr < i) × (i ≤ cpu.regs.losr))
-  under_within i =
-      let r = room x cpu plan s m t ordered h runs in
-      ⊎_elim (λ (z : i ≡ cpu.regs.s - 1). inr (omega (arith, z, enough, r.mark), omega (arith, z, r.last))) (λ (z : i ≡ cpu.regs.s - 1 → ⊥). inl (slice_get-set_other cpu.core (cpu.regs.s - 1) i v z)) (cases_eq i (cpu.regs.s - 1))
+  under_within i = grind (arith, room, slice_get-set_other)
 
   -- the row of a store
   store_row : (keeps : Bool) → rows.store keeps (here m t q) (Operand bits ∷ a ∷ rest) ≡ accident (here m t q) (Operand bits ∷ rest) (back_to (here m t q) false t.place) (AtProc p.frame p.segment p.level p.place)
-  store_row keeps =
-      let E : Answer Chase.End → Answer Done = λ z. z >>= λ f. rows.store_at (here m t q) rest (if keeps then Operand bits ∷ rest else rest) bits f in
-      ap E p.is
+  store_row keeps = grind arith
 
   -- what was answered, against the row
   pub under_made : (keeps : Bool) (r : Step) (new : Cpu) → ((n : Fault) → r ≢ step.Fault n)
@@ -173,6 +129,4 @@ module _ (x : Storage) (cpu : Cpu) (plan : Placement) (s : Session) (m : Session
       → (rows.store keeps (here m t q) (cells t) ≡ Err fault) × (new ≡ record cpu { core = slice_set cpu.core (cpu.regs.s - 1) v }) × (slice_set (slice_set cpu.core (cpu.regs.s - 1) v) (cpu.regs.s - 1) u ≡ cpu.core)
   under_fault keeps fault new i =
       let over = entered x cpu plan s m t ordered h runs (Operand bits ∷ rest) under_ordered under_cpu (cpu.regs.s - 1) refl under_holds under_within (step.Fault fault) new q false cpu.regs.place p.frame p.segment p.level p.place i in
-      let B : Place → Type 0 = λ z. EntersOver x plan s m (step.Fault fault) cpu under_cpu new (accident (here m t q) (Operand bits ∷ rest) (back_to (here m t q) false z) (AtProc p.frame p.segment p.level p.place)) in
-      let met = subst B (h.holds.running m t runs).place over in
-      (ap (rows.store keeps (here m t q)) e ∙ store_row keeps ∙ met.0, met.1, set-back cpu.core (cpu.regs.s - 1) v u at_u.found)
+      grind (arith, set-back)

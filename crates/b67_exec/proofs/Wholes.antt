@@ -1,13 +1,12 @@
 -- An operator that is read whole, and was made or not; and where one is read so.
-use Rattle.std.proofs.Common.{◌≡◌, ℕ, ◌+◌, ◌*◌, ◌/◌, ◌^◌, ◌<◌, ◌≤◌, Bool, true, false, List, length, Option, Some, None, Ok, refl, sym, ap, subst, ◌∙◌, inl, inr, arith}
-use Rattle.std.specs.Prelude.{nat_lt, nat_le, slice_index}
+use Rattle.std.proofs.Common.{◌≡◌, ℕ, ◌+◌, ◌*◌, ◌/◌, ◌^◌, ◌<◌, ◌≤◌, Bool, true, false, List, length, Option, Some, Ok, sym, ap, subst, ◌∙◌, inl, inr, arith}
+use Rattle.std.specs.Prelude.{nat_lt}
 use Rattle.std.proofs.lemmas.Bool.{cases_lt}
 use Rattle.std.proofs.lemmas.Bool.Decides.{nat_tests}
 use Rattle.b67_word.specs.declared.couples.Place.{Place}
 use Rattle.b67_ctl.specs.declared.descriptors.SegDesc.{SegDesc}
 use Rattle.b67_model.specs.declared.operators.Op.{Op}
-use Rattle.b67_model.specs.declared.operators.Op.TheVariants.{Plain}
-use Rattle.b67_model.specs.Common.{Form, Alone, OneMore, TwoMore, Literal, branch, form_of, count_at, ends_at, reads, operator_at, code_of, reading_of, syllable}
+use Rattle.b67_model.specs.Common.{Form, branch, form_of, count_at, ends_at, reads, operator_at, code_of, reading_of, syllable}
 use Rattle.b67_stack.specs.declared.Cpu.{Cpu}
 use Rattle.b67_stack.specs.declared.Step.{Step}
 use Rattle.b67_layout.specs.Common.{ForEach}
@@ -23,8 +22,7 @@ use Rattle.b67_exec.proofs.Through.{refused_stops, syllable_at}
 -- ---- what was read
 
 pub whole_stays : (op : Op) → is_read_whole op ≡ true → is_leaving op ≡ false
-whole_stays (Plain code) is = absurd (let z : ⊥ = cc in z)
-whole_stays _ is = refl
+whole_stays op is = grind arith
 
 module _ (op : Op) (next : Place) (old new : Cpu) (desc : SegDesc) (code : HoldsCode old desc) (read : ForEach old (λ x plan s m t. GivesReading x plan m t (Some (Ok (op, next))))) (stays : is_leaving op ≡ false) where
   pub whole_made : (made : Bool) (why : Step) → MadeAway op next old made new why → MadeOrNot old made new why
@@ -35,33 +33,22 @@ module _ (op : Op) (next : Place) (old new : Cpu) (desc : SegDesc) (code : Holds
   whole_made false why m = (m.same, refused_stops old new desc op next why code (λ x plan s m2 t ordered h runs. (read x plan s m2 t ordered h runs).2) m)
 
 pub whole_away : (old new : Cpu) (made : Bool) (why : Step) → made ≡ true → MadeOrNot old made new why → FarMade old new
-whole_away old new true why is m = m
-whole_away old new false why is m = absurd (let z : ⊥ = cc in z)
+whole_away old new made why is m = grind arith
 
 pub whole_not : (old new : Cpu) (made : Bool) (why : Step) → made ≡ false → MadeOrNot old made new why → (new ≡ old) × StopsHere old why
-whole_not old new true why is m = absurd (let z : ⊥ = cc in z)
-whole_not old new false why is m = m
+whole_not old new made why is m = grind arith
 
 -- ---- where one is read so
 
 -- a branch may be
 pub whole_branch : (always wanted : Bool) (form : Option Form) → form ≡ Some (branch (branch_op always wanted)) → BeginsWhole form
-whole_branch true wanted form is = subst BeginsWhole (sym is) (λ high low. refl)
-whole_branch false true form is = subst BeginsWhole (sym is) (λ high low. refl)
-whole_branch false false form is = subst BeginsWhole (sym is) (λ high low. refl)
+whole_branch always wanted form is = grind arith
 
 ends_whole : (code : List ℕ) (end : ℕ) (op : Op) → is_read_whole op ≡ true → ReadsWhole (ends_at code end op)
-ends_whole code end op is = by (nat_le end (6 * length code)) refl where
-  by : (b : Bool) → nat_le end (6 * length code) ≡ b → ReadsWhole (ends_at code end op)
-  by true test = rw test is
-  by false test = rw test tt
+ends_whole code end op is = grind arith
 
 reads_whole : (code : List ℕ) (n : ℕ) (form : Option Form) → BeginsWhole form → ReadsWhole (reads code n form)
-reads_whole code n None is = tt
-reads_whole code n (Some (Alone op)) is = absurd is
-reads_whole code n (Some (OneMore op)) is = ends_whole code (n + 2) (op (syllable code (n + 1))) (is (syllable code (n + 1)))
-reads_whole code n (Some (TwoMore op)) is = ends_whole code (n + 3) (op (syllable code (n + 1)) (syllable code (n + 2))) (is (syllable code (n + 1)) (syllable code (n + 2)))
-reads_whole code n (Some (Literal op)) is = ends_whole code (6 * (n / 6 + 2)) (op (slice_index code (n / 6 + 1))) (is (slice_index code (n / 6 + 1)))
+reads_whole code n form is = grind arith
 
 at_whole : (code : List ℕ) (at : Place) (r : Reader) → at.syllable < 6 → ReaderAt r code (count_at at + 0) → BeginsWhole (form_of (r.bits / 2 ^ 56)) → ReadsWhole (operator_at code at)
 at_whole code at r in_word a is =

@@ -1,9 +1,9 @@
 -- A live array is an object of the view: its original and its numbers in core.
 use Rattle.std.proofs.Common.{◌≡◌, ℕ, zero, suc, ◌+◌, ◌<◌, ◌^◌, List, [], ◌∷◌, map, flat_map, length, Option, Some, None, refl, sym, ◌∙◌, ap, arith, Bool, true, false, not, subst}
-use Rattle.std.specs.Prelude.{slice_index, unwrap_or, if◌then◌else◌}
+use Rattle.std.specs.Prelude.{slice_index, if◌then◌else◌}
 use Rattle.std.specs.List.{slice_get}
 use Rattle.std.proofs.lemmas.Bool.{false≢true}
-use Rattle.std.proofs.lemmas.Option.{same_Some, slice_get_within}
+use Rattle.std.proofs.lemmas.Option.{slice_get_within}
 use Rattle.b67_word.specs.Tagged.{Tagged, word}
 use Rattle.b67_area.specs.declared.Kind.TheVariants as kind
 use Rattle.b67_area.proofs.Laws.{area_inside}
@@ -11,23 +11,20 @@ use Rattle.b67_ctl.specs.declared.descriptors.DataDesc.{DataDesc}
 use Rattle.b67_ctl.specs.Descriptors.{data_word, IsDataDesc}
 use Rattle.b67_lemmas.specs.Lists.{Has}
 use Rattle.b67_lemmas.proofs.Members.{keyed_falls, keyed_has}
-use Rattle.b67_model.specs.Common.{Row, array, element, no_array, Array, Task, SessionJob, number_of, Session}
-use Rattle.b67_model.specs.Keyed.{keyed}
+use Rattle.b67_model.specs.Common.{Row, array, element, Array, Task, SessionJob, number_of, Session}
 use Rattle.b67_layout.specs.Common.{IsInOrderButCounts, Placement, array_object, objects_of, IsRunning, RepresentsSession, area_held, IsWordOf}
 use Rattle.b67_stack.specs.declared.Cpu.{Cpu}
-use Rattle.b67_stack.specs.Common.{Location, LieUpward, PagedObject, is_present, address_or, home_desc, home_word, tag_of, Storage, Content, RepresentsObject, info_of}
+use Rattle.b67_stack.specs.Common.{Location, LieUpward, PagedObject, is_present, address_or, home_desc, home_word, tag_of, Storage, Content, RepresentsObject}
 use Rattle.b67_stack.proofs.Homes.{chain_small}
 use Rattle.b67_layout.proofs.Fresh.{running_in_order}
 use Rattle.b67_exec_cells.proofs.Replaced.{array_object-has}
 use Rattle.b67_exec_cells.specs.Elements.{HasElement, original_desc}
 
 home_by : (plan : Placement) (j : ℕ) (a : Array) (b : Bool) (h : Location) → a.writable ≡ b → home_word (array_object plan j a) h ≡ data_word (home_desc (not a.writable) (length a.numbers) h)
-home_by plan j a true h e = rw e refl
-home_by plan j a false h e = rw e refl
+home_by plan j a b h e = grind arith
 
 pub tag_by : (a : Array) (b : Bool) → a.writable ≡ b → tag_of (if a.writable then kind.Array else kind.Row) ≡ 0
-tag_by a true e = rw e refl
-tag_by a false e = rw e refl
+tag_by a b e = grind arith
 
 -- words that lie upward, by their places
 upward-get : (core : List Tagged) (tag : ℕ) (at : ℕ) (ns : List ℕ) (i : ℕ) → i < length ns → LieUpward core at (map (word tag) ns) → slice_get core (at + i) ≡ Some (word tag (slice_index ns i))
@@ -42,9 +39,7 @@ module _ (x : Storage) (cpu : Cpu) (plan : Placement) (s : Session) (m : Session
   pub array_is : array m.progress.job n ≡ e.item
   array_is =
       let o = (running_in_order plan s m t ordered runs).0 in
-      let found : keyed (λ (a : Array). a.identity) n m.progress.job.arrays ≡ Some e.item =
-      ap (λ (i : ℕ). keyed (λ (a : Array). a.identity) i m.progress.job.arrays) (sym e.named) ∙ keyed_falls (λ (a : Array). a.identity) m.progress.job.next_array m.progress.job.arrays e.item o.tasks.names e.live in
-      ap (λ (z : Option Array). unwrap_or z no_array) found
+      grind (arith, keyed_falls)
 
   abbrev object : PagedObject
   object = array_object plan m.constants.number e.item
@@ -76,9 +71,7 @@ module _ (x : Storage) (cpu : Cpu) (plan : Placement) (s : Session) (m : Session
   area-inside at a =
       let o = h.holds.memory.owned.of_held (plan.home m.constants.number n) at a in
       let same : o.0 ≡ object = h.holds.memory.slots.laid.differ o.0 object o.1 there (o.2 ∙ sym home-is) in
-      let i = (area_inside cpu.core x.low x.spans at (info_of x o.0) h.holds.memory.directory o.3).1 in
-      let k : length o.0.numbers ≡ length (array m.progress.job n).numbers = ap (λ (z : PagedObject). length z.numbers) same ∙ ap (λ (z : Array). length z.numbers) (sym array_is) in
-      omega (arith, i, k)
+      grind (arith, area_inside, array_is)
 
   chain-small : (x.held (plan.home m.constants.number n)).chain < 2 ^ 20
   chain-small = subst (λ i. (x.held i).chain < 2 ^ 20) home-is (chain_small x cpu.core object (x.held object.home).area (x.held object.home).chain stands.content)
@@ -87,23 +80,16 @@ module _ (x : Storage) (cpu : Cpu) (plan : Placement) (s : Session) (m : Session
   long = let l = (h.holds.memory.slots.laid.lengths object there).1 in let k : length e.item.numbers ≡ length (array m.progress.job n).numbers = ap (λ (z : Array). length z.numbers) (sym array_is) in omega (arith, l, k)
 
   address-small : (o : Option ℕ) (f : ℕ) → ((at : ℕ) → o ≡ Some at → at < 2 ^ 20) → f < 2 ^ 20 → address_or o f < 2 ^ 20
-  address-small None f a c = c
-  address-small (Some at) f a c = a at refl
+  address-small o f a c = grind arith
 
   pub desc-fits : IsDataDesc (original_desc x plan m n)
-  desc-fits = record {
-    words = omega (arith, long);
-    address = address-small (area_held x plan m.constants.number n) (x.held (plan.home m.constants.number n)).chain (λ at a. (let i = area-inside at a in omega (arith, i, bound))) chain-small;
-    indexed = λ z. absurd (false≢true z);
-  }
+  desc-fits = grind (arith, long, area-inside, chain-small)
 
   no_area : (o : Option ℕ) → is_present o ≡ false → o ≡ None
-  no_area None a = refl
-  no_area (Some at) a = cc
+  no_area o a = grind arith
 
   an_area : (o : Option ℕ) (f : ℕ) → is_present o ≡ true → o ≡ Some (address_or o f)
-  an_area None f a = cc
-  an_area (Some at) f a = refl
+  an_area o f a = grind arith
 
   pub absent : (d : DataDesc) → d ≡ original_desc x plan m n → d.present ≡ false → area_held x plan m.constants.number n ≡ None
   absent d is off = no_area (area_held x plan m.constants.number n) (ap (λ (z : DataDesc). z.present) (sym is) ∙ off)
@@ -123,10 +109,7 @@ module _ (x : Storage) (cpu : Cpu) (plan : Placement) (s : Session) (m : Session
       let C : Option ℕ → Type 0 = λ o. Content x cpu.core object o (x.held object.home).chain in
       let area : (x.held object.home).area ≡ Some d.address = ap (λ (i : ℕ). (x.held i).area) home-is ∙ present d is on in
       let up = (subst C area stands.content).0 in
-      let U : ℕ → Type 0 = λ g. LieUpward cpu.core d.address (map (word g) e.item.numbers) in
-      let up0 = subst U (tag_by e.item e.item.writable refl) up in
-      let read = upward-get cpu.core 0 d.address e.item.numbers index e.inside up0 in
-      same_Some w (word 0 (slice_index e.item.numbers index)) (sym got ∙ read) ∙ ap (λ (z : Array). word 0 (slice_index z.numbers index)) (sym array_is)
+      grind (arith, upward-get, array_is)
 
   -- a copy of the descriptor is a row copy
   pub present-copy : (d : DataDesc) (w : Tagged) (at : ℕ) → d ≡ original_desc x plan m n → d.present ≡ true → w ≡ data_word (record d { copy = true }) → IsWordOf x plan m t (Row n) at w

@@ -1,7 +1,7 @@
 -- The running segment is an object of the view: its descriptor and its words in core.
-use Rattle.std.proofs.Common.{◌≡◌, ℕ, zero, suc, ◌+◌, ◌-◌, ◌<◌, ◌^◌, List, [], ◌∷◌, map, flat_map, length, Option, Some, None, refl, sym, ◌∙◌, ap, arith, inl, inr, true, false, subst}
+use Rattle.std.proofs.Common.{◌≡◌, ℕ, zero, suc, ◌+◌, ◌-◌, ◌<◌, ◌^◌, List, [], ◌∷◌, map, flat_map, length, Option, Some, None, refl, sym, ◌∙◌, ap, arith, inr, true, false, subst}
 use Rattle.std.specs.List.{slice_get, slice_range}
-use Rattle.std.proofs.lemmas.Option.{same_Some, none-some, slice_get_within}
+use Rattle.std.proofs.lemmas.Option.{none-some, slice_get_within}
 use Rattle.std.proofs.lemmas.List.{length-map}
 use Rattle.b67_word.specs.Tagged.{Tagged, word, contents}
 use Rattle.b67_area.specs.declared.Kind.TheVariants as kind
@@ -14,7 +14,7 @@ use Rattle.b67_lemmas.proofs.Places.{get_within}
 use Rattle.b67_model.specs.Common.{Segment, Task, SessionJob, Reading, operator_at, code_of, reading_of, number_of, Session, SegmentInOrder}
 use Rattle.b67_layout.specs.Common.{IsInOrderButCounts, Placement, code_objects, objects_of, array_object, IsRunning, RepresentsSession}
 use Rattle.b67_stack.specs.declared.Cpu.{Cpu}
-use Rattle.b67_stack.specs.Common.{PagedObject, is_present, address_or, Storage, Content, RepresentsObject, info_of}
+use Rattle.b67_stack.specs.Common.{PagedObject, is_present, address_or, Storage, Content, RepresentsObject}
 use Rattle.b67_stack.proofs.Homes.{chain_small}
 use Rattle.b67_stack.proofs.Lies.{upward-range}
 use Rattle.b67_layout.proofs.Fresh.{running_in_order}
@@ -23,10 +23,7 @@ use Rattle.b67_exec_cells.specs.Running.{code_held, code_area, code_desc}
 
 pub code_object : (plan : Placement) (j n : ℕ) (ss : List Segment) (i at : ℕ) (g : Segment) → slice_get ss i ≡ Some g → at ≡ plan.dictionary j + 1 + (n + i) → Has (code_objects plan j n ss) (record { home = at; kind = kind.Code; numbers = g.code })
 code_object plan j n [] i at g e is = absurd (none-some g e)
-code_object plan j n (s ∷ ss) zero at g e is =
-    let T : Segment → PagedObject = λ z. record { home = plan.dictionary j + 1 + n; kind = kind.Code; numbers = z.code } in
-    let U : ℕ → PagedObject = λ z. record { home = z; kind = kind.Code; numbers = g.code } in
-    inl (ap T (same_Some s g e) ∙ ap U (sym (is ∙ (let z : plan.dictionary j + 1 + (n + 0) ≡ plan.dictionary j + 1 + n = omega arith in z))))
+code_object plan j n (s ∷ ss) zero at g e is = grind arith
 code_object plan j n (s ∷ ss) (suc i) at g e is = inr (code_object plan j (n + 1) ss i at g e (is ∙ (let z : plan.dictionary j + 1 + (n + suc i) ≡ plan.dictionary j + 1 + (n + 1 + i) = omega arith in z)))
 
 contents-words : (tag : ℕ) (ns : List ℕ) → contents (map (word tag) ns) ≡ ns
@@ -87,13 +84,10 @@ module _ (x : Storage) (cpu : Cpu) (plan : Placement) (s : Session) (m : Session
   area-inside at e =
       let o = h.holds.memory.owned.of_held (plan.dictionary m.constants.number + 1 + t.segment) at e in
       let same : o.0 ≡ object = h.holds.memory.slots.laid.differ o.0 object o.1 there o.2 in
-      let i = (area_inside cpu.core x.low x.spans at (info_of x o.0) h.holds.memory.directory o.3).1 in
-      let n : length o.0.numbers ≡ length (code_of m.constants t.segment) = ap (λ (z : PagedObject). length z.numbers) same ∙ ap length (sym code-is) in
-      omega (arith, i, n)
+      grind (arith, area_inside)
 
   address-small : (o : Option ℕ) (f : ℕ) → ((at : ℕ) → o ≡ Some at → at < 2 ^ 20) → f < 2 ^ 20 → address_or o f < 2 ^ 20
-  address-small None f a c = c
-  address-small (Some at) f a c = a at refl
+  address-small o f a c = grind arith
 
   pub desc-fits : IsSegDesc (code_desc x plan m t)
   desc-fits =
@@ -108,16 +102,13 @@ module _ (x : Storage) (cpu : Cpu) (plan : Placement) (s : Session) (m : Session
   code-read at words e is =
       let C : Option ℕ → Type 0 = λ o. Content x cpu.core object o (code_held x plan m t).chain in
       let up = (subst C e stands.content).0 in
-      let n : length (code_of m.constants t.segment) ≡ length (map (word 3) found.0.code) = ap length code-is ∙ sym (length-map found.0.code (word 3)) in
-      ap contents (is ∙ upward-range cpu.core at (length (code_of m.constants t.segment)) (map (word 3) found.0.code) n up) ∙ contents-words 3 found.0.code ∙ sym code-is
+      grind (arith, length-map, upward-range, contents-words)
 
   no_area : (o : Option ℕ) → is_present o ≡ false → o ≡ None
-  no_area None e = refl
-  no_area (Some at) e = cc
+  no_area o e = grind arith
 
   an_area : (o : Option ℕ) (f : ℕ) → is_present o ≡ true → o ≡ Some (address_or o f)
-  an_area None f e = cc
-  an_area (Some at) f e = refl
+  an_area o f e = grind arith
 
   pub absent : (d : SegDesc) → d ≡ code_desc x plan m t → d.present ≡ false → code_area x plan m t ≡ None
   absent d e off = no_area (code_area x plan m t) (ap (λ (z : SegDesc). z.present) (sym e) ∙ off)
@@ -140,7 +131,4 @@ module _ (x : Storage) (cpu : Cpu) (plan : Placement) (s : Session) (m : Session
 
   pub read-is : (d : SegDesc) (words : List Tagged) (r : Reading) → d ≡ code_desc x plan m t → d.present ≡ true → words ≡ slice_range cpu.core d.address (d.address + d.words) → r ≡ operator_at (contents words) cpu.regs.place
       → r ≡ reading_of m.constants t
-  read-is d words r e on is decoded =
-      let w : d.words ≡ length (code_of m.constants t.segment) = ap (λ (z : SegDesc). z.words) e in
-      let c = code-read d.address words (present d e on) (is ∙ ap (λ (n : ℕ). slice_range cpu.core d.address (d.address + n)) w) in
-      decoded ∙ ap (λ (ns : List ℕ). operator_at ns cpu.regs.place) c ∙ ap (operator_at (code_of m.constants t.segment)) (h.holds.running m t runs).place
+  read-is d words r e on is decoded = grind (arith, code-read)

@@ -1,9 +1,9 @@
 -- The words of a dictionary's entries: which are segments.
-use Rattle.std.proofs.Common.{◌≡◌, ℕ, zero, suc, ◌+◌, ◌-◌, ◌/◌, ◌%◌, ◌<◌, ◌≤◌, ◌^◌, List, [], ◌∷◌, map, reverse, length, Some, None, Err, refl, sym, ◌∙◌, ap, arith, Bool, true, false, ◌==◌, ◌&&◌, ◌⊎◌, ⊎_elim, inl, inr, subst}
+use Rattle.std.proofs.Common.{◌≡◌, ℕ, zero, suc, ◌+◌, ◌-◌, ◌/◌, ◌%◌, ◌<◌, ◌≤◌, ◌^◌, List, [], ◌∷◌, map, reverse, length, Some, None, Err, refl, ◌∙◌, ap, arith, Bool, true, false, ◌==◌, ◌&&◌, ◌⊎◌, ⊎_elim, inl, inr, subst}
 use Rattle.std.specs.Prelude.{nat_lt, nat_le}
 use Rattle.std.specs.List.{slice_get}
-use Rattle.std.proofs.lemmas.Option.{same_Some, slice_get_within}
-use Rattle.std.proofs.lemmas.Bool.{cases_lt, lt-ltb, le-ltb, eq-eqb, ne_eqb, eqb-true, and_parts, leb-false, leb-true, ltb-true}
+use Rattle.std.proofs.lemmas.Option.{slice_get_within}
+use Rattle.std.proofs.lemmas.Bool.{cases_lt, and_parts, leb-true, ltb-true}
 use Rattle.std.proofs.lemmas.List.{length-reverse}
 use Rattle.b67_word.specs.Common.{Tagged, word, bit}
 use Rattle.b67_word.specs.declared.couples.Place.{Place}
@@ -28,15 +28,13 @@ original_at n (s ∷ ss) (v ∷ ws) zero w d e low = absurd (omega (arith, low))
 original_at n (s ∷ ss) (v ∷ ws) (suc i) w d e low = original_at (n + 1) ss ws i w d.1 e (omega (arith, low)) ∙ ap (λ k. Original (1 + k)) (let z : i - length ss ≡ suc i - length (s ∷ ss) = omega arith in z)
 
 array_tag : (plan : Placement) (j : ℕ) (a : Array) (b : Bool) (h : Location) → a.writable ≡ b → (home_word (array_object plan j a) h).tag ≡ 5
-array_tag plan j a true h e = rw e refl
-array_tag plan j a false h e = rw e refl
+array_tag plan j a b h e = grind arith
 
 and_is : (a b c : Bool) → a ≡ true → b ≡ c → (a && b) ≡ c
 and_is a b c ea eb = rw ea eb
 
 and_none : (a b c : Bool) → (a && b) ≡ false → (b ≡ false → c ≡ false) → (a && c) ≡ false
-and_none true b c e f = f e
-and_none false b c e f = refl
+and_none a b c e f = grind arith
 
 module _ (x : Storage) (cpu : Cpu) (plan : Placement) (s : Session) (m : SessionJob) (t : Task) (ordered : IsInOrderButCounts s) (h : RepresentsSession x cpu plan s) (runs : IsRunning plan s.jobs m t) where
   has_m : Has s.jobs m
@@ -51,8 +49,7 @@ module _ (x : Storage) (cpu : Cpu) (plan : Placement) (s : Session) (m : Session
   pub few : length m.constants.segments ≤ length m.constants.dictionary.cells
   few =
       let o = (running_in_order plan s m t ordered runs).0.unchanging in
-      let l = words_enough 1 m.constants.segments (reverse m.constants.dictionary.cells) o.dictionary in
-      omega (arith, l, length-reverse m.constants.dictionary.cells)
+      grind (arith, words_enough, length-reverse)
 
   pub entry : (d : ℕ) → 2 ≤ d → d ≤ length m.constants.dictionary.cells + 1 → Entry d
   entry d low high = ⊎_elim
@@ -91,20 +88,10 @@ module _ (x : Storage) (cpu : Cpu) (plan : Placement) (s : Session) (m : Session
       let low = ltb-true 1 (bits % 2 ^ 14) three.1 in
       let high = leb-true (bits % 2 ^ 14) (cpu.regs.entries + 1) two.1 in
       let e = entry (bits % 2 ^ 14) (omega (arith, low)) (omega (arith, high, o.entries)) in
-      let at : plan.dictionary m.constants.number + bits % 2 ^ 14 ≡ cpu.regs.dict + bits % 2 ^ 14 = omega (arith, o.dict) in
-      let same : e.word ≡ v = same_Some e.word v (sym e.there ∙ ap (slice_get cpu.core) at ∙ there) in
-      ⊎_elim
-      (λ (l : (bits % 2 ^ 14 < length m.constants.segments + 2) × (e.word.tag ≡ 3)).
-      (eq-eqb v.tag 3 (ap (λ (w : Tagged). w.tag) (sym same) ∙ l.1) ∙ sym (and_is (nat_lt bits (2 ^ 36) && (bit 19 bits == 0) && nat_lt 1 (bits % 2 ^ 14)) (nat_lt (bits % 2 ^ 14) (length m.constants.segments + 2)) true two.0 (lt-ltb (bits % 2 ^ 14) (length m.constants.segments + 2) l.0))))
-      (λ (l : (length m.constants.segments + 2 ≤ bits % 2 ^ 14) × (e.word.tag ≡ 5)).
-      (ne_eqb v.tag 3 (λ z. (let k : v.tag ≡ 5 = ap (λ (w : Tagged). w.tag) (sym same) ∙ l.1 in omega (arith, k, z))) ∙ sym (and_is (nat_lt bits (2 ^ 36) && (bit 19 bits == 0) && nat_lt 1 (bits % 2 ^ 14)) (nat_lt (bits % 2 ^ 14) (length m.constants.segments + 2)) false two.0 (le-ltb (bits % 2 ^ 14) (length m.constants.segments + 2) l.0))))
-      e.is
+      grind arith
 
   pub unnamed : (bits : ℕ) (q : Place) → (nat_lt bits (2 ^ 36) && (bit 19 bits == 0) && nat_lt 1 (bits % 2 ^ 14) && nat_le (bits % 2 ^ 14) (cpu.regs.entries + 1)) ≡ false → false ≡ is_proc (here m t q) bits
-  unnamed bits q named =
-      let o = h.holds.running m t runs in
-      sym (and_none (nat_lt bits (2 ^ 36) && (bit 19 bits == 0) && nat_lt 1 (bits % 2 ^ 14)) (nat_le (bits % 2 ^ 14) (cpu.regs.entries + 1)) (nat_lt (bits % 2 ^ 14) (length m.constants.segments + 2)) named
-      (λ z. (let high = leb-false (bits % 2 ^ 14) (cpu.regs.entries + 1) z in le-ltb (bits % 2 ^ 14) (length m.constants.segments + 2) (omega (arith, high, few, o.entries)))))
+  unnamed bits q named = grind (arith, few)
 
   -- an entry that bits name lies in core
   pub entry-inside : (bits : ℕ) → (nat_lt bits (2 ^ 36) && (bit 19 bits == 0) && nat_lt 1 (bits % 2 ^ 14) && nat_le (bits % 2 ^ 14) (cpu.regs.entries + 1)) ≡ true
@@ -116,8 +103,7 @@ module _ (x : Storage) (cpu : Cpu) (plan : Placement) (s : Session) (m : Session
       let low = ltb-true 1 (bits % 2 ^ 14) three.1 in
       let high = leb-true (bits % 2 ^ 14) (cpu.regs.entries + 1) two.1 in
       let e = entry (bits % 2 ^ 14) (omega (arith, low)) (omega (arith, high, o.entries)) in
-      let i = slice_get_within cpu.core (plan.dictionary m.constants.number + bits % 2 ^ 14) e.word e.there in
-      (omega (arith, i, o.dict), h.holds.memory.directory.small)
+      grind (arith, slice_get_within)
 
 -- the word of a procedure is its bits
 procedure_word : (bits : ℕ) → bits < 2 ^ 36 → bit 19 bits ≡ 0 → 1 < bits % 2 ^ 14
@@ -125,12 +111,7 @@ procedure_word : (bits : ℕ) → bits < 2 ^ 36 → bit 19 bits ≡ 0 → 1 < bi
 procedure_word bits small clear low = ap (word 7) (omega arith)
 
 pub procedure_fits : (x : Storage) (plan : Placement) (m : SessionJob) (t : Task) (q : Place) (bits at : ℕ) → is_proc (here m t q) bits ≡ true → (bits < 2 ^ 36) × IsWordOf x plan m t (proc_of bits) at (word 7 bits)
-procedure_fits x plan m t q bits at is =
-    let two = and_parts (nat_lt bits (2 ^ 36) && (bit 19 bits == 0) && nat_lt 1 (bits % 2 ^ 14)) (nat_lt (bits % 2 ^ 14) (length m.constants.segments + 2)) is in
-    let three = and_parts (nat_lt bits (2 ^ 36) && (bit 19 bits == 0)) (nat_lt 1 (bits % 2 ^ 14)) two.0 in
-    let four = and_parts (nat_lt bits (2 ^ 36)) (bit 19 bits == 0) three.0 in
-    let small = ltb-true bits (2 ^ 36) four.0 in
-    (small, (procedure_word bits small (eqb-true (bit 19 bits) 0 four.1) (ltb-true 1 (bits % 2 ^ 14) three.1), λ z. omega (arith, z)))
+procedure_fits x plan m t q bits at is = grind arith
 
 pub procedure_row : (m : SessionJob) (t : Task) (q : Place) (bits : ℕ) → is_proc (here m t q) bits ≡ true → mpcw (here m t q) bits ≡ leaves_cells (here m t q) (proc_of bits ∷ cells t) None
 procedure_row m t q bits is = rw is refl

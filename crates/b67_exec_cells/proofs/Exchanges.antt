@@ -1,5 +1,5 @@
 -- The two top cells exchanged.
-use Rattle.std.proofs.Common.{◌≡◌, ◌≢◌, ℕ, ◌+◌, ◌-◌, ◌≤◌, List, [], ◌∷◌, length, map, Ok, Err, None, refl, sym, ◌∙◌, ap, arith, inl, inr, Bool, true, false, subst, slice_set, ⊎_elim, ◌⊎◌}
+use Rattle.std.proofs.Common.{◌≡◌, ◌≢◌, ℕ, ◌+◌, ◌-◌, ◌≤◌, List, [], ◌∷◌, length, map, Ok, Err, None, refl, sym, ◌∙◌, ap, arith, inl, inr, true, false, subst, slice_set, ⊎_elim, ◌⊎◌}
 use Rattle.std.proofs.lemmas.Bool.{cases_eq}
 use Rattle.b67_word.specs.Tagged.{Tagged}
 use Rattle.b67_word.specs.declared.couples.Place.{Place}
@@ -22,12 +22,10 @@ use Rattle.b67_exec_cells.proofs.Rows.{elsewhere, two_may_stand}
 use Rattle.b67_lemmas.proofs.Members.{keyed_has}
 
 cells-twice : (st : List Activation) (cs ds : List Shape) → stack_with_cells (stack_with_cells st cs) ds ≡ stack_with_cells st ds
-cells-twice [] cs ds = refl
-cells-twice (a ∷ below) cs ds = refl
+cells-twice st cs ds = grind arith
 
 cells-now : (st : List Activation) (cs : List Shape) → st ≢ [] → top_cells (stack_with_cells st cs) ≡ cs
-cells-now [] cs some = absurd (some refl)
-cells-now (a ∷ below) cs some = refl
+cells-now st cs some = grind arith
 
 -- two cells in the place of two
 module _ (x : Storage) (core : List Tagged) (r : Regs) (p : MachineView) (k : ℕ) (st : List Activation) (s : Represents x core r p) (u : RunsOn p k st) where
@@ -97,21 +95,4 @@ module _ (x : Storage) (old : Cpu) (plan : Placement) (s : Session) (m : Session
 -- an original among the two
 pub exchange_refused : (x : Storage) (old : Cpu) (plan : Placement) (m : SessionJob) (t : Task) (u v : Tagged) (q : Place) → GivesTwo x plan m t old (cells t) (Ok (u, v))
     → ((w : Word) (at : ℕ) → IsWordOf x plan m t w at u → is_original w ≡ true) ⊎ ((w : Word) (at : ℕ) → IsWordOf x plan m t w at v → is_original w ≡ true) → on_cells exch (here m t q) ≡ Err InvalidOperand
-exchange_refused x old plan m t u v q given own = by_cells (cells t) given where
-  second : (a b : Word) (rest : List Word) (o : Bool) → is_original a ≡ o → is_original b ≡ true → exch (b ∷ a ∷ rest) ≡ Err InvalidOperand
-  second a b rest true ea eb = rw ea refl
-  second a b rest false ea eb = rw ea (rw eb refl)
-
-  by_cells : (cs : List Word) → GivesTwo x plan m t old cs (Ok (u, v)) → (exch cs >>= λ ds. leaves_cells (here m t q) ds None) ≡ Err InvalidOperand
-  by_cells [] g = absurd (let z : ⊥ = cc in z)
-  by_cells (b ∷ []) g = absurd (let z : ⊥ = cc in z)
-  by_cells (b ∷ a ∷ rest) g =
-      let pair : ◌≡◌ {A = Tagged × Tagged} (g.0, g.1) (u, v) = (let d = g.2 in cc) in
-      let same_u : g.0 ≡ u = ap (λ (z : Tagged × Tagged). z.0) pair in
-      let same_v : g.1 ≡ v = ap (λ (z : Tagged × Tagged). z.1) pair in
-      let A : Tagged → Type 0 = λ w. IsWordOf x plan m t a (old.regs.s - 1) w in
-      let B : Tagged → Type 0 = λ w. IsWordOf x plan m t b old.regs.s w in
-      let G : Answer (List Word) → Answer Done = λ an. an >>= λ ds. leaves_cells (here m t q) ds None in
-      ⊎_elim
-      (λ (o : (w : Word) (at : ℕ) → IsWordOf x plan m t w at u → is_original w ≡ true). let ea : is_original a ≡ true = o a (old.regs.s - 1) (subst A same_u g.3.is) in rw ea refl)
-      (λ (o : (w : Word) (at : ℕ) → IsWordOf x plan m t w at v → is_original w ≡ true). ap G (second a b rest (is_original a) refl (o b old.regs.s (subst B same_v g.4.is)))) own
+exchange_refused x old plan m t u v q given own = grind arith

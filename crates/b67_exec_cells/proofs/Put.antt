@@ -1,9 +1,7 @@
 -- What `drop_cells` and `replace_cells` leave is what the rows on cells make.
-use Rattle.std.proofs.Common.{◌≡◌, ◌≢◌, ℕ, suc, ◌+◌, ◌-◌, ◌<◌, ◌≤◌, List, [], ◌∷◌, ◌++◌, map, length, Ok, Err, None, refl, sym, ◌∙◌, ap, arith, inl, inr, true, false, slice_set, subst, length-append, ◌⊎◌, ⊎_elim, Some}
+use Rattle.std.proofs.Common.{◌≡◌, ◌≢◌, ℕ, suc, ◌+◌, ◌-◌, ◌<◌, ◌≤◌, List, [], ◌∷◌, ◌++◌, map, length, Ok, Err, None, refl, sym, ◌∙◌, ap, arith, inl, inr, true, slice_set, subst, length-append, ◌⊎◌, ⊎_elim, Some}
 use Rattle.std.specs.Prelude.{Bool, nat_le}
 use Rattle.std.specs.List.{slice_get}
-use Rattle.std.proofs.lemmas.Bool.{cases_eq}
-use Rattle.std.proofs.lemmas.Option.{same_Some}
 use Rattle.std.proofs.lemmas.Bool.Decides.{nat_tests}
 use Rattle.std.proofs.lemmas.List.{map-append, length-map}
 use Rattle.b67_word.specs.Tagged.{Tagged}
@@ -17,7 +15,7 @@ use Rattle.b67_layout.specs.Common.{IsInOrderButCounts, Placement, spot_in, oute
 use Rattle.b67_stack.specs.declared.Cpu.{Cpu}
 use Rattle.b67_stack.specs.Common.{Shape, Fits, StackPlace, Activation, stack_words, top_mark, PagedObject, RunsOn, NoOriginalAboveTop, Storage, RepresentsRunning, Represents, with_stack, stack_with_cells, top_cells}
 use Rattle.b67_stack.proofs.Tops.{cells_above}
-use Rattle.b67_stack.proofs.Slots.{running_slot, running_fits}
+use Rattle.b67_stack.proofs.Slots.{running_slot}
 use Rattle.b67_stack.proofs.Pushes.{Room, room_of}
 use Rattle.b67_layout.proofs.Common.{height-is, runs_on, GoesOn, task_with, RepresentsSession-cells, fresh, running_in_order, no_objects_gone}
 use Rattle.b67_layout.proofs.Starts as Starts
@@ -26,8 +24,7 @@ use Rattle.b67_exec_cells.proofs.Replaced.{cells-are, height-with, shapes_plain,
 use Rattle.b67_lemmas.proofs.Members.{keyed_has}
 
 pub flag_low : (b : Bool) → flag_bit b ≤ 1
-flag_low true = omega arith
-flag_low false = omega arith
+flag_low b = grind arith
 
 module _ (x : Storage) (old : Cpu) (plan : Placement) (s : Session) (m : SessionJob) (t : Task) (ordered : IsInOrderButCounts s) (h : RepresentsSession x old plan s) (runs : IsRunning plan s.jobs m t) where
   -- the running stack, and the shapes of its top cells
@@ -57,19 +54,13 @@ module _ (x : Storage) (old : Cpu) (plan : Placement) (s : Session) (m : Session
 
   -- the words of a state's words, as the view has them
   pub seen : (w : Word) (at : ℕ) (v : Tagged) → IsWordOf x plan m t w at v → Fits x.held (shaped w) at v
-  seen w at v f =
-      let P : ℕ → Type 0 = λ k. Fits x.held (shape plan m.constants.number m.progress.job (spot_in k (outer_spots plan m.constants.number m.progress.job t.critical t.parents) t.frames) w) at v in
-      subst P (sym runs.slot) f
+  seen w at v f = grind arith
 
   pub shown : (w : Word) (at : ℕ) (v : Tagged) → Fits x.held (shaped w) at v → IsWordOf x plan m t w at v
-  shown w at v f =
-      let P : ℕ → Type 0 = λ k. Fits x.held (shape plan m.constants.number m.progress.job (spot_in k (outer_spots plan m.constants.number m.progress.job t.critical t.parents) t.frames) w) at v in
-      subst P runs.slot f
+  shown w at v f = grind arith
 
   pub tops : (gone rest : List Word) → cells t ≡ gone ++ rest → top_cells stack ≡ map shaped gone ++ map shaped rest
-  tops gone rest e =
-      cells-are plan m.constants.number m.progress.job plan.running (outer_spots plan m.constants.number m.progress.job t.critical t.parents) t.frames
-      ∙ ap (map shaped) e ∙ map-append shaped gone rest
+  tops gone rest e = grind (arith, cells-are, map-append)
 
   -- other cells on top, whatever the machine's words
   pub stands_cells : (new : Cpu) (q : Place) (cs : List Word) → new.display ≡ old.display → new.critical ≡ old.critical → GoesOn old.regs new.regs q
@@ -103,8 +94,7 @@ module _ (x : Storage) (old : Cpu) (plan : Placement) (s : Session) (m : Session
   Represents-dropped count q gone rest e n plain =
       let d = Represents-less x old.core old.regs (machine_view plan s.jobs) plan.running stack h.holds.memory runs_here (map shaped gone) (map shaped rest) q (tops gone rest e)
       (shapes_plain plan m.constants.number m.progress.job (spot_in plan.running (outer_spots plan m.constants.number m.progress.job t.critical t.parents) t.frames) gone plain) h.holds.settled in
-      let P : ℕ → Type 0 = λ i. Represents x old.core (record old.regs { s = old.regs.s - i; place = q }) (with_stack (machine_view plan s.jobs) plan.running (stack_with_cells stack (map shaped rest))) in
-      (subst P (length-map gone shaped ∙ n) d.0, d.1)
+      grind (arith, length-map)
 
   pub dropped_stands : (count : ℕ) (q : Place) (gone rest : List Word) → cells t ≡ gone ++ rest → length gone ≡ count → NoOriginals gone
       → RepresentsSession x (record old { regs = record old.regs { s = old.regs.s - count; place = q } }) plan (with_job s m (with_task m.progress.job (task_with t rest q)))
@@ -112,11 +102,7 @@ module _ (x : Storage) (old : Cpu) (plan : Placement) (s : Session) (m : Session
       stands_cells (record old { regs = record old.regs { s = old.regs.s - count; place = q } }) q rest refl refl (record { slot = refl; dict = refl; entries = refl; segment = refl; place = refl }) (λ i. inl refl) (Represents-dropped count q gone rest e n plain)
 
   pub dropped-fits : (gone rest : List Word) → cells t ≡ gone ++ rest → height (with_top_cells t.frames rest) ≤ m.constants.stack_size
-  dropped-fits gone rest e =
-      let f = (running_fits x old.core old.regs (machine_view plan s.jobs) plan.running stack h.holds.memory runs_here).0 in
-      let tall = height-with t.frames rest some_frame in
-      let longer = ap length e ∙ length-append gone rest in
-      omega (arith, tall, longer, height_of, f.fits, size-is)
+  dropped-fits gone rest e = grind (arith, runs_here, length-append, height_of, size-is)
 
   pub dropped : (count : ℕ) (q : Place) (gone rest : List Word) → cells t ≡ gone ++ rest → length gone ≡ count → NoOriginals gone
       → IsMade x plan s m old (record old { regs = record old.regs { s = old.regs.s - count; place = q } }) (leaves_cells (here m t q) rest None)
@@ -137,9 +123,7 @@ module _ (x : Storage) (old : Cpu) (plan : Placement) (s : Session) (m : Session
       (at ∙ ap (λ (k : ℕ). old.regs.s - k + 1) (sym count-is)) inside (shapes_plain plan m.constants.number m.progress.job spot gone plain) h.holds.settled (may_push plan s.jobs m spot w has_m may) (seen w i v fit)
 
   within : (count i : ℕ) (v : Tagged) → old.regs.f + count ≤ old.regs.s → i ≡ old.regs.s - count + 1 → i ≤ old.regs.losr → (k : ℕ) → (slice_get (slice_set old.core i v) k ≡ slice_get old.core k) ⊎ ((old.regs.bosr < k) × (k ≤ old.regs.losr))
-  within count i v enough at inside k =
-      let r = room in
-      ⊎_elim (λ (z : k ≡ i). inr (omega (arith, z, at, enough, r.mark), omega (arith, z, inside))) (λ (z : k ≡ i → ⊥). inl (slice_get-set_other old.core i k v z)) (cases_eq k i)
+  within count i v enough at inside k = grind (arith, room, slice_get-set_other)
 
   pub replaced_stands : (count i : ℕ) (v : Tagged) (q : Place) (gone rest : List Word) (w : Word) → cells t ≡ gone ++ rest → length gone ≡ count → old.regs.f + count ≤ old.regs.s → i ≡ old.regs.s - count + 1 → i ≤ old.regs.losr
       → NoOriginals gone → MayStand m.progress.job w → IsWordOf x plan m t w i v
@@ -162,23 +146,12 @@ module _ (x : Storage) (old : Cpu) (plan : Placement) (s : Session) (m : Session
   -- such a word fits where its place lies in the slot
   pub fitting : (count i : ℕ) (gone rest : List Word) (w : Word) → cells t ≡ gone ++ rest → length gone ≡ count → old.regs.f + count ≤ old.regs.s → i ≡ old.regs.s - count + 1 → i ≤ old.regs.losr
       → nat_le (height (with_top_cells t.frames (w ∷ rest))) m.constants.stack_size ≡ true
-  fitting count i gone rest w e n enough at inside =
-      let tall = height-with t.frames (w ∷ rest) some_frame in
-      let longer = ap length e ∙ length-append gone rest in
-      let g = registers in
-      let low : height (with_top_cells t.frames (w ∷ rest)) ≤ m.constants.stack_size = omega (arith, tall, longer, n, height_of, size-is, g.last, g.top, at, inside, enough) in
-      grind (arith, nat_tests)
+  fitting count i gone rest w e n enough at inside = grind (arith, length-append, registers, height_of, size-is)
 
   -- no room for it
   pub overflows : (count i : ℕ) (q : Place) (gone rest : List Word) (w : Word) → cells t ≡ gone ++ rest → length gone ≡ count → old.regs.f + count ≤ old.regs.s → i ≡ old.regs.s - count + 1 → old.regs.losr < i
       → leaves_cells (here m t q) (w ∷ rest) None ≡ Err StackOverflow
-  overflows count i q gone rest w e n enough at over =
-      let tall = height-with t.frames (w ∷ rest) some_frame in
-      let longer = ap length e ∙ length-append gone rest in
-      let g = registers in
-      let more : m.constants.stack_size < height (with_top_cells t.frames (w ∷ rest)) = omega (arith, tall, longer, n, height_of, size-is, g.last, g.top, at, over, enough) in
-      let test : nat_le (height (with_top_cells t.frames (w ∷ rest))) m.constants.stack_size ≡ false = grind (arith, nat_tests) in
-      rw test refl
+  overflows count i q gone rest w e n enough at over = grind (arith, some_frame, length-append, registers, height_of, size-is)
 
   -- the cells by S, F and the mark
   pub counted : (mark : Mscw) (n : ℕ) → mark ≡ top_mark old.regs.slot stack → n ≡ flag_bit mark.entered → old.regs.s ≡ old.regs.f + n + length (cells t)
@@ -192,18 +165,13 @@ module _ (x : Storage) (old : Cpu) (plan : Placement) (s : Session) (m : Session
   counted_near =
       let mark = top_mark old.regs.slot stack in
       let e = counted mark (flag_bit mark.entered) refl refl in
-      let low = flag_low mark.entered in
-      omega (arith, e, low)
+      grind (arith, flag_low)
 
   -- a word that is read is that of the cell there
   read_at : (above : List Word) (w : Word) (rest : List Word) (i : ℕ) (v : Tagged) → cells t ≡ above ++ w ∷ rest → old.regs.s - length above ≡ i → slice_get old.core i ≡ Some v → IsAt x plan m t old.core w i v
   read_at above w rest i v e at got =
       let d = word_under x old.core old.regs (machine_view plan s.jobs) plan.running stack h.holds.memory runs_here (map shaped above) (shaped w) (map shaped rest) (tops above (w ∷ rest) e) in
-      let here_at : old.regs.s - length (map shaped above) ≡ i = ap (λ (k : ℕ). old.regs.s - k) (length-map above shaped) ∙ at in
-      let same : d.0 ≡ v = same_Some d.0 v (sym d.1 ∙ ap (slice_get old.core) here_at ∙ got) in
-      let P : ℕ → Type 0 = λ k. Fits x.held (shaped w) k v in
-      let Q : Tagged → Type 0 = λ u. Fits x.held (shaped w) (old.regs.s - length (map shaped above)) u in
-      record { found = got; is = shown w i v (subst P here_at (subst Q same d.2)) }
+      grind (arith, length-map)
 
   pub top_given : (v : Tagged) → slice_get old.core old.regs.s ≡ Some v → 1 ≤ length (cells t) → GivesTop x plan m t old (cells t) (Ok v)
   top_given v got some = by_cells (cells t) refl some where
@@ -220,10 +188,7 @@ module _ (x : Storage) (old : Cpu) (plan : Placement) (s : Session) (m : Session
 
 -- too few cells
 pub none_given : (x : Storage) (cpu : Cpu) (plan : Placement) (m : SessionJob) (t : Task) (cs : List Word) → length cs < 1 → GivesTop x plan m t cpu cs (Err StackUnderflow)
-none_given x cpu plan m t [] n = refl
-none_given x cpu plan m t (a ∷ rest) n = absurd (omega (arith, n))
+none_given x cpu plan m t cs n = grind arith
 
 pub one_given : (x : Storage) (cpu : Cpu) (plan : Placement) (m : SessionJob) (t : Task) (cs : List Word) → length cs < 2 → GivesTwo x plan m t cpu cs (Err StackUnderflow)
-one_given x cpu plan m t [] n = refl
-one_given x cpu plan m t (b ∷ []) n = refl
-one_given x cpu plan m t (b ∷ a ∷ rest) n = absurd (omega (arith, n))
+one_given x cpu plan m t cs n = grind arith

@@ -1,5 +1,5 @@
 -- The top activation record of a task, with other cells: its stack, its height, and its words in core.
-use Rattle.std.proofs.Common.{◌≡◌, ◌≢◌, ℕ, ◌+◌, ◌-◌, ◌≤◌, List, [], ◌∷◌, ◌++◌, map, length, Some, refl, sym, ap, arith, inl, inr, Bool, true, false, slice_set, subst}
+use Rattle.std.proofs.Common.{◌≡◌, ◌≢◌, ℕ, ◌+◌, ◌-◌, ◌≤◌, List, [], ◌∷◌, ◌++◌, map, length, Some, refl, sym, ap, arith, inl, inr, Bool, false, slice_set, subst}
 use Rattle.std.specs.Prelude.{flat_map}
 use Rattle.std.specs.List.{slice_get}
 use Rattle.b67_word.specs.Tagged.{Tagged}
@@ -7,15 +7,14 @@ use Rattle.b67_word.specs.declared.couples.Place.{Place}
 use Rattle.b67_area.specs.declared.Kind.TheVariants.{Code}
 use Rattle.b67_ctl.specs.declared.registers.Regs.{Regs}
 use Rattle.b67_lemmas.specs.Lists.{Has}
-use Rattle.b67_model.specs.Words as Words
-use Rattle.b67_model.specs.Common.{Word, Operand, Name, Ref, Element, Original, Proc, Intrinsic, Frame, Job, SessionJob, top, with_top_cells, height, is_original}
+use Rattle.b67_model.specs.Common.{Word, Original, Frame, Job, SessionJob, top, with_top_cells, height, is_original}
 use Rattle.b67_model.specs.State as State
 use Rattle.b67_stack.specs.Shapes as Shapes
 use Rattle.b67_stack.specs.Common.{Shape, Fits, StackPlace, Activation, PagedObject, MachineView, NoOriginalAboveTop, RunsOn, IsArrayAt, Storage, Represents, with_stack, stack_with_cells, top_cells, MayPush}
 use Rattle.b67_stack.proofs.Cells.{cell_word, Represents-drop, Represents-cells, with_stack-twice}
 use Rattle.b67_stack.proofs.Pushes.{RunsOn-with}
 use Rattle.b67_stack.proofs.Slots.{running_fits}
-use Rattle.b67_layout.specs.Common.{Placement, spot_in, shape, activations, array_object, code_objects, objects_of}
+use Rattle.b67_layout.specs.Common.{Placement, spot_in, shape, activations, array_object, objects_of}
 use Rattle.b67_layout.proofs.Settles as Settles
 use Rattle.b67_layout.proofs.Settles.{Settled-drop, Settled-more}
 use Rattle.b67_exec_cells.specs.Tops.{IsLive, MayStand, NoOriginals}
@@ -23,25 +22,15 @@ use Rattle.b67_exec_cells.specs.Tops.{IsLive, MayStand, NoOriginals}
 -- the cells of the top frame are those of the top activation record
 pub cells-are : (plan : Placement) (j : ℕ) (job : Job) (k : ℕ) (outer : ℕ → StackPlace) (fs : List Frame)
     → top_cells (activations plan j job k outer fs) ≡ map (shape plan j job (spot_in k outer fs)) (top fs).cells
-cells-are plan j job k outer [] = refl
-cells-are plan j job k outer (f ∷ below) = refl
+cells-are plan j job k outer fs = grind arith
 
 -- how high the stack is with other cells
 pub height-with : (fs : List Frame) (cs : List Word) → fs ≢ [] → height (with_top_cells fs cs) + length (top fs).cells ≡ height fs + length cs
-height-with [] cs some = absurd (some refl)
-height-with (f ∷ below) cs some = omega arith
+height-with fs cs some = grind arith
 
 -- words without originals have shapes without
 original_shape : (plan : Placement) (j : ℕ) (job : Job) (spot : ℕ → StackPlace) (w : Word) (home : ℕ) → is_original w ≡ false → shape plan j job spot w ≡ Shapes.Original home → ⊥
-original_shape plan j job spot (Operand bits) home e s = cc
-original_shape plan j job spot (Name c) home e s = cc
-original_shape plan j job spot (Ref f o) home e s = cc
-original_shape plan j job spot (Words.Row a) home e s = cc
-original_shape plan j job spot (Element a i) home e s = cc
-original_shape plan j job spot (Original a) home e s = cc
-original_shape plan j job spot (Proc g l p) home e s = cc
-original_shape plan j job spot (Intrinsic n) home e s = cc
-original_shape plan j job spot (Words.Segment n) home e s = cc
+original_shape plan j job spot w home e s = grind arith
 
 pub shapes_plain : (plan : Placement) (j : ℕ) (job : Job) (spot : ℕ → StackPlace) (ws : List Word) → NoOriginals ws → Settles.NoOriginals (map (shape plan j job spot) ws)
 shapes_plain plan j job spot [] plain home h = h
@@ -69,28 +58,17 @@ member_objects plan (y ∷ more) m z (inl e) i = let P : SessionJob → Type 0 =
 member_objects plan (y ∷ more) m z (inr h) i = behind (objects_of plan y) (flat_map (objects_of plan) more) z (member_objects plan more m z h i)
 
 pub array_object-has : (plan : Placement) (jobs : List SessionJob) (m : SessionJob) (a : State.Array) → Has jobs m → Has m.progress.job.arrays a → Has (flat_map (objects_of plan) jobs) (array_object plan m.constants.number a)
-array_object-has plan jobs m a h i =
-    member_objects plan jobs m (array_object plan m.constants.number a) h
-    (behind (code_objects plan m.constants.number 1 m.constants.segments) (map (array_object plan m.constants.number) m.progress.job.arrays) (array_object plan m.constants.number a) (mapped plan m.constants.number m.progress.job.arrays a i))
+array_object-has plan jobs m a h i = grind (arith, member_objects, behind, mapped)
 
 not_code : (plan : Placement) (j i : ℕ) (o : ℕ) (b : Bool) (ns : List ℕ) → (array_object plan j (record { identity = i; owner = o; writable = b; numbers = ns })).kind ≢ Code
-not_code plan j i o true ns = λ e. cc
-not_code plan j i o false ns = λ e. cc
+not_code plan j i o b ns = grind arith
 
 live_home : (plan : Placement) (jobs : List SessionJob) (m : SessionJob) (n : ℕ) → Has jobs m → IsLive m.progress.job n → IsArrayAt (flat_map (objects_of plan) jobs) (plan.home m.constants.number n)
 live_home plan jobs m n h l =
     (array_object plan m.constants.number l.item, array_object-has plan jobs m l.item h l.live, ap (plan.home m.constants.number) l.named, not_code plan m.constants.number l.item.identity l.item.owner l.item.writable l.item.numbers)
 
 pub may_push : (plan : Placement) (jobs : List SessionJob) (m : SessionJob) (spot : ℕ → StackPlace) (w : Word) → Has jobs m → MayStand m.progress.job w → MayPush (flat_map (objects_of plan) jobs) (shape plan m.constants.number m.progress.job spot w)
-may_push plan jobs m spot (Operand bits) h may = tt
-may_push plan jobs m spot (Name c) h may = tt
-may_push plan jobs m spot (Ref f o) h may = tt
-may_push plan jobs m spot (Words.Row a) h may = live_home plan jobs m a h may
-may_push plan jobs m spot (Element a i) h may = live_home plan jobs m a h may
-may_push plan jobs m spot (Original a) h may = may
-may_push plan jobs m spot (Proc g l p) h may = tt
-may_push plan jobs m spot (Intrinsic n) h may = tt
-may_push plan jobs m spot (Words.Segment n) h may = tt
+may_push plan jobs m spot w h may = grind (arith, live_home)
 
 module _ (x : Storage) (core : List Tagged) (r : Regs) (p : MachineView) (k : ℕ) where
   -- cells less

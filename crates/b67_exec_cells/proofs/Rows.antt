@@ -1,13 +1,11 @@
 -- What rows make of the words that are read.
-use Rattle.std.proofs.Common.{◌≡◌, ◌≢◌, ℕ, ◌+◌, ◌-◌, ◌≤◌, length, map, List, [], ◌∷◌, ◌++◌, Result, Ok, Err, None, refl, sym, ◌∙◌, ap, arith, true, false, subst, ◌==◌}
-use Rattle.std.specs.List.{AllByRecursion}
+use Rattle.std.proofs.Common.{◌≡◌, ◌≢◌, ℕ, ◌+◌, ◌-◌, ◌≤◌, length, List, [], ◌∷◌, ◌++◌, Result, Ok, Err, None, refl, sym, ◌∙◌, ap, arith, true, false, subst, ◌==◌}
 use Rattle.std.proofs.lemmas.Bool.{eq-eqb, ne_eqb}
 use Rattle.b67_word.specs.Tagged.{Tagged, word}
 use Rattle.b67_word.specs.declared.couples.Place.{Place}
 use Rattle.b67_word.specs.declared.faults.Fault.{Fault}
 use Rattle.b67_word.specs.declared.faults.Fault.TheVariants.{StackUnderflow, InvalidOperand}
-use Rattle.b67_model.specs.Common.{Answer, ◌>>=◌, Word, Operand, Name, Ref, Row, Element, Original, Proc, Intrinsic, operand, Frame, Array, Task, Job, SessionJob, top, Starts, IsSegment, Known, known_of, outer_of, FramesInOrder, WordInOrder, Binary, Done, leaves_cells, is_original, Session, CellRow, on_one, on_two, on_cells, dlet, dupl}
-use Rattle.b67_model.specs.Words as Words
+use Rattle.b67_model.specs.Common.{Answer, ◌>>=◌, Word, Operand, operand, Frame, Array, Task, Job, SessionJob, top, Starts, IsSegment, Known, outer_of, FramesInOrder, WordInOrder, Binary, Done, leaves_cells, is_original, Session, CellRow, on_one, on_two, on_cells, dlet, dupl}
 use Rattle.b67_layout.specs.Common.{IsInOrderButCounts, Placement, IsRunning, here, IsMade, Meets, RunsSome, IsWordOf, cells, GivesTop}
 use Rattle.b67_arith.specs.OnWords.{operand_bits, on_word, on_words}
 use Rattle.b67_stack.specs.declared.Cpu.{Cpu}
@@ -16,20 +14,11 @@ use Rattle.b67_stack.specs.Represents.{Storage}
 use Rattle.b67_layout.proofs.Fresh.{running_in_order}
 use Rattle.b67_exec_cells.specs.Tops.{GivesTwo, MayStand, NoOriginals}
 use Rattle.b67_exec_cells.proofs.Put.{room}
-use Rattle.b67_layout.proofs.PlainOperands.{plain_operand}
 
 -- the bits of a word are those of the cell, if that is an operand
 module _ (x : Storage) (plan : Placement) (m : SessionJob) (t : Task) (at : ℕ) (v : Tagged) where
   pub operand_seen : (w : Word) → IsWordOf x plan m t w at v → operand_bits v ≡ operand w
-  operand_seen (Operand bits) f = ap operand_bits f.0
-  operand_seen (Name c) f = ap operand_bits f.0
-  operand_seen (Ref g o) f = ap operand_bits f.0
-  operand_seen (Row a) f = ap operand_bits f.is
-  operand_seen (Element a i) f = ap operand_bits f.is
-  operand_seen (Original a) f = ap operand_bits f.1.is
-  operand_seen (Proc g l p) f = ap operand_bits f.0
-  operand_seen (Intrinsic n) f = ap operand_bits f.0
-  operand_seen (Words.Segment n) f = ap operand_bits f.0
+  operand_seen w f = grind arith
 
 -- what an answer on words says of the row
 abbrev pub SaysOne : (ℕ → Answer ℕ) → Word → Result Tagged Fault → Type 0
@@ -41,19 +30,10 @@ SaysTwo f a b (Ok w) = (z : ℕ) × (w ≡ word 0 z) × (is_original a ≡ false
 SaysTwo f a b (Err fault) = (rest : List Word) → on_two f (b ∷ a ∷ rest) ≡ Err fault
 
 one_by : (f : ℕ → Answer ℕ) (a : Word) (oa : Answer ℕ) → operand a ≡ oa → SaysOne f a (oa >>= λ x. f x >>= λ z. Ok (word 0 z))
-one_by f a (Err fault) e = λ rest. rw e refl
-one_by f a (Ok x) e = by_answer (f x) refl where
-  by_answer : (r : Answer ℕ) → f x ≡ r → SaysOne f a (r >>= λ z. Ok (word 0 z))
-  by_answer (Err fault) q = λ rest. rw e (rw q refl)
-  by_answer (Ok z) q = (z, refl, plain_operand a x e, λ rest. rw e (rw q refl))
+one_by f a oa e = grind arith
 
 two_by : (f : Binary) (a b : Word) (oa ob : Answer ℕ) → operand a ≡ oa → operand b ≡ ob → SaysTwo f a b (oa >>= λ x. ob >>= λ y. f x y >>= λ z. Ok (word 0 z))
-two_by f a b (Err fault) ob ea eb = λ rest. rw ea refl
-two_by f a b (Ok x) (Err fault) ea eb = λ rest. rw ea (rw eb refl)
-two_by f a b (Ok x) (Ok y) ea eb = by_answer (f x y) refl where
-  by_answer : (r : Answer ℕ) → f x y ≡ r → SaysTwo f a b (r >>= λ z. Ok (word 0 z))
-  by_answer (Err fault) q = λ rest. rw ea (rw eb (rw q refl))
-  by_answer (Ok z) q = (z, refl, plain_operand a x ea, plain_operand b y eb, λ rest. rw ea (rw eb (rw q refl)))
+two_by f a b oa ob ea eb = grind arith
 
 pub says_one : (f : ℕ → Answer ℕ) (a : Word) (u : Tagged) (r : Result Tagged Fault) → operand_bits u ≡ operand a → r ≡ on_word f u → SaysOne f a r
 says_one f a u r e is = let P : Result Tagged Fault → Type 0 = λ q. SaysOne f a q in subst P (sym is) (one_by f a (operand_bits u) (sym e))
@@ -68,21 +48,10 @@ marked cpu q = let r = (room q.storage cpu q.plan q.session q.member q.task q.or
 -- the words of the top cells are in order
 in_order : (P : Starts) (arrays : List Array) (outer : List Known) (fs : List Frame) (a : Word) (rest : List Word) → FramesInOrder P arrays outer fs → (top fs).cells ≡ a ∷ rest
     → (reach : List Known) × (owner : ℕ) × WordInOrder P arrays reach owner a
-in_order P arrays outer [] a rest o e = absurd (let z : ⊥ = cc in z)
-in_order P arrays outer (f ∷ below) a rest o e =
-    let A : List Word → Type 0 = λ cs. AllByRecursion (WordInOrder P arrays (map known_of (f ∷ below) ++ outer) f.identity) cs in
-    (map known_of (f ∷ below) ++ outer, f.identity, (subst A e o.0.0).0)
+in_order P arrays outer fs a rest o e = grind arith
 
 may_stand : (P : Starts) (job : Job) (reach : List Known) (owner : ℕ) (w : Word) → WordInOrder P job.arrays reach owner w → is_original w ≡ false → MayStand job w
-may_stand P job reach owner (Operand bits) o n = tt
-may_stand P job reach owner (Name c) o n = tt
-may_stand P job reach owner (Ref g d) o n = tt
-may_stand P job reach owner (Row a) o n = record { item = o.item; live = o.live; named = o.named }
-may_stand P job reach owner (Element a i) o n = record { item = o.item; live = o.live; named = o.named }
-may_stand P job reach owner (Original a) o n = cc
-may_stand P job reach owner (Proc g l p) o n = tt
-may_stand P job reach owner (Intrinsic k) o n = tt
-may_stand P job reach owner (Words.Segment k) o n = tt
+may_stand P job reach owner w o n = grind arith
 
 -- the top cell may be put on the stack again
 pub top_may_stand : (plan : Placement) (s : Session) (m : SessionJob) (t : Task) → IsInOrderButCounts s → IsRunning plan s.jobs m t → (a : Word) (rest : List Word) → cells t ≡ a ∷ rest → is_original a ≡ false → MayStand m.progress.job a
@@ -93,10 +62,7 @@ top_may_stand plan s m t ordered runs a rest e n =
 -- so may the two top ones
 two_in_order : (P : Starts) (arrays : List Array) (outer : List Known) (fs : List Frame) (b a : Word) (rest : List Word) → FramesInOrder P arrays outer fs → (top fs).cells ≡ b ∷ a ∷ rest
     → (reach : List Known) × (owner : ℕ) × WordInOrder P arrays reach owner a
-two_in_order P arrays outer [] b a rest o e = absurd (let z : ⊥ = cc in z)
-two_in_order P arrays outer (f ∷ below) b a rest o e =
-    let A : List Word → Type 0 = λ cs. AllByRecursion (WordInOrder P arrays (map known_of (f ∷ below) ++ outer) f.identity) cs in
-    (map known_of (f ∷ below) ++ outer, f.identity, (subst A e o.0.0).1.0)
+two_in_order P arrays outer fs b a rest o e = grind arith
 
 pub two_may_stand : (plan : Placement) (s : Session) (m : SessionJob) (t : Task) → IsInOrderButCounts s → IsRunning plan s.jobs m t → (b a : Word) (rest : List Word) → cells t ≡ b ∷ a ∷ rest → is_original b ≡ false → is_original a ≡ false
     → MayStand m.progress.job a × MayStand m.progress.job b
@@ -113,15 +79,7 @@ an_operand x plan m t w at v f e = sym (operand_seen x plan m t at v w f) ∙ (l
 
 -- where a word stands matters for originals alone
 pub elsewhere : (x : Storage) (plan : Placement) (m : SessionJob) (t : Task) (w : Word) (at other : ℕ) (v : Tagged) → is_original w ≡ false → IsWordOf x plan m t w at v → IsWordOf x plan m t w other v
-elsewhere x plan m t (Operand bits) at other v n f = f
-elsewhere x plan m t (Name c) at other v n f = f
-elsewhere x plan m t (Ref g o) at other v n f = f
-elsewhere x plan m t (Row a) at other v n f = f
-elsewhere x plan m t (Element a i) at other v n f = f
-elsewhere x plan m t (Original a) at other v n f = cc
-elsewhere x plan m t (Proc g l p) at other v n f = f
-elsewhere x plan m t (Intrinsic k) at other v n f = f
-elsewhere x plan m t (Words.Segment k) at other v n f = f
+elsewhere x plan m t w at other v n f = grind arith
 
 module _ (x : Storage) (old : Cpu) (plan : Placement) (s : Session) (m : SessionJob) (t : Task) (q : Place) where
   -- what a row on cells goes on with
@@ -130,17 +88,10 @@ module _ (x : Storage) (old : Cpu) (plan : Placement) (s : Session) (m : Session
 
   -- too few cells
   pub top_missing : (f : CellRow) (fault : Fault) → f [] ≡ Err StackUnderflow → GivesTop x plan m t old (cells t) (Err fault) → on_cells f (here m t q) ≡ Err fault
-  top_missing f fault none given = by_cells (cells t) given where
-    by_cells : (cs : List Word) → GivesTop x plan m t old cs (Err fault) → (f cs >>= λ ds. leaves_cells (here m t q) ds None) ≡ Err fault
-    by_cells [] g = let e : fault ≡ StackUnderflow = cc in rw (none, e) refl
-    by_cells (a ∷ rest) g = absurd (let z : ⊥ = (let e = g.1 in cc) in z)
+  top_missing f fault none given = grind arith
 
   pub two_missing : (f : CellRow) (fault : Fault) → f [] ≡ Err StackUnderflow → ((b : Word) → f (b ∷ []) ≡ Err StackUnderflow) → GivesTwo x plan m t old (cells t) (Err fault) → on_cells f (here m t q) ≡ Err fault
-  two_missing f fault none one given = by_cells (cells t) given where
-    by_cells : (cs : List Word) → GivesTwo x plan m t old cs (Err fault) → (f cs >>= λ ds. leaves_cells (here m t q) ds None) ≡ Err fault
-    by_cells [] g = let e : fault ≡ StackUnderflow = cc in rw (none, e) refl
-    by_cells (b ∷ []) g = let e : fault ≡ StackUnderflow = cc in rw (one b, e) refl
-    by_cells (b ∷ a ∷ rest) g = absurd (let z : ⊥ = (let e = g.2 in cc) in z)
+  two_missing f fault none one given = grind arith
 
   -- what `replace_cells` says of a word
   abbrev pub Replaces : ℕ → Tagged → Step → Cpu → Type 0
@@ -177,36 +128,15 @@ module _ (x : Storage) (old : Cpu) (plan : Placement) (s : Session) (m : Session
           met (on_two f (b ∷ a ∷ rest)) (Ok (Operand says.0 ∷ rest)) (says.4 rest) (replaces (b ∷ a ∷ []) rest (Operand says.0) e refl (says.3, (says.2, tt)) tt (says.1, λ z. omega (arith, z)))
 
   pub one_refused : (f : ℕ → Answer ℕ) (u : Tagged) (fault : Fault) → GivesTop x plan m t old (cells t) (Ok u) → Err fault ≡ on_word f u → on_cells (on_one f) (here m t q) ≡ Err fault
-  one_refused f u fault given is = by_cells (cells t) given where
-    by_cells : (cs : List Word) → GivesTop x plan m t old cs (Ok u) → (on_one f cs >>= λ ds. leaves_cells (here m t q) ds None) ≡ Err fault
-    by_cells [] g = absurd (let z : ⊥ = cc in z)
-    by_cells (a ∷ rest) g =
-        let same : u ≡ g.0 = (let d = g.1 in cc) in
-        let says = says_one f a g.0 (Err fault) (operand_seen x plan m t old.regs.s g.0 a g.2.is) (is ∙ ap (on_word f) same) in
-        ap (λ (an : Answer (List Word)). an >>= λ ds. leaves_cells (here m t q) ds None) (says rest)
+  one_refused f u fault given is = grind arith
 
   pub two_refused : (f : Binary) (u v : Tagged) (fault : Fault) → GivesTwo x plan m t old (cells t) (Ok (u, v)) → Err fault ≡ on_words f u v → on_cells (on_two f) (here m t q) ≡ Err fault
-  two_refused f u v fault given is = by_cells (cells t) given where
-    by_cells : (cs : List Word) → GivesTwo x plan m t old cs (Ok (u, v)) → (on_two f cs >>= λ ds. leaves_cells (here m t q) ds None) ≡ Err fault
-    by_cells [] g = absurd (let z : ⊥ = cc in z)
-    by_cells (b ∷ []) g = absurd (let z : ⊥ = cc in z)
-    by_cells (b ∷ a ∷ rest) g =
-        let pair : ◌≡◌ {A = Tagged × Tagged} (u, v) (g.0, g.1) = (let d = g.2 in cc) in
-        let same_u : u ≡ g.0 = ap (λ (z : Tagged × Tagged). z.0) pair in
-        let same_v : v ≡ g.1 = ap (λ (z : Tagged × Tagged). z.1) pair in
-        let says = says_two f a b g.0 g.1 (Err fault) (operand_seen x plan m t (old.regs.s - 1) g.0 a g.3.is) (operand_seen x plan m t old.regs.s g.1 b g.4.is) (is ∙ ap (λ (z : Tagged). on_words f z v) same_u ∙ ap (on_words f g.0) same_v) in
-        ap (λ (an : Answer (List Word)). an >>= λ ds. leaves_cells (here m t q) ds None) (says rest)
+  two_refused f u v fault given is = grind arith
 
   -- an original on top
   pub original_refused : (f : CellRow) (u : Tagged) → ((a : Word) (rest : List Word) → is_original a ≡ true → f (a ∷ rest) ≡ Err InvalidOperand) → GivesTop x plan m t old (cells t) (Ok u)
       → ((w : Word) → IsWordOf x plan m t w old.regs.s u → is_original w ≡ true) → on_cells f (here m t q) ≡ Err InvalidOperand
-  original_refused f u refuses given own = by_cells (cells t) given where
-    by_cells : (cs : List Word) → GivesTop x plan m t old cs (Ok u) → (f cs >>= λ ds. leaves_cells (here m t q) ds None) ≡ Err InvalidOperand
-    by_cells [] g = absurd (let z : ⊥ = cc in z)
-    by_cells (a ∷ rest) g =
-        let same : g.0 ≡ u = (let d = g.1 in cc) in
-        let P : Tagged → Type 0 = λ v. IsWordOf x plan m t a old.regs.s v in
-        ap (λ (an : Answer (List Word)). an >>= λ ds. leaves_cells (here m t q) ds None) (refuses a rest (own a (subst P same g.2.is)))
+  original_refused f u refuses given own = grind arith
 
   pub dropped_top : (new : Cpu) (u : Tagged) → GivesTop x plan m t old (cells t) (Ok u) → ((w : Word) → IsWordOf x plan m t w old.regs.s u → is_original w ≡ false) → Drops 1 new
       → IsMade x plan s m old new (on_cells dlet (here m t q))

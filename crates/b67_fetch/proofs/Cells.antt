@@ -2,11 +2,11 @@
 use Rattle.std.proofs.Common.{◌≡◌, ℕ, ◌+◌, ◌-◌, ◌<◌, ◌≤◌, List, [], ◌∷◌, ◌++◌, length, None, Ok, refl, sym, ◌∙◌, ap, arith, Bool, true, false, ◌==◌, ⊎_elim, inl, inr, ◌⊎◌, subst, slice_set}
 use Rattle.std.specs.Prelude.{if◌then◌else◌}
 use Rattle.std.specs.List.{slice_get}
-use Rattle.std.proofs.lemmas.Bool.{cases_Bool, cases_eq}
+use Rattle.std.proofs.lemmas.Bool.{cases_eq}
 use Rattle.b67_core.proofs.Writes.{slice_get-set_other}
 use Rattle.b67_word.specs.Tagged.{word}
 use Rattle.b67_word.specs.declared.couples.Place.{Place}
-use Rattle.b67_model.specs.Common.{Word, Operand, Frame, Standing, Marked, Entered, Task, Job, SessionJob, top, with_top_cells, with_task, head_words, with_cell, is_original, Session, Goes, with_cells, IsEntered}
+use Rattle.b67_model.specs.Common.{Word, Operand, Frame, Standing, Task, Job, SessionJob, top, with_top_cells, with_task, head_words, with_cell, is_original, Session, Goes, with_cells, IsEntered}
 use Rattle.b67_layout.specs.Common.{IsInOrderButCounts, Placement, IsRunning, RepresentsSession, RepresentsSessionBut, here, with_job, IsMade, IsLiveCell, cells}
 use Rattle.b67_stack.specs.declared.Cpu.{Cpu}
 use Rattle.b67_stack.specs.MachineView.{PagedObject}
@@ -27,8 +27,7 @@ use Rattle.b67_lemmas.proofs.Members.{has_map_back, keyed_has}
 use Rattle.b67_lemmas.proofs.Keyed.{change_map}
 
 entered_head : (standing : Standing) → IsEntered standing → head_words standing ≡ 2
-entered_head Marked e = absurd e
-entered_head (Entered level environment back) e = refl
+entered_head standing e = grind arith
 
 -- the top frame's cells, where the word may be stored in one of them
 abbrev stored : Bool → ℕ → Word → List Word → List Word
@@ -38,22 +37,13 @@ abbrev is_top : ℕ → List Frame → Bool
 is_top id fs = (top fs).identity == id
 
 put_with : (id i : ℕ) (w : Word) (fs : List Frame) (cs : List Word) → put_frames id i w (with_top_cells fs cs) ≡ with_top_cells (put_frames id i w fs) (stored (is_top id fs) i w cs)
-put_with id i w [] cs = refl
-put_with id i w (f ∷ below) cs = ⊎_elim
-    (λ (t : (f.identity == id) ≡ true). rw t refl)
-    (λ (t : (f.identity == id) ≡ false). rw t refl)
-    (cases_Bool (f.identity == id))
+put_with id h e fs cs = grind arith
 
 put_nothing : (b : Bool) (i : ℕ) (w : Word) → [] ≡ stored b i w []
-put_nothing true i w = refl
-put_nothing false i w = refl
+put_nothing b h e = grind arith
 
 put_top : (id i : ℕ) (w : Word) (fs : List Frame) → (top (put_frames id i w fs)).cells ≡ stored (is_top id fs) i w (top fs).cells
-put_top id i w [] = put_nothing (0 == id) i w
-put_top id i w (f ∷ below) = ⊎_elim
-    (λ (t : (f.identity == id) ≡ true). rw t refl)
-    (λ (t : (f.identity == id) ≡ false). rw t refl)
-    (cases_Bool (f.identity == id))
+put_top id h e fs = grind arith
 
 -- two cells on top, of which none is an original
 record Two (b : Bool) (i : ℕ) (w x y : Word) (rest : List Word) : Type 0 where
@@ -63,8 +53,7 @@ record Two (b : Bool) (i : ℕ) (w x y : Word) (rest : List Word) : Type 0 where
   pub plain : NoOriginals (first ∷ second ∷ [])
 
 choice_plain : (b : Bool) (v x : Word) → is_original v ≡ false → is_original x ≡ false → is_original (if b then v else x) ≡ false
-choice_plain true v x ev ex = ev
-choice_plain false v x ev ex = ex
+choice_plain b v x ev ex = grind arith
 
 two : (b : Bool) (i bits : ℕ) (x y : Word) (rest : List Word) → NoOriginals (x ∷ y ∷ []) → Two b i (Operand bits) x y rest
 two true i bits x y rest plain = record {
@@ -76,12 +65,10 @@ two true i bits x y rest plain = record {
 two false i bits x y rest plain = record { first = x; second = y; is = refl; plain = plain }
 
 same_choice : (b : Bool) (w : Word) → (if b then w else w) ≡ w
-same_choice true w = refl
-same_choice false w = refl
+same_choice b h = grind arith
 
 kept_value : (b : Bool) (i : ℕ) (w : Word) (rest : List Word) → stored b i w (w ∷ rest) ≡ w ∷ stored b i w rest
-kept_value true i w rest = ap (λ v. v ∷ put i w rest) (same_choice (i == length rest) w)
-kept_value false i w rest = refl
+kept_value b h e rest = grind arith
 
 module _ (x : Storage) (old : Cpu) (plan : Placement) (s : Session) (m : SessionJob) (t : Task) (o : IsInOrderButCounts s) (h : RepresentsSession x old plan s) (runs : IsRunning plan s.jobs m t) (q : Place)
     (at f offset old_bits bits : ℕ) (cell : IsCellAt (Scenes.scene [] x old.core old.regs old.critical plan s m t o h.holds runs) q at f offset (Operand old_bits)) where

@@ -1,5 +1,5 @@
 -- The word that is followed among the two top ones, where it leads to a procedure.
-use Rattle.std.proofs.Common.{◌≡◌, ◌≢◌, ℕ, ◌-◌, List, [], ◌∷◌, Some, Result, Ok, sym, ◌∙◌, ap, inl, inr, subst}
+use Rattle.std.proofs.Common.{◌≡◌, ◌≢◌, ℕ, ◌-◌, List, [], ◌∷◌, Some, Result, Ok, ◌∙◌, arith}
 use Rattle.std.specs.List.{slice_get}
 use Rattle.b67_word.specs.Tagged.{Tagged}
 use Rattle.b67_word.specs.declared.couples.Place.{Place}
@@ -21,13 +21,8 @@ Leads cpu w found = (a : RunningContext cpu.core cpu.regs) (q : Place) → IsSho
 
 -- the two words that were read
 pub two_words : (x : Storage) (plan : Placement) (m : SessionJob) (t : Task) (cpu : Cpu) (ws : List Word) (two : Tagged × Tagged) → GivesTwo x plan m t cpu ws (Ok two) → (slice_get cpu.core (cpu.regs.s - 1) ≡ Some two.0) × (slice_get cpu.core cpu.regs.s ≡ Some two.1)
-two_words x plan m t cpu [] two g = absurd (let z : ⊥ = cc in z)
-two_words x plan m t cpu (b ∷ []) two g = absurd (let z : ⊥ = cc in z)
-two_words x plan m t cpu (b ∷ a ∷ rest) two (u, v, is, ia, ib) =
-    let pair : two ≡ (u, v) = cc in
-    (ia.found ∙ ap (λ (k : Tagged × Tagged). Some k.0) (sym pair), ib.found ∙ ap (λ (k : Tagged × Tagged). Some k.1) (sym pair))
+two_words x plan m t cpu ws two g = grind arith
 
 -- the lower one is followed under an operand, else the upper one
 pub chosen_leads : (two p : Tagged × Tagged) → Choice two p → (u v : Tagged) → two.0 ≡ u → two.1 ≡ v → (P : Tagged → Type 0) → P p.0 → (v.tag ≡ 0 → P u) × (v.tag ≢ 0 → P v)
-chosen_leads two p (inl (z, e)) u v eu ev P leads = (λ zero. subst P (ap (λ (k : Tagged × Tagged). k.0) e ∙ eu) leads, λ other. absurd (other (ap (λ (w : Tagged). w.tag) (sym ev) ∙ z)))
-chosen_leads two p (inr (n, e)) u v eu ev P leads = (λ zero. absurd (n (ap (λ (w : Tagged). w.tag) ev ∙ zero)), λ other. subst P (ap (λ (k : Tagged × Tagged). k.0) e ∙ ev) leads)
+chosen_leads two p h u v eu ev P leads = grind arith

@@ -42,12 +42,4 @@ module _ (x : Storage) (cpu : Cpu) (plan : Placement) (s : Session) (m : Session
   }
 
   pub absent-item : (d : DataDesc) (w : Tagged) (at : ℕ) → d ≡ original_desc x plan m n → d.present ≡ false → w ≡ data_word (item_desc d d.present index (plan.home m.constants.number n)) → IsWordOf x plan m t (Element n index) at w
-  absent-item d w at is off made = record {
-    number = index;
-    numbered = refl;
-    present = false;
-    address = plan.home m.constants.number n;
-    fits = record { words = small; address = low; indexed = λ z. refl };
-    is = made ∙ ap (λ (b : Bool). data_word (item_desc d b index (plan.home m.constants.number n))) off ∙ ap (λ (z : DataDesc). data_word (item_desc z false index (plan.home m.constants.number n))) is;
-    to = refl;
-  }
+  absent-item d w at is off made = grind (arith, small, low)

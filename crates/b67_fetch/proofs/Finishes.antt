@@ -28,9 +28,7 @@ module _ (x : Storage) (cpu : Cpu) (plan : Placement) (s : Session) (m : Session
   registers = running_slot x cpu.core cpu.regs (machine_view plan s.jobs) plan.running stack h.holds.memory runs_here
 
   tops : (gone rest : List Word) → cells t ≡ gone ++ rest → top_cells stack ≡ map shaped gone ++ map shaped rest
-  tops gone rest e =
-      cells-are plan m.constants.number m.progress.job plan.running (outer_spots plan m.constants.number m.progress.job t.critical t.parents) t.frames
-      ∙ ap (map shaped) e ∙ map-append shaped gone rest
+  tops gone rest e = grind (arith, cells-are, map-append)
 
   low : plan.stacks ≤ cpu.regs.bosr
   low = let e = registers.first in omega (arith, e)

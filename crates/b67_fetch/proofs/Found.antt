@@ -1,5 +1,5 @@
 -- The array that a word leads to.
-use Rattle.std.proofs.Common.{◌≡◌, ◌≢◌, ℕ, List, Ok, Err, refl, sym, ◌∙◌, ap, true, false, subst}
+use Rattle.std.proofs.Common.{◌≡◌, ◌≢◌, ℕ, List, Ok, Err, refl, sym, ◌∙◌, ap, true, false, subst, arith}
 use Rattle.std.proofs.lemmas.Bool.{true≢false, false≢true}
 use Rattle.b67_word.specs.Tagged.{Tagged}
 use Rattle.b67_word.specs.declared.couples.Place.{Place}
@@ -7,7 +7,7 @@ use Rattle.b67_word.specs.declared.faults.Fault.{Fault}
 use Rattle.b67_word.specs.declared.faults.Fault.TheVariants.{InvalidOperand}
 use Rattle.b67_ctl.specs.declared.descriptors.DataDesc.{DataDesc}
 use Rattle.b67_ctl.specs.Descriptors.{data_word, IsDataDesc}
-use Rattle.b67_model.specs.Common.{Answer, ◌>>=◌, Word, Operand, Name, Ref, Row, Element, Original, Proc, Intrinsic, Task, SessionJob, AtCell, AtElement, AtArray, AtProc, AtIntrinsic, follow, array_of, array_at, Session}
+use Rattle.b67_model.specs.Common.{Answer, ◌>>=◌, Word, Operand, Name, Ref, Row, Element, Original, Proc, Intrinsic, Task, SessionJob, follow, array_of, array_at, Session}
 use Rattle.b67_model.specs.Words as Words
 use Rattle.b67_model.specs.Chase as Chase
 use Rattle.b67_layout.specs.Common.{IsInOrderButCounts, Placement, IsRunning, RepresentsSession, here}
@@ -38,40 +38,10 @@ module _ (x : Storage) (plan : Placement) (m : SessionJob) (t : Task) (q : Place
 
   -- by the end of the reference
   at_end : (core : List Tagged) (found : End) (e : Answer Chase.End) → FindsEnd plan m core (Ok found) e → FindsArray plan m (array_in found) (e >>= array_at)
-  at_end core (end.Cell at) (Ok (AtCell f offset bits)) i = refl
-  at_end core (end.Cell at) (Ok (AtElement n j)) i = absurd i
-  at_end core (end.Cell at) (Ok (AtArray n)) i = absurd i
-  at_end core (end.Cell at) (Ok (AtProc f segment level place)) i = absurd i
-  at_end core (end.Cell at) (Ok (AtIntrinsic c)) i = absurd i
-  at_end core (end.Element o k) (Ok (AtCell f offset bits)) i = absurd i
-  at_end core (end.Element o k) (Ok (AtElement n j)) i = refl
-  at_end core (end.Element o k) (Ok (AtArray n)) i = absurd i
-  at_end core (end.Element o k) (Ok (AtProc f segment level place)) i = absurd i
-  at_end core (end.Element o k) (Ok (AtIntrinsic c)) i = absurd i
-  at_end core (end.Array o) (Ok (AtCell f offset bits)) i = absurd i
-  at_end core (end.Array o) (Ok (AtElement n j)) i = absurd i
-  at_end core (end.Array o) (Ok (AtArray n)) i = i
-  at_end core (end.Array o) (Ok (AtProc f segment level place)) i = absurd i
-  at_end core (end.Array o) (Ok (AtIntrinsic c)) i = absurd i
-  at_end core (end.Proc at) (Ok (AtCell f offset bits)) i = absurd i
-  at_end core (end.Proc at) (Ok (AtElement n j)) i = absurd i
-  at_end core (end.Proc at) (Ok (AtArray n)) i = absurd i
-  at_end core (end.Proc at) (Ok (AtProc f segment level place)) i = refl
-  at_end core (end.Proc at) (Ok (AtIntrinsic c)) i = absurd i
-  at_end core (end.Intrinsic b) (Ok (AtCell f offset bits)) i = absurd i
-  at_end core (end.Intrinsic b) (Ok (AtElement n j)) i = absurd i
-  at_end core (end.Intrinsic b) (Ok (AtArray n)) i = absurd i
-  at_end core (end.Intrinsic b) (Ok (AtProc f segment level place)) i = absurd i
-  at_end core (end.Intrinsic b) (Ok (AtIntrinsic c)) i = refl
-  at_end core (end.Cell at) (Err g) i = absurd i
-  at_end core (end.Element o k) (Err g) i = absurd i
-  at_end core (end.Array o) (Err g) i = absurd i
-  at_end core (end.Proc at) (Err g) i = absurd i
-  at_end core (end.Intrinsic b) (Err g) i = absurd i
+  at_end core found e i = grind arith
 
   refused : (core : List Tagged) (fault : Fault) (e : Answer Chase.End) → FindsEnd plan m core (Err fault) e → FindsArray plan m (Err fault) (e >>= array_at)
-  refused core fault (Err g) i = i
-  refused core fault (Ok end) i = absurd i
+  refused core fault e i = grind arith
 
   pub found_end : (core : List Tagged) (w : Tagged) (v : Word) (found : End) → IsFollowed x plan m t w v → w.tag ≢ 5 → FindsEnd plan m core (Ok found) (follow (here m t q) v) → FindsArray plan m (array_in found) (array_of (here m t q) v)
   found_end core w v found i ne e = subst (FindsArray plan m (array_in found)) (sym (not_row w v i ne)) (at_end core found (follow (here m t q) v) e)
@@ -105,6 +75,4 @@ module _ (x : Storage) (cpu : Cpu) (plan : Placement) (s : Session) (m : Session
 
   -- no row copy
   pub no_row : (q : Place) (d : DataDesc) → Desc d → (d.copy ≡ true → d.indexed ≡ false → ⊥) → FindsArray plan m (Err InvalidOperand) (array_of (here m t q) v)
-  no_row q d (own b e c k o) none = let P : Word → Type 0 = λ u. FindsArray plan m (Err InvalidOperand) (array_of (here m t q) u) in subst P (sym e) refl
-  no_row q d (row b e c j k o) none = absurd (none c j)
-  no_row q d (item b n e c j k l o) none = let P : Word → Type 0 = λ u. FindsArray plan m (Err InvalidOperand) (array_of (here m t q) u) in subst P (sym e) refl
+  no_row q d h none = grind arith

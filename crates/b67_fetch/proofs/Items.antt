@@ -1,15 +1,14 @@
 -- The element that two words give.
-use Rattle.std.proofs.Common.{◌≡◌, ◌≢◌, ℕ, ◌-◌, ◌<◌, ℤ, pos, negsuc, List, [], ◌∷◌, ◌++◌, map, length, Result, Ok, Err, refl, sym, ◌∙◌, ap, arith, Bool, true, false, subst, inl, inr}
-use Rattle.std.specs.Prelude.{nat_lt, neg_ℤ, ◌/◌, ◌%◌, ◌^◌, ◌==◌, ◌&&◌, if◌then◌else◌}
+use Rattle.std.proofs.Common.{◌≡◌, ◌≢◌, ℕ, ◌-◌, ◌<◌, ℤ, pos, List, [], ◌∷◌, ◌++◌, map, length, Result, Ok, Err, refl, sym, ◌∙◌, ap, arith, false, subst, inl, inr}
+use Rattle.std.specs.Prelude.{neg_ℤ, ◌/◌, ◌%◌, ◌^◌, ◌==◌, ◌&&◌, if◌then◌else◌}
 use Rattle.std.specs.List.{AllByRecursion}
 use Rattle.std.proofs.lemmas.Bool.Decides.{nat_tests}
 use Rattle.b67_word.specs.Tagged.{Tagged, word}
 use Rattle.b67_word.specs.declared.couples.Place.{Place}
 use Rattle.b67_word.specs.declared.faults.Fault.{Fault}
-use Rattle.b67_word.specs.declared.faults.Fault.TheVariants.{StackUnderflow, InvalidIndex, Exponent}
+use Rattle.b67_word.specs.declared.faults.Fault.TheVariants.{StackUnderflow, Exponent}
 use Rattle.b67_arith.specs.OnWords.{operand_bits}
-use Rattle.b67_model.specs.Common.{Answer, ◌>>=◌, Word, Operand, Name, Ref, Row, Element, Original, Proc, Intrinsic, operand, number, array, array_of, index_below, indexed, in_order, is_original, Array, Frame, Task, SessionJob, top, Session, Done, Starts, IsSegment, Known, known_of, outer_of, FramesInOrder, WordInOrder}
-use Rattle.b67_model.specs.Words as Words
+use Rattle.b67_model.specs.Common.{Answer, ◌>>=◌, Word, operand, number, array, array_of, index_below, indexed, in_order, is_original, Array, Frame, Task, SessionJob, top, Session, Done, Starts, IsSegment, Known, known_of, outer_of, FramesInOrder, WordInOrder}
 use Rattle.b67_layout.specs.Common.{IsInOrderButCounts, Placement, IsRunning, RepresentsSession, here, Meets, RunsSome, IsWordOf, cells}
 use Rattle.b67_ctl.specs.declared.descriptors.DataDesc.{DataDesc}
 use Rattle.b67_stack.specs.declared.Cpu.{Cpu}
@@ -17,7 +16,6 @@ use Rattle.b67_stack.specs.declared.Step.{Step}
 use Rattle.b67_stack.specs.Represents.{Storage}
 use Rattle.b67_layout.proofs.Fresh.{running_in_order}
 use Rattle.b67_exec_cells.specs.Tops.{GivesTwo, NoOriginals}
-use Rattle.b67_layout.proofs.PlainOperands.{plain_operand}
 use Rattle.b67_exec_cells.specs.Elements.{HasElement, HoldsElement, original_desc}
 use Rattle.b67_exec_cells.proofs.Arrays.{array_is}
 use Rattle.b67_exec_cells.proofs.Rows.{operand_seen}
@@ -44,46 +42,20 @@ bits_is : (w : Tagged) → w.tag ≡ 0 → operand_bits w ≡ Ok w.bits
 bits_is w e = rw e refl
 
 index_ok : (len n bits k : ℕ) → Ok k ≡ index_in len bits → ((number bits >>= λ z. index_below len z >>= pair n) ≡ pair n k) × (k < len)
-index_ok len n bits k e = by (number bits) e
-  where
-    by_test : (z : ℕ) (b : Bool) → nat_lt z len ≡ b → ◌≡◌ {A = Answer ℕ} (Ok k) (if b then Ok z else Err InvalidIndex) → (((if b then Ok z else Err InvalidIndex) >>= pair n) ≡ pair n k) × (k < len)
-    by_test z true t e =
-        let same : k ≡ z = cc in
-        let low : z < len = grind (arith, nat_tests) in
-        (ap (pair n) (sym same), omega (arith, same, low))
-    by_test z false t e = absurd (let q : ⊥ = cc in q)
-
-    by : (nz : Answer ℤ) → Ok k ≡ (nz >>= index_below len) → ((nz >>= λ z. index_below len z >>= pair n) ≡ pair n k) × (k < len)
-    by (Err f) e = absurd (let q : ⊥ = cc in q)
-    by (Ok (pos z)) e = by_test z (nat_lt z len) refl e
-    by (Ok (negsuc z)) e = absurd (let q : ⊥ = cc in q)
+index_ok len n bits k e = grind (arith, nat_tests)
 
 index_err : (len n bits : ℕ) (f : Fault) → Err f ≡ index_in len bits → (number bits >>= λ z. index_below len z >>= pair n) ≡ Err f
-index_err len n bits f e = by (number bits) e
-  where
-    by_answer : (o : Answer ℕ) → Err f ≡ o → (o >>= pair n) ≡ Err f
-    by_answer (Ok j) e = absurd (let q : ⊥ = cc in q)
-    by_answer (Err g) e = let same : f ≡ g = cc in refused f g same
-
-    by : (nz : Answer ℤ) → Err f ≡ (nz >>= index_below len) → (nz >>= λ z. index_below len z >>= pair n) ≡ Err f
-    by (Err g) e = let same : f ≡ g = cc in refused f g same
-    by (Ok z) e = by_answer (index_below len z) e
+index_err len n bits f e = grind arith
 
 -- a natural number below the length is its index
 whole_small : (bits x y z w : ℕ) → x ≡ 0 → y ≡ 0 → z ≡ 0 → w ≡ bits → ◌≡◌ {A = Answer ℤ} (if (x == 0) && (y == 0) then Ok (if z == 0 then pos w else neg_ℤ (pos w)) else Err Exponent) (Ok (pos bits))
 whole_small bits x y z w a b c d = rw a (rw b (rw c (rw d refl)))
 
 number_small : (bits : ℕ) → bits < 2 ^ 39 → number bits ≡ Ok (pos bits)
-number_small bits low =
-    whole_small bits ((bits / 2 ^ 47) % 2) ((bits / 2 ^ 39) % 2 ^ 7) ((bits / 2 ^ 46) % 2) (bits % 2 ^ 39)
-    (omega (arith, low)) (omega (arith, low)) (omega (arith, low)) (omega (arith, low))
+number_small bits low = grind arith
 
 pub index_natural : (len bits : ℕ) → bits < 2 ^ 39 → bits < len → Ok bits ≡ index_in len bits
-index_natural len bits low below = subst (λ (n : Answer ℤ). Ok bits ≡ (n >>= index_below len)) (sym (number_small bits low)) (by (nat_lt bits len) refl)
-  where
-    by : (b : Bool) → nat_lt bits len ≡ b → ◌≡◌ {A = Answer ℕ} (Ok bits) (if b then Ok bits else Err InvalidIndex)
-    by true e = refl
-    by false e = absurd (let z : ⊥ = grind (arith, nat_tests) in z)
+index_natural len bits low below = grind arith
 
 module _ (plan : Placement) (m : SessionJob) (t : Task) (q : Place) where
   abbrev row : Answer ℕ → Answer ℕ → Answer (ℕ × ℕ)
@@ -129,34 +101,13 @@ module _ (plan : Placement) (m : SessionJob) (t : Task) (q : Place) where
 
   -- words that give an element are no originals
   array_plain : (v : Word) (a : ℕ) → array_of (here m t q) v ≡ Ok a → is_original v ≡ false
-  array_plain (Operand bits) a e = refl
-  array_plain (Name c) a e = refl
-  array_plain (Ref g o) a e = refl
-  array_plain (Row n) a e = refl
-  array_plain (Element n i) a e = refl
-  array_plain (Original n) a e = cc
-  array_plain (Proc g l p) a e = refl
-  array_plain (Intrinsic n) a e = refl
-  array_plain (Words.Segment n) a e = refl
+  array_plain v a e = grind arith
 
   indexed_plain : (v i : Word) (p : ℕ × ℕ) → indexed (here m t q) v i ≡ Ok p → (is_original v ≡ false) × (is_original i ≡ false)
-  indexed_plain v i p e = by (operand i) refl (array_of (here m t q) v) refl e
-    where
-      by : (o : Answer ℕ) → operand i ≡ o → (ao : Answer ℕ) → array_of (here m t q) v ≡ ao → row o ao ≡ Ok p → (is_original v ≡ false) × (is_original i ≡ false)
-      by (Err f) a ao b r = absurd (let z : ⊥ = cc in z)
-      by (Ok bits) a (Err f) b r = absurd (let z : ⊥ = cc in z)
-      by (Ok bits) a (Ok n) b r = (array_plain v n b, plain_operand i bits a)
+  indexed_plain v i p e = grind arith
 
   two_plain : (b a : Word) (p : ℕ × ℕ) → indexed (here m t q) (in_order b a).0 (in_order b a).1 ≡ Ok p → NoOriginals (b ∷ a ∷ [])
-  two_plain (Operand bits) a p e = let i = indexed_plain a (Operand bits) p e in (i.1, (i.0, tt))
-  two_plain (Name c) a p e = let i = indexed_plain (Name c) a p e in (i.0, (i.1, tt))
-  two_plain (Ref g o) a p e = let i = indexed_plain (Ref g o) a p e in (i.0, (i.1, tt))
-  two_plain (Row n) a p e = let i = indexed_plain (Row n) a p e in (i.0, (i.1, tt))
-  two_plain (Element n k) a p e = let i = indexed_plain (Element n k) a p e in (i.0, (i.1, tt))
-  two_plain (Original n) a p e = let i = indexed_plain (Original n) a p e in (i.0, (i.1, tt))
-  two_plain (Proc g l o) a p e = let i = indexed_plain (Proc g l o) a p e in (i.0, (i.1, tt))
-  two_plain (Intrinsic n) a p e = let i = indexed_plain (Intrinsic n) a p e in (i.0, (i.1, tt))
-  two_plain (Words.Segment n) a p e = let i = indexed_plain (Words.Segment n) a p e in (i.0, (i.1, tt))
+  two_plain b a p e = grind arith
 
   -- the two top cells that give an element
   pub record ItemOnTop (found : ℕ × ℕ) : Type 0 where
@@ -201,8 +152,7 @@ module _ (plan : Placement) (m : SessionJob) (t : Task) (q : Place) where
   pub row_at_item : (x : Storage) (s : Session) (old new : Cpu) (r : Step) (R : List Word → Answer Done) (F : ℕ × ℕ → List Word → Answer Done) (found : ℕ × ℕ) (i : ItemOnTop found)
       → ((b a : Word) (rest : List Word) → R (b ∷ a ∷ rest) ≡ (indexed (here m t q) (in_order b a).0 (in_order b a).1 >>= λ at. F at rest))
       → Meets x plan s m r old new (F i.item i.rest) → Meets x plan s m r old new (R (cells t))
-  row_at_item x s old new r R F found i two meets =
-      subst (Meets x plan s m r old new) (sym (ap R i.is ∙ two i.upper i.lower i.rest ∙ ap (λ (an : Answer (ℕ × ℕ)). an >>= λ at. F at i.rest) i.given)) meets
+  row_at_item x s old new r R F found i two meets = grind arith
 
 -- the two top cells, which may be followed
 pub record TwoFollowed (x : Storage) (plan : Placement) (m : SessionJob) (t : Task) (u v : Tagged) : Type 0 where
@@ -242,32 +192,14 @@ two_followed x cpu plan s m t u v ordered runs given = by_cells (cells t) refl g
 module _ (x : Storage) (plan : Placement) (m : SessionJob) (t : Task) where
   -- which of them is the index
   index_above : (v : Tagged) (b a : Word) (at : ℕ) → IsWordOf x plan m t b at v → v.tag ≡ 0 → in_order b a ≡ (a, b)
-  index_above v (Operand bits) a at f z = refl
-  index_above v (Name c) a at f z = absurd (let e = f.0 in let q : ⊥ = cc in q)
-  index_above v (Ref g o) a at f z = absurd (let e = f.0 in let q : ⊥ = cc in q)
-  index_above v (Row n) a at f z = absurd (let e = f.is in let q : ⊥ = cc in q)
-  index_above v (Element n i) a at f z = absurd (let e = f.is in let q : ⊥ = cc in q)
-  index_above v (Original n) a at f z = absurd (let e = f.1.is in let q : ⊥ = cc in q)
-  index_above v (Proc g l p) a at f z = absurd (let e = f.0 in let q : ⊥ = cc in q)
-  index_above v (Intrinsic n) a at f z = absurd (let e = f.0 in let q : ⊥ = cc in q)
-  index_above v (Words.Segment n) a at f z = absurd (let e = f.0 in let q : ⊥ = cc in q)
+  index_above v b a at f z = grind arith
 
   index_below_it : (v : Tagged) (b a : Word) (at : ℕ) → IsWordOf x plan m t b at v → v.tag ≢ 0 → in_order b a ≡ (b, a)
-  index_below_it v (Operand bits) a at f z = absurd (z (ap (λ (w : Tagged). w.tag) f.0))
-  index_below_it v (Name c) a at f z = refl
-  index_below_it v (Ref g o) a at f z = refl
-  index_below_it v (Row n) a at f z = refl
-  index_below_it v (Element n i) a at f z = refl
-  index_below_it v (Original n) a at f z = refl
-  index_below_it v (Proc g l p) a at f z = refl
-  index_below_it v (Intrinsic n) a at f z = refl
-  index_below_it v (Words.Segment n) a at f z = refl
+  index_below_it v b a at f z = grind arith
 
   by_order : (q : Place) (found : Result (ℕ × ℕ) Fault) (u v : Tagged) (two : TwoFollowed x plan m t u v) (pair : Word × Word) → in_order two.upper two.lower ≡ pair
       → FindsItem plan m found (indexed (here m t q) pair.0 pair.1) → FindsTopItem plan m (here m t q) (cells t) found
-  by_order q found u v two pair e i =
-      subst (λ (cs : List Word). FindsTopItem plan m (here m t q) cs found) (sym two.is)
-      (subst (λ (p : Word × Word). FindsItem plan m found (indexed (here m t q) p.0 p.1)) (sym e) i)
+  by_order q found u v two pair e i = grind arith
 
   pub above : (q : Place) (found : Result (ℕ × ℕ) Fault) (u v : Tagged) (two : TwoFollowed x plan m t u v) → v.tag ≡ 0
       → FindsItem plan m found (indexed (here m t q) two.lower two.upper) → FindsTopItem plan m (here m t q) (cells t) found
@@ -280,20 +212,10 @@ module _ (x : Storage) (plan : Placement) (m : SessionJob) (t : Task) where
   -- the one that was chosen is followed, and the other is the index
   pub chosen_item : (q : Place) (found : Result (ℕ × ℕ) Fault) (words chosen : Tagged × Tagged) (two : TwoFollowed x plan m t words.0 words.1) → Choice words chosen
       → ((v i : Word) → IsFollowed x plan m t chosen.0 v → operand_bits chosen.1 ≡ operand i → FindsItem plan m found (indexed (here m t q) v i)) → FindsTopItem plan m (here m t q) (cells t) found
-  chosen_item q found words chosen two (inl (z, same)) each =
-      let E : Tagged × Tagged → Type 0 = λ p. (v i : Word) → IsFollowed x plan m t p.0 v → operand_bits p.1 ≡ operand i → FindsItem plan m found (indexed (here m t q) v i) in
-      above q found words.0 words.1 two z (subst E same each two.lower two.upper two.second (operand_seen x plan m t two.top.at words.1 two.upper two.top.is))
-  chosen_item q found words chosen two (inr (z, same)) each =
-      let E : Tagged × Tagged → Type 0 = λ p. (v i : Word) → IsFollowed x plan m t p.0 v → operand_bits p.1 ≡ operand i → FindsItem plan m found (indexed (here m t q) v i) in
-      below q found words.0 words.1 two z (subst E same each two.upper two.lower two.top (operand_seen x plan m t two.second.at words.0 two.lower two.second.is))
+  chosen_item q found words chosen two h each = grind (arith, operand_seen)
 
   pub fewer : (q : Place) (cpu : Cpu) (fault : Fault) → GivesTwo x plan m t cpu (cells t) (Err fault) → FindsTopItem plan m (here m t q) (cells t) (Err fault)
-  fewer q cpu fault given = by (cells t) given
-    where
-      by : (cs : List Word) → GivesTwo x plan m t cpu cs (Err fault) → FindsTopItem plan m (here m t q) cs (Err fault)
-      by [] g = let same : fault ≡ StackUnderflow = (let e = g in cc) in rw same refl
-      by (b ∷ []) g = let same : fault ≡ StackUnderflow = (let e = g in cc) in rw same refl
-      by (b ∷ a ∷ rest) g = absurd (let e = g.2 in let z : ⊥ = cc in z)
+  fewer q cpu fault given = grind arith
 
 pub follows_one : (cpu : Cpu) (q : RunsSome cpu) (words chosen : Tagged × Tagged) → TwoFollowed q.storage q.plan q.member q.task words.0 words.1 → Choice words chosen → MayFollow cpu chosen.0
 follows_one cpu q words chosen two (inl (z, same)) = subst (λ (p : Tagged × Tagged). MayFollow cpu p.0) (sym same) (record { runs = q; word = two.lower; followed = two.second })

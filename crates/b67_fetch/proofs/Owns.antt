@@ -1,5 +1,5 @@
 -- STOD and STON where the top cell is followed without a search, and arrays found so.
-use Rattle.std.proofs.Common.{◌≡◌, ℕ, ◌+◌, ◌<◌, ◌≤◌, ◌∷◌, List, Bool, true, false, Ok, Err, refl, sym, ap, arith, inr, length, subst}
+use Rattle.std.proofs.Common.{◌≡◌, ℕ, ◌+◌, ◌<◌, ◌≤◌, ◌∷◌, List, Bool, Ok, Err, refl, sym, arith, inr, length, subst}
 use Rattle.b67_word.specs.Tagged.{Tagged, word}
 use Rattle.b67_word.specs.declared.couples.Place.{Place}
 use Rattle.b67_word.specs.declared.faults.Fault.{Fault}
@@ -30,8 +30,7 @@ use Rattle.b67_fetch.proofs.Stores.{followed_end, cell_inside, cell_done, elemen
 
 -- what is done enters no procedure
 done_made : (x : Storage) (plan : Placement) (s : Session) (m : SessionJob) (old new : Cpu) (enters : Bool) (answer : Answer Done) → EntersOrMeets x plan s m step.Done old new enters answer → IsMade x plan s m old new answer
-done_made x plan s m old new true answer i = absurd (let e = i.0 in let z : ⊥ = cc in z)
-done_made x plan s m old new false answer i = i
+done_made x plan s m old new enters answer i = grind arith
 
 -- a store through a couple of an operand's cell goes to this cell
 pub operand_through : (cpu : Cpu) (w : Tagged) (at : ℕ) → w.tag ≡ 1 → LeadsTo cpu.core cpu.regs cpu.display w (end.Cell at) → StoresThrough cpu w at
@@ -39,8 +38,7 @@ operand_through cpu w at one leads = record { other = λ z. omega (arith, z, one
 
 -- so does one through a stuffed reference
 both_ends : (core : List Tagged) (r : Regs) (a : RunningContext core r) (q : Place) (fault : Fault) (e : End) (y : Answer Chase.End) → EndMeets a q (Err fault) y → EndMeets a q (Ok e) y → ⊥
-both_ends core r a q fault e (Ok found) m n = m
-both_ends core r a q fault e (Err found) m n = n
+both_ends core r a q fault e y m n = grind arith
 
 pub stuffed_through : (x : Storage) (cpu : Cpu) (plan : Placement) (s : Session) (m : SessionJob) (t : Task) (o : IsInOrderButCounts s) (h : RepresentsSession x cpu plan s) (runs : IsRunning plan s.jobs m t) (w : Tagged) (v : Word) → IsFollowed x plan m t w v
     → (at : ℕ) → EndsAt cpu.core cpu.regs w (end.Cell at) → StoresThrough cpu w at
@@ -96,11 +94,7 @@ module _ (x : Storage) (old : Cpu) (plan : Placement) (s : Session) (m : Session
 
 -- a couple of an original leads to its array
 pub at_array : (e : End) (original : ℕ) → array_in e ≡ Ok original → e ≡ end.Array original
-at_array (end.Array n) original is = let z : n ≡ original = cc in ap end.Array z
-at_array (end.Cell n) original is = absurd (let z : ⊥ = cc in z)
-at_array (end.Element n i) original is = absurd (let z : ⊥ = cc in z)
-at_array (end.Proc n) original is = absurd (let z : ⊥ = cc in z)
-at_array (end.Intrinsic n) original is = absurd (let z : ⊥ = cc in z)
+at_array e original is = grind arith
 
 pub own_finds_array : (x : Storage) (cpu : Cpu) (plan : Placement) (s : Session) (m : SessionJob) (t : Task) (o : IsInOrderButCounts s) (h : RepresentsSession x cpu plan s) (runs : IsRunning plan s.jobs m t) (q : Place) (w : Tagged) (original : ℕ)
     → LeadsTo cpu.core cpu.regs cpu.display w (end.Array original) → w.tag ≡ 1 → (v : Word) → IsFollowed x plan m t w v → FindsArray plan m (Ok original) (array_of (here m t q) v)

@@ -18,7 +18,7 @@ use Rattle.b67_refer.proofs.Seats.{seat}
 use Rattle.b67_refer.proofs.Bases.{stacks_is, size_is}
 use Rattle.b67_refer.proofs.Marks.{view_low}
 use Rattle.b67_refer.proofs.Rule.{seat_address}
-use Rattle.b67_refer.proofs.Unders.{seat_low, high_address, is_mcp, is_dictionary, is_task}
+use Rattle.b67_refer.proofs.Unders.{seat_low, is_mcp, is_dictionary, is_task}
 use Rattle.b67_lemmas.proofs.Members.{keyed_has, found-has}
 
 -- the slot that a word of the vector names fits its field
@@ -73,18 +73,7 @@ module _ (core : List Tagged) (r : Regs) (a : RunningContext core r) (f base off
       let k = stacks_is core r (live_of a) in
       let z : size ≡ a.plan.size = is ∙ size_is core r (live_of a) in
       let d : base - r.stacks ≡ b.slot * a.plan.size + height b.below = omega (arith, e, at, k) in
-      let h = high_address core r (live_of a) f n own in
-      let few = a.holds.fits.few in
-      let small = a.holds.memory.slots.laid.room in
-      let used = b.top_is.used in
-      let sp : view a f ≡ record { stack = b.slot; disp = height b.below } = b.spot in (
-        omega (arith, e, h.0, k),
-        ap (λ m. m / size) d ∙ ap (λ m. (b.slot * a.plan.size + height b.below) / m) z ∙ div-mul-add b.slot a.plan.size (height b.below) low ∙ ap (λ (y : StackPlace). y.stack) (sym sp),
-        ap (λ m. m % size) d ∙ ap (λ m. (b.slot * a.plan.size + height b.below) % m) z ∙ mod-mul-add b.slot a.plan.size (height b.below) low ∙ ap (λ (y : StackPlace). y.disp) (sym sp),
-        omega (arith, z, low),
-        (let y : (view a f).stack ≡ b.slot = ap (λ (y : StackPlace). y.stack) sp in omega (arith, y, used, few)),
-        (let y : (view a f).disp ≡ height b.below = ap (λ (y : StackPlace). y.disp) sp in omega (arith, y, low, small)),
-      )
+      grind (arith, div-mul-add)
 
   pub in_slots : base ≢ 0 → base ≢ r.dict → r.stacks ≤ base
   in_slots some other = (by_division r.stack_size some other refl).0

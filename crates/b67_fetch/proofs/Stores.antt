@@ -1,7 +1,6 @@
 -- What STOD and STON do by the end that was found, against their rows.
 use Rattle.std.proofs.Common.{◌≡◌, ℕ, ◌+◌, ◌-◌, ◌<◌, ◌≤◌, List, [], ◌∷◌, length, Option, Some, Result, Ok, Err, refl, sym, ◌∙◌, ap, arith, Bool, true, false, subst}
 use Rattle.std.specs.Prelude.{if◌then◌else◌, nat_le, unwrap_or}
-use Rattle.std.proofs.lemmas.Bool.Decides.{nat_tests}
 use Rattle.std.proofs.lemmas.Option.{slice_get_within}
 use Rattle.b67_word.specs.Tagged.{Tagged, word}
 use Rattle.b67_word.specs.declared.couples.Place.{Place}
@@ -59,20 +58,12 @@ module _ (x : Storage) (old : Cpu) (plan : Placement) (s : Session) (m : Session
 
   -- no cells to store
   pub missing : (new : Cpu) (fault : Fault) → new ≡ old → GivesTwo x plan m t old (cells t) (Err fault) → ForCells (step.Fault fault) new (cells_of (here m t q))
-  missing new fault same g = by (cells t) g where
-    by : (ws : List Word) → GivesTwo x plan m t old ws (Err fault) → ForCells (step.Fault fault) new ws
-    by [] g = (let e : ◌≡◌ {A = Fault} Rattle.b67_word.specs.declared.faults.Fault.TheVariants.StackUnderflow fault = cc in (ap Err e, same))
-    by (b ∷ []) g = (let e : ◌≡◌ {A = Fault} Rattle.b67_word.specs.declared.faults.Fault.TheVariants.StackUnderflow fault = cc in (ap Err e, same))
-    by (b ∷ a ∷ rest) (u, v, is, ia, ib) = absurd (let z : ⊥ = cc in z)
+  missing new fault same g = grind arith
 
   module _ (chosen : Tagged × Tagged) (g : Given x plan m t old chosen) where
     -- none of the two is an operand
     pub refused : (new : Cpu) → new ≡ old → operand (in_order g.first g.second).1 ≡ Err InvalidOperand → ForCells (step.Fault InvalidOperand) new (cells_of (here m t q))
-    refused new same e =
-        let p : Word × Word = in_order g.first g.second in
-        let F : Answer ℕ → Type 0 = λ y. EntersOrMeets x plan s m (step.Fault InvalidOperand) old new (enters_at (y >>= λ bits. follow (here m t q) p.0))
-        (y >>= λ bits. (follow (here m t q) p.0 >>= store_at (here m t q) g.rest (if keeps then p.1 ∷ g.rest else g.rest) bits)) in
-        subst (ForCells (step.Fault InvalidOperand) new) (sym g.is) (subst F (sym e) (refl, same))
+    refused new same e = grind arith
 
     -- one is
     pub followed_end : (r : Step) (new : Cpu) (bits : ℕ) → (in_order g.first g.second).1 ≡ Operand bits → ForEnd r new g.rest bits (follow (here m t q) (in_order g.first g.second).0) → ForCells r new (cells_of (here m t q))
@@ -87,45 +78,20 @@ module _ (x : Storage) (old : Cpu) (plan : Placement) (s : Session) (m : Session
   -- by the end that was found
   module _ (r : Step) (new : Cpu) (rest : List Word) (bits : ℕ) where
     pub at_fault : (fault : Fault) (y : Answer Chase.End) → EndMeets (here_scene x old plan s m t o h runs) q (Err fault) y → r ≡ step.Fault fault → new ≡ old → ForEnd r new rest bits y
-    at_fault fault (Err y) e is same = let P : Step → Type 0 = λ z. Meets x plan s m z old new (Err y) in subst P (sym is) (ap Err (sym e), same)
-    at_fault fault (Ok (AtCell f offset b)) e is same = absurd e
-    at_fault fault (Ok (AtElement n i)) e is same = absurd e
-    at_fault fault (Ok (AtArray n)) e is same = absurd e
-    at_fault fault (Ok (AtProc f segment level place)) e is same = absurd e
-    at_fault fault (Ok (AtIntrinsic n)) e is same = absurd e
+    at_fault fault y e is same = grind arith
 
     pub at_proc : (at : ℕ) (y : Answer Chase.End) → EndMeets (here_scene x old plan s m t o h runs) q (Ok (end.Proc at)) y → r ≡ step.Call 255 → new ≡ old → ForEnd r new rest bits y
-    at_proc at (Ok (AtProc f segment level place)) e is same = (is, same)
-    at_proc at (Ok (AtCell f offset b)) e is same = absurd e
-    at_proc at (Ok (AtElement n i)) e is same = absurd e
-    at_proc at (Ok (AtArray n)) e is same = absurd e
-    at_proc at (Ok (AtIntrinsic n)) e is same = absurd e
-    at_proc at (Err y) e is same = absurd e
+    at_proc at y e is same = grind arith
 
     pub at_array : (original : ℕ) (y : Answer Chase.End) → EndMeets (here_scene x old plan s m t o h runs) q (Ok (end.Array original)) y → r ≡ step.Fault MemoryProtect → new ≡ old → ForEnd r new rest bits y
-    at_array original (Ok (AtArray n)) e is same = let P : Step → Type 0 = λ z. Meets x plan s m z old new (Err MemoryProtect) in subst P (sym is) (refl, same)
-    at_array original (Ok (AtCell f offset b)) e is same = absurd e
-    at_array original (Ok (AtElement n i)) e is same = absurd e
-    at_array original (Ok (AtProc f segment level place)) e is same = absurd e
-    at_array original (Ok (AtIntrinsic n)) e is same = absurd e
-    at_array original (Err y) e is same = absurd e
+    at_array original y e is same = grind arith
 
     pub at_intrinsic : (k : ℕ) (y : Answer Chase.End) → EndMeets (here_scene x old plan s m t o h runs) q (Ok (end.Intrinsic k)) y → r ≡ step.Fault MemoryProtect → new ≡ old → ForEnd r new rest bits y
-    at_intrinsic k (Ok (AtIntrinsic n)) e is same = let P : Step → Type 0 = λ z. Meets x plan s m z old new (Err MemoryProtect) in subst P (sym is) (refl, same)
-    at_intrinsic k (Ok (AtCell f offset b)) e is same = absurd e
-    at_intrinsic k (Ok (AtElement n i)) e is same = absurd e
-    at_intrinsic k (Ok (AtArray n)) e is same = absurd e
-    at_intrinsic k (Ok (AtProc f segment level place)) e is same = absurd e
-    at_intrinsic k (Err y) e is same = absurd e
+    at_intrinsic k y e is same = grind arith
 
     at_cell : (at : ℕ) (w : Word) (y : Answer Chase.End) → follow (here m t q) w ≡ y → EndMeets (here_scene x old plan s m t o h runs) q (Ok (end.Cell at)) y
         → ((f offset b : ℕ) → follow (here m t q) w ≡ Ok (AtCell f offset b) → IsCellAt (here_scene x old plan s m t o h runs) q at f offset (Operand b) → Meets x plan s m r old new (store_at (here m t q) rest (kept bits rest) bits (AtCell f offset b))) → ForEnd r new rest bits y
-    at_cell at w (Ok (AtCell f offset b)) z e done = done f offset b z e
-    at_cell at w (Ok (AtElement n i)) z e done = absurd e
-    at_cell at w (Ok (AtArray n)) z e done = absurd e
-    at_cell at w (Ok (AtProc f segment level place)) z e done = absurd e
-    at_cell at w (Ok (AtIntrinsic n)) z e done = absurd e
-    at_cell at w (Err y) z e done = absurd e
+    at_cell at w y z e done = grind arith
 
     at_element : (original index : ℕ) (w : Word) (y : Answer Chase.End) → follow (here m t q) w ≡ y → EndMeets (here_scene x old plan s m t o h runs) q (Ok (end.Element original index)) y
         → ((n : ℕ) → follow (here m t q) w ≡ Ok (AtElement n index) → original ≡ plan.home m.constants.number n → HasElement m.progress.job n index → Meets x plan s m r old new (store_at (here m t q) rest (kept bits rest) bits (AtElement n index))) → ForEnd r new rest bits y
@@ -147,12 +113,7 @@ module _ (x : Storage) (old : Cpu) (plan : Placement) (s : Session) (m : Session
 
   -- where the word goes lies in core
   pub cell_inside : (at : ℕ) (y : Answer Chase.End) → EndMeets (here_scene x old plan s m t o h runs) q (Ok (end.Cell at)) y → at < length old.core
-  cell_inside at (Ok (AtCell f offset b)) e = slice_get_within old.core at e.word e.there
-  cell_inside at (Ok (AtElement n i)) e = absurd e
-  cell_inside at (Ok (AtArray n)) e = absurd e
-  cell_inside at (Ok (AtProc f segment level place)) e = absurd e
-  cell_inside at (Ok (AtIntrinsic n)) e = absurd e
-  cell_inside at (Err y) e = absurd e
+  cell_inside at y e = grind (arith, slice_get_within)
 
   element_in : (n index original at : ℕ) (e : HasElement m.progress.job n index) → ElementAt x plan m n original index (Ok at) → at < length old.core
   element_in n index original at e (w, (area, held, is)) =
@@ -191,20 +152,14 @@ module _ (x : Storage) (old : Cpu) (plan : Placement) (s : Session) (m : Session
 
   -- the height of the stack with fewer cells
   height_drop : (fs : List Frame) (w : Word) (cs : List Word) → height (with_top_cells fs cs) ≤ height (with_top_cells fs (w ∷ cs))
-  height_drop [] w cs = omega arith
-  height_drop (f ∷ below) w cs = omega arith
+  height_drop fs w cs = grind arith
 
   module _ (b c : Word) (rest : List Word) (is : cells t ≡ b ∷ c ∷ rest) (enough : old.regs.f + 2 ≤ old.regs.s) (bits : ℕ) where
     fits_kept : nat_le (height (with_top_cells t.frames (Operand bits ∷ rest))) m.constants.stack_size ≡ true
     fits_kept = let g = room x old plan s m t o h runs in let low = g.last in fitting x old plan s m t o h runs 2 (old.regs.s - 2 + 1) (b ∷ c ∷ []) rest (Operand bits) is refl enough refl (omega (arith, low, enough))
 
     fits : (k : Bool) → nat_le (height (with_top_cells t.frames (if k then Operand bits ∷ rest else rest))) m.constants.stack_size ≡ true
-    fits true = fits_kept
-    fits false =
-        let d = height_drop t.frames (Operand bits) rest in
-        let low : height (with_top_cells t.frames (Operand bits ∷ rest)) ≤ m.constants.stack_size = (let f = fits_kept in grind (arith, nat_tests)) in
-        let less : height (with_top_cells t.frames rest) ≤ m.constants.stack_size = omega (arith, d, low) in
-        grind (arith, nat_tests)
+    fits k = grind (arith, fits_kept)
 
     cell_made : (k : Bool) (at f offset w : ℕ) → IsCellAt (here_scene x old plan s m t o h runs) q at f offset (Operand w) → NoOriginals (b ∷ c ∷ [])
         → IsMade x plan s m old (stored old at (word 0 bits) k q) (store_at (here m t q) rest (if k then Operand bits ∷ rest else rest) bits (AtCell f offset w))
@@ -239,12 +194,7 @@ module _ (x : Storage) (old : Cpu) (plan : Placement) (s : Session) (m : Session
 
     element_refused : (n index original : ℕ) (r : Step) (new : Cpu) → new ≡ old → original ≡ plan.home m.constants.number n → ElementAt x plan m n original index (Err r)
         → Meets x plan s m r old new (store_at (here m t q) rest (kept bits rest) bits (AtElement n index))
-    element_refused n index original (step.Fault fault) new same home (w, f) = (refused_element n index w ∙ ap Err (sym f), same)
-    element_refused n index original (step.Absent object) new same home (w, none, is) =
-        (record { job = with_task (with_element m.progress.job n index bits) (with_cells (here m t q) (kept bits rest)); touched = n; is = answered n index w; absent = none; named = is ∙ ap what.Array home }, same)
-    element_refused n index original step.Done new same home z = absurd z
-    element_refused n index original (step.Call k) new same home z = absurd z
-    element_refused n index original step.Ended new same home z = absurd z
+    element_refused n index original r new same home z = grind (arith, answered)
 
     module _ (op : (in_order b c).1 ≡ Operand bits) where
       pub cell_done : (at : ℕ) → EndMeets (here_scene x old plan s m t o h runs) q (Ok (end.Cell at)) (follow (here m t q) (in_order b c).0)

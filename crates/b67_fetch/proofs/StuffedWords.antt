@@ -10,9 +10,8 @@ use Rattle.b67_word.specs.declared.faults.Fault.TheVariants.{InvalidOperand}
 use Rattle.b67_ctl.specs.declared.references.Irw.{Irw}
 use Rattle.b67_ctl.specs.declared.references.Sirw.{Sirw}
 use Rattle.b67_ctl.specs.Layout.{irw_word, IsIrw, sirw_word}
-use Rattle.b67_model.specs.Common.{Answer, ◌>>=◌, cell, named, place_of, frame_at, NamesEntered, reach_of, is_original, on_cells, stff, stff_word, Session, Task, SessionJob, leaves_cells, Word, Operand, Name, Ref, Row, Element, Original, Proc, Intrinsic}
+use Rattle.b67_model.specs.Common.{Answer, ◌>>=◌, cell, named, place_of, frame_at, NamesEntered, reach_of, is_original, on_cells, stff, stff_word, Session, Task, SessionJob, leaves_cells, Word, Name, Ref}
 use Rattle.b67_layout.specs.Common.{IsInOrderButCounts, Placement, IsRunning, RepresentsSession, frame_address, here, Meets, cells}
-use Rattle.b67_model.specs.Words as Words
 use Rattle.b67_stack.specs.declared.Cpu.{Cpu}
 use Rattle.b67_stack.specs.declared.Step.{Step}
 use Rattle.b67_stack.specs.declared.Step.TheVariants as step
@@ -41,15 +40,7 @@ module _ (x : Storage) (cpu : Cpu) (plan : Placement) (s : Session) (m : Session
 
   -- no reference
   not_stuffed : (v : Word) (at owner : ℕ) → StandsFor (here_scene x cpu plan s m t ordered h runs) at owner w v → w.tag ≢ 1 → stff_word (here m t q) v ≡ Err InvalidOperand
-  not_stuffed (Operand b) at owner i ne = refl
-  not_stuffed (Name c) at owner i ne = absurd (ne (ap (λ (z : Tagged). z.tag) i.0.0))
-  not_stuffed (Ref g d) at owner i ne = absurd (ne (ap (λ (z : Tagged). z.tag) i.0.0))
-  not_stuffed (Row b) at owner i ne = refl
-  not_stuffed (Element b d) at owner i ne = refl
-  not_stuffed (Original b) at owner i ne = refl
-  not_stuffed (Proc g l p) at owner i ne = refl
-  not_stuffed (Intrinsic n) at owner i ne = refl
-  not_stuffed (Words.Segment n) at owner i ne = refl
+  not_stuffed v at owner i ne = grind arith
 
   pub stff_refused : w.tag ≢ 1 → Meets x plan s m (step.Fault InvalidOperand) cpu cpu (on_cells (stff (here m t q)) (here m t q))
   stff_refused ne = by_word (step.Fault InvalidOperand) cpu (Err InvalidOperand) (not_stuffed top.word top.followed.at top.followed.owner stands ne) (refl, refl)
@@ -60,11 +51,7 @@ module _ (x : Storage) (cpu : Cpu) (plan : Placement) (s : Session) (m : Session
 
     -- a stuffed one stays
     pub stff_stays : (r : Step) (new : Cpu) → ((i : Irw) → IsIrw i → w ≡ irw_word i → ⊥) → Meets x plan s m r cpu new (leaves_cells (here m t q) (cells t) None) → Meets x plan s m r cpu new (on_cells (stff (here m t q)) (here m t q))
-    stff_stays r new other i =
-        let k = stuffed cpu.core cpu.regs (live_of (here_scene x cpu plan s m t ordered h runs)) top.followed.at top.followed.owner w top.word stands refers other in
-        let e : stff_word (here m t q) top.word ≡ Ok top.word = ap (stff_word (here m t q)) k.word ∙ ap Ok (sym k.word) in
-        let C : List Word → Type 0 = λ cs. Meets x plan s m r cpu new (leaves_cells (here m t q) cs None) in
-        by_word r new (Ok top.word) e (subst C top.is i)
+    stff_stays r new other i = grind (arith, stuffed, stands, refers)
 
     module _ (name : Irw) (fits : IsIrw name) (is : w ≡ irw_word name) (c : Couple) (split : c ≡ couple name.couple cpu.regs.level) where
       named_word : top.word ≡ Name name.couple
@@ -83,18 +70,12 @@ module _ (x : Storage) (cpu : Cpu) (plan : Placement) (s : Session) (m : Session
           subst F place_is (names scene q (here_shown x cpu plan s m t ordered h runs) top.followed.at top.followed.owner top.word stands).1
 
       word_is : stff_word (here m t q) top.word ≡ (named (here m t q) c >>= λ at. cell (here m t q) at.0 at.1 >>= λ v. Ok (Ref at.0 at.1))
-      word_is =
-          let named_is : stff_word (here m t q) top.word ≡ (place_of (here m t q) (Name name.couple) >>= λ at. cell (here m t q) at.0 at.1 >>= λ v. Ok (Ref at.0 at.1)) = ap (stff_word (here m t q)) named_word in
-          let S : Answer (ℕ × ℕ) → Answer Word = λ p. p >>= λ at. cell (here m t q) at.0 at.1 >>= λ v. Ok (Ref at.0 at.1) in
-          named_is ∙ ap S (ap (place_of (here m t q)) (sym named_word) ∙ place_is)
+      word_is = grind (arith, place_is)
 
       -- the cell isn't there
       fault_by : (fault : Fault) (p : Answer (ℕ × ℕ)) → FindsCell (here_scene x cpu plan s m t ordered h runs) q (Err fault) p → (p >>= λ at. cell (here m t q) at.0 at.1 >>= λ v. Ok (Ref at.0 at.1)) ≡ Err fault
       fault_by fault (Err y) i = (let e : y ≡ fault = cc in ap Err e)
-      fault_by fault (Ok at) i = by_cell (cell (here m t q) at.0 at.1) i where
-        by_cell : (k : Answer Word) → CellMeets (here_scene x cpu plan s m t ordered h runs) q at.0 at.1 (Err fault) k → (k >>= λ v. Ok (Ref at.0 at.1)) ≡ Err fault
-        by_cell (Err y) i = ap Err (sym i)
-        by_cell (Ok v) i = absurd i
+      fault_by fault (Ok at) i = grind arith
 
       pub stff_fault : (fault : Fault) → FindsCell (here_scene x cpu plan s m t ordered h runs) q (Err fault) (named (here m t q) c) → Meets x plan s m (step.Fault fault) cpu cpu (on_cells (stff (here m t q)) (here m t q))
       stff_fault fault i = by_word (step.Fault fault) cpu (Err fault) (word_is ∙ fault_by fault (named (here m t q) c) i) (refl, refl)
@@ -114,10 +95,7 @@ module _ (x : Storage) (cpu : Cpu) (plan : Placement) (s : Session) (m : Session
       )
 
       found_by : (found f d : ℕ) → CellMeets (here_scene x cpu plan s m t ordered h runs) q f d (Ok found) (cell (here m t q) f d) → (cell (here m t q) f d >>= λ v. Ok (Ref f d)) ≡ Ok (Ref f d)
-      found_by found f d i = by_cell (cell (here m t q) f d) i where
-        by_cell : (k : Answer Word) → CellMeets (here_scene x cpu plan s m t ordered h runs) q f d (Ok found) k → (k >>= λ v. Ok (Ref f d)) ≡ Ok (Ref f d)
-        by_cell (Err y) i = absurd i
-        by_cell (Ok v) i = refl
+      found_by found f d i = grind arith
 
       -- the stuffed reference in its place
       pub stff_done : (r : Step) (new : Cpu) (found : ℕ) (k : Sirw) (v : Tagged) → (i : FindsCell (here_scene x cpu plan s m t ordered h runs) q (Ok found) (named (here m t q) c))

@@ -1,15 +1,13 @@
 -- What is read through references, against the rows.
 use Rattle.std.proofs.Common.{◌≡◌, ◌≢◌, ℕ, ◌+◌, ◌-◌, ◌<◌, ◌≤◌, ◌^◌, List, [], ◌∷◌, ◌++◌, map, length, Option, Some, None, Result, Ok, Err, refl, sym, ◌∙◌, ap, arith, Bool, true, false, subst, inl, inr, ⊎_elim}
 use Rattle.std.specs.Prelude.{nat_le}
-use Rattle.std.specs.List.{AllByRecursion}
 use Rattle.b67_ctl.specs.Layout.{irw_word}
 use Rattle.b67_word.specs.Tagged.{Tagged}
 use Rattle.b67_word.specs.declared.couples.Place.{Place}
 use Rattle.b67_word.specs.declared.faults.Fault.{Fault}
-use Rattle.b67_word.specs.declared.faults.Fault.TheVariants.{StackUnderflow, StackOverflow}
-use Rattle.b67_model.specs.Common.{Answer, ◌>>=◌, ◌>>◌, needs, evaluates, is_original, AtCell, AtElement, AtArray, AtProc, AtIntrinsic, follow, Word, Operand, Name, Ref, Row, Element, Original, Proc, Intrinsic, Frame, Array, Task, Job, SessionJob, top, with_top_cells, height, with_task, Starts, IsSegment, Known, known_of, outer_of, reach_of, FramesInOrder, WordInOrder, Session, Done, Goes, leaves_cells}
+use Rattle.b67_word.specs.declared.faults.Fault.TheVariants.{StackOverflow}
+use Rattle.b67_model.specs.Common.{Answer, ◌>>=◌, ◌>>◌, needs, evaluates, is_original, AtCell, AtElement, AtArray, AtProc, AtIntrinsic, follow, Word, Name, Row, Element, Proc, Intrinsic, Frame, Array, Task, Job, SessionJob, top, with_top_cells, height, with_task, Starts, IsSegment, Known, known_of, outer_of, reach_of, FramesInOrder, WordInOrder, Session, Done, Goes, leaves_cells}
 use Rattle.b67_model.specs.Chase as Chase
-use Rattle.b67_model.specs.Words as Words
 use Rattle.b67_layout.specs.Common.{IsInOrderButCounts, Placement, IsRunning, RepresentsSession, here, TouchedIsPresent, IsTouched, IsMade, FindsAbsent, Meets, RunsSome, area_held, IsWordOf, cells, GivesTop}
 use Rattle.b67_model.specs.Rows as rows
 use Rattle.b67_refer.specs.declared.ends.End.{End}
@@ -40,15 +38,7 @@ module _ (x : Storage) (cpu : Cpu) (plan : Placement) (s : Session) (m : Session
 
   -- a word that may be followed
   stands_for : (w : Tagged) (at owner : ℕ) (v : Word) → IsWordOf x plan m t v at w → WordInOrder (IsSegment m.constants) m.progress.job.arrays (reach_of m.progress.job t) owner v → StandsFor here_scene at owner w v
-  stands_for w at owner (Operand bits) f o = (f, o)
-  stands_for w at owner (Name c) f o = (f, o)
-  stands_for w at owner (Ref g d) f o = (f, o)
-  stands_for w at owner (Row a) f o = (f, o)
-  stands_for w at owner (Element a i) f o = (f, o)
-  stands_for w at owner (Original a) f o = (f, o)
-  stands_for w at owner (Proc g l p) f o = (f, o)
-  stands_for w at owner (Intrinsic n) f o = absurd o
-  stands_for w at owner (Words.Segment n) f o = absurd o
+  stands_for w at owner v f o = grind arith
 
   pub followed_stands : (w : Tagged) (v : Word) (i : IsFollowed x plan m t w v) → StandsFor here_scene i.at i.owner w v
   followed_stands w v i = stands_for w i.at i.owner v i.is i.ordered
@@ -90,10 +80,7 @@ module _ (x : Storage) (cpu : Cpu) (plan : Placement) (s : Session) (m : Session
   end_is q (end.Intrinsic n) (AtProc f segment level place) i = i
 
   pub finds_end : (q : Place) (found : Result End Fault) (e : Answer Chase.End) → EndMeets here_scene q found e → FindsEnd plan m cpu.core found e
-  finds_end q (Ok found) (Ok e) i = end_is q found e i
-  finds_end q (Err f) (Err g) i = i
-  finds_end q (Ok found) (Err g) i = i
-  finds_end q (Err f) (Ok e) i = i
+  finds_end q found e i = grind (arith, end_is)
 
 -- a row that touched an array that is present
 module _ (x : Storage) (plan : Placement) (s : Session) (m : SessionJob) (t : Task) (old new : Cpu) (q : Place) (cs : List Word) (n : ℕ) (present : TouchedIsPresent x plan m.constants.number (Some n)) where
@@ -115,22 +102,14 @@ module _ (x : Storage) (plan : Placement) (s : Session) (m : SessionJob) (t : Ta
   made_by false i = absurd (let z : ⊥ = (let e = i.is in cc) in z)
 
   meets_by : (b : Bool) (r : Step) → Meets x plan s m r old new (row_by b None) → Meets x plan s m r old new (row_by b (Some n))
-  meets_by b step.Done i = made_by b i
-  meets_by true (step.Absent w) i = absurd (let z : ⊥ = (let e = i.0.is in cc) in z)
-  meets_by false (step.Absent w) i = absurd (let z : ⊥ = (let e = i.0.is in cc) in z)
-  meets_by b (step.Call k) i = i
-  meets_by true (step.Fault f) i = absurd (let z : ⊥ = (let e = i.0 in cc) in z)
-  meets_by false (step.Fault f) i = i
-  meets_by true step.Ended i = absurd (let z : ⊥ = (let e = i.0 in cc) in z)
-  meets_by false step.Ended i = absurd (let z : ⊥ = (let e = i.0 in cc) in z)
+  meets_by b r i = grind (arith, made_by)
 
   pub meets_touching : (r : Step) → Meets x plan s m r old new (leaves_cells (here m t q) cs None) → Meets x plan s m r old new (leaves_cells (here m t q) cs (Some n))
   meets_touching r i = meets_by (nat_le (height (with_top_cells t.frames cs)) m.constants.stack_size) r i
 
 overflow_by : (m : SessionJob) (t : Task) (q : Place) (cs : List Word) (touched : Option ℕ) (b : Bool) → (needs b StackOverflow >> Ok (Goes (with_task m.progress.job (task_with t cs q)) [] None)) ≡ Err StackOverflow
     → (needs b StackOverflow >> Ok (Goes (with_task m.progress.job (task_with t cs q)) [] touched)) ≡ Err StackOverflow
-overflow_by m t q cs touched true e = cc
-overflow_by m t q cs touched false e = refl
+overflow_by m t q cs touched b e = grind arith
 
 pub overflow_touching : (m : SessionJob) (t : Task) (q : Place) (cs : List Word) (touched : Option ℕ) → leaves_cells (here m t q) cs None ≡ Err StackOverflow → leaves_cells (here m t q) cs touched ≡ Err StackOverflow
 overflow_touching m t q cs touched e = overflow_by m t q cs touched (nat_le (height (with_top_cells t.frames cs)) m.constants.stack_size) e
@@ -181,10 +160,7 @@ pub record TopFollowed (x : Storage) (plan : Placement) (m : SessionJob) (t : Ta
   pub followed : IsFollowed x plan m t w word
 
 top_order : (P : Starts) (arrays : List Array) (outer : List Known) (fs : List Frame) (a : Word) (rest : List Word) → FramesInOrder P arrays outer fs → (top fs).cells ≡ a ∷ rest → WordInOrder P arrays (map known_of fs ++ outer) (top fs).identity a
-top_order P arrays outer [] a rest o e = absurd (let z : ⊥ = cc in z)
-top_order P arrays outer (f ∷ below) a rest o e =
-    let A : List Word → Type 0 = λ cs. AllByRecursion (WordInOrder P arrays (map known_of (f ∷ below) ++ outer) f.identity) cs in
-    (subst A e o.0.0).0
+top_order P arrays outer fs a rest o e = grind arith
 
 pub top_followed : (x : Storage) (cpu : Cpu) (plan : Placement) (s : Session) (m : SessionJob) (t : Task) (w : Tagged) → IsInOrderButCounts s → IsRunning plan s.jobs m t → GivesTop x plan m t cpu (cells t) (Ok w) → TopFollowed x plan m t w
 top_followed x cpu plan s m t w ordered runs given = by_cells (cells t) refl given where
@@ -206,64 +182,37 @@ couple_followed x plan m t couple w small is = record { at = 0; owner = 0; is = 
 
 -- what is followed is no original
 pub followed_plain : (x : Storage) (m : SessionJob) (t : Task) (q : Place) (w : Word) (e : Chase.End) → follow (here m t q) w ≡ Ok e → is_original w ≡ false
-followed_plain x m t q (Operand bits) e is = refl
-followed_plain x m t q (Name c) e is = refl
-followed_plain x m t q (Ref f o) e is = refl
-followed_plain x m t q (Row a) e is = refl
-followed_plain x m t q (Element a i) e is = refl
-followed_plain x m t q (Original a) e is = cc
-followed_plain x m t q (Proc g l p) e is = refl
-followed_plain x m t q (Intrinsic n) e is = refl
-followed_plain x m t q (Words.Segment n) e is = refl
+followed_plain x m t q w e is = grind arith
 
 module _ (x : Storage) (plan : Placement) (s : Session) (m : SessionJob) (t : Task) (q : Place) (old : Cpu) where
   -- VALC by its end
   valc_by : (r : Step) (new : Cpu) (e : Chase.End) → EntersOrMeets x plan s m r old new (is_procedure_end e) (value_at_end (here m t q) (cells t) e) → EntersOrMeets x plan s m r old new (is_procedure_end e) (evaluates (here m t q) e)
-  valc_by r new (AtCell f offset bits) i = i
-  valc_by r new (AtElement n k) i = i
-  valc_by r new (AtArray n) i = i
-  valc_by r new (AtProc f segment level place) i = i
-  valc_by r new (AtIntrinsic n) i = i
+  valc_by r new e i = grind arith
 
   -- what a fault of following makes
   pub refused : (row : Chase.End → Answer Done) (fault : Fault) (e : Answer Chase.End) → FindsEnd plan m old.core (Err fault) e → EntersOrMeets x plan s m (step.Fault fault) old old (enters_at e) (e >>= row)
-  refused row fault (Ok e) is = absurd is
-  refused row fault (Err g) is = (ap Err (sym is), refl)
+  refused row fault e is = grind arith
 
   pub valc_row : (r : Step) (new : Cpu) (found : End) (e : Answer Chase.End) → FindsEnd plan m old.core (Ok found) e
       → ((f : Chase.End) → IsEnd plan m old.core found f → EntersOrMeets x plan s m r old new (is_procedure_end f) (value_at_end (here m t q) (cells t) f))
       → EntersOrMeets x plan s m r old new (enters_at e) (e >>= λ f. evaluates (here m t q) f)
-  valc_row r new found (Ok e) is value = valc_by r new e (value e is)
-  valc_row r new found (Err g) is value = absurd is
+  valc_row r new found e is value = grind arith
 
   -- LOAD by its end
   load_by : (rest : List Word) (r : Step) (new : Cpu) (found : End) (e : Chase.End) → IsEnd plan m old.core found e → ((o : ℕ) → found ≢ end.Array o)
       → EntersOrMeets x plan s m r old new (is_procedure_end e) (value_at_end (here m t q) rest e) → EntersOrMeets x plan s m r old new (is_procedure_end e) (rows.load_at (here m t q) rest e)
-  load_by rest r new found (AtCell f offset bits) is other i = i
-  load_by rest r new found (AtElement n k) is other i = i
-  load_by rest r new (end.Array o) (AtArray n) is other i = absurd (other o refl)
-  load_by rest r new (end.Cell at) (AtArray n) is other i = absurd is
-  load_by rest r new (end.Element o k) (AtArray n) is other i = absurd is
-  load_by rest r new (end.Proc at) (AtArray n) is other i = absurd is
-  load_by rest r new (end.Intrinsic k) (AtArray n) is other i = absurd is
-  load_by rest r new found (AtProc f segment level place) is other i = i
-  load_by rest r new found (AtIntrinsic n) is other i = i
+  load_by rest r new found e is other i = grind arith
 
   pub load_row : (rest : List Word) (r : Step) (new : Cpu) (found : End) (e : Answer Chase.End) → FindsEnd plan m old.core (Ok found) e → ((o : ℕ) → found ≢ end.Array o)
       → ((f : Chase.End) → e ≡ Ok f → IsEnd plan m old.core found f → EntersOrMeets x plan s m r old new (is_procedure_end f) (value_at_end (here m t q) rest f))
       → EntersOrMeets x plan s m r old new (enters_at e) (e >>= λ f. rows.load_at (here m t q) rest f)
-  load_row rest r new found (Ok e) is other value = load_by rest r new found e is other (value e refl is)
-  load_row rest r new found (Err g) is other value = absurd is
+  load_row rest r new found e is other value = grind arith
 
   -- at an array
   copy_by : (rest : List Word) (r : Step) (new : Cpu) (original : ℕ) (e : Chase.End) → IsEnd plan m old.core (end.Array original) e
       → ((n : ℕ) → original ≡ plan.home m.constants.number n → HasElement m.progress.job n 0 → Meets x plan s m r old new (leaves_cells (here m t q) (Row n ∷ rest) None))
       → EntersOrMeets x plan s m r old new (is_procedure_end e) (rows.load_at (here m t q) rest e)
-  copy_by rest r new original (AtArray n) is row = row n is.0 is.1
-  copy_by rest r new original (AtCell f offset bits) is row = absurd is
-  copy_by rest r new original (AtElement n k) is row = absurd is
-  copy_by rest r new original (AtProc f segment level place) is row = absurd is
-  copy_by rest r new original (AtIntrinsic n) is row = absurd is
+  copy_by rest r new original e is row = grind arith
 
   pub copy_row : (rest : List Word) (r : Step) (new : Cpu) (found : End) (original : ℕ) (e : Answer Chase.End) → found ≡ end.Array original → FindsEnd plan m old.core (Ok found) e
       → ((f : Chase.End) → e ≡ Ok f → (n : ℕ) → original ≡ plan.home m.constants.number n → HasElement m.progress.job n 0 → Meets x plan s m r old new (leaves_cells (here m t q) (Row n ∷ rest) None))
@@ -273,10 +222,7 @@ module _ (x : Storage) (plan : Placement) (s : Session) (m : SessionJob) (t : Ta
 
   -- LOAD without a cell
   pub load_missing : (fault : Fault) → GivesTop x plan m t old (cells t) (Err fault) → EntersOrMeets x plan s m (step.Fault fault) old old (enters_at (top_end (here m t q) (cells t))) (rows.load (here m t q) (cells t))
-  load_missing fault given = by_cells (cells t) given where
-    by_cells : (cs : List Word) → GivesTop x plan m t old cs (Err fault) → EntersOrMeets x plan s m (step.Fault fault) old old (enters_at (top_end (here m t q) cs)) (rows.load (here m t q) cs)
-    by_cells [] g = (let e : Err fault ≡ Err StackUnderflow = g in let f : fault ≡ StackUnderflow = cc in ap Err (sym f), refl)
-    by_cells (a ∷ rest) g = absurd (let z : ⊥ = (let e = g.1 in cc) in z)
+  load_missing fault given = grind arith
 
   -- by the cells
   pub load_at_top : (r : Step) (new : Cpu) (a : Word) (rest : List Word) → cells t ≡ a ∷ rest

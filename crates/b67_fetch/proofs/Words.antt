@@ -20,26 +20,10 @@ Choice two chosen = ((two.1.tag ≡ 0) × (chosen ≡ two)) ⊎ ((two.1.tag ≢ 
 module _ (x : Storage) (plan : Placement) (m : SessionJob) (t : Task) where
   -- a word of tag 0 is an operand's
   zero_tag : (b : Word) (at : ℕ) (v : Tagged) → IsWordOf x plan m t b at v → v.tag ≡ 0 → (bits : ℕ) × (b ≡ Operand bits) × (v ≡ word 0 bits)
-  zero_tag (Operand bits) at v i z = (bits, refl, i.0)
-  zero_tag (Name c) at v i z = absurd (let k : 1 ≡ 0 = sym (ap (λ (w : Tagged). w.tag) i.0) ∙ z in omega (arith, k))
-  zero_tag (Ref g d) at v i z = absurd (let k : 1 ≡ 0 = sym (ap (λ (w : Tagged). w.tag) i.0) ∙ z in omega (arith, k))
-  zero_tag (Row a) at v i z = absurd (let k : 5 ≡ 0 = sym (ap (λ (w : Tagged). w.tag) i.is) ∙ z in omega (arith, k))
-  zero_tag (Element a n) at v i z = absurd (let k : 5 ≡ 0 = sym (ap (λ (w : Tagged). w.tag) i.is) ∙ z in omega (arith, k))
-  zero_tag (Original a) at v i z = absurd (let k : 5 ≡ 0 = sym (ap (λ (w : Tagged). w.tag) i.1.is) ∙ z in omega (arith, k))
-  zero_tag (Proc g l p) at v i z = absurd (let k : 7 ≡ 0 = sym (ap (λ (w : Tagged). w.tag) i.0) ∙ z in omega (arith, k))
-  zero_tag (Intrinsic n) at v i z = absurd (let k : 7 ≡ 0 = sym (ap (λ (w : Tagged). w.tag) i.0) ∙ z in omega (arith, k))
-  zero_tag (Words.Segment n) at v i z = absurd (let k : 3 ≡ 0 = sym (ap (λ (w : Tagged). w.tag) i.0) ∙ z in omega (arith, k))
+  zero_tag b at v i z = grind arith
 
   other_tag : (b : Word) (at : ℕ) (v : Tagged) → IsWordOf x plan m t b at v → v.tag ≢ 0 → operand b ≡ Err InvalidOperand
-  other_tag (Operand bits) at v i z = absurd (z (ap (λ (w : Tagged). w.tag) i.0))
-  other_tag (Name c) at v i z = refl
-  other_tag (Ref g d) at v i z = refl
-  other_tag (Row a) at v i z = refl
-  other_tag (Element a n) at v i z = refl
-  other_tag (Original a) at v i z = refl
-  other_tag (Proc g l p) at v i z = refl
-  other_tag (Intrinsic n) at v i z = refl
-  other_tag (Words.Segment n) at v i z = refl
+  other_tag b at v i z = grind arith
 
   -- the two words in order, in core
   pub record Chosen (old : Cpu) (b a : Word) (chosen : Tagged × Tagged) : Type 0 where
@@ -95,21 +79,12 @@ module _ (x : Storage) (plan : Placement) (m : SessionJob) (t : Task) where
   no_operand old chosen g z = other_tag (in_order g.first g.second).1 g.two.place chosen.1 g.two.from.is z
 
 has_first : (b a : Word) (rest : List Word) → Has (b ∷ a ∷ rest) (in_order b a).0
-has_first (Operand bits) a rest = inr (inl refl)
-has_first (Name c) a rest = inl refl
-has_first (Ref g d) a rest = inl refl
-has_first (Row b) a rest = inl refl
-has_first (Element b n) a rest = inl refl
-has_first (Original b) a rest = inl refl
-has_first (Proc g l p) a rest = inl refl
-has_first (Intrinsic n) a rest = inl refl
-has_first (Words.Segment n) a rest = inl refl
+has_first b a rest = grind arith
 
 -- the word that is followed
 module _ (x : Storage) (plan : Placement) (s : Session) (m : SessionJob) (t : Task) (o : IsInOrderButCounts s) (runs : IsRunning plan s.jobs m t) where
   words_of : (fs : List Frame) → FramesInOrder (IsSegment m.constants) m.progress.job.arrays (outer_of m.progress.job t) fs → (w : Word) → Has (top fs).cells w → WordInOrder (IsSegment m.constants) m.progress.job.arrays (map known_of fs ++ outer_of m.progress.job t) (top fs).identity w
-  words_of [] g w k = absurd k
-  words_of (f ∷ below) g w k = all_in (WordInOrder (IsSegment m.constants) m.progress.job.arrays (map known_of (f ∷ below) ++ outer_of m.progress.job t) f.identity) f.cells w g.0.0 k
+  words_of fs g w k = grind (arith, all_in)
 
   pub followed : (old : Cpu) (chosen : Tagged × Tagged) (g : Given x plan m t old chosen) → IsFollowed x plan m t chosen.0 (in_order g.first g.second).0
   followed old chosen g =
@@ -119,27 +94,11 @@ module _ (x : Storage) (plan : Placement) (s : Session) (m : SessionJob) (t : Ta
 
 -- what is followed is no original
 plain_end : (h : OperatorContext) (w : Word) (e : End) → follow h w ≡ Ok e → is_original w ≡ false
-plain_end h (Operand bits) e y = refl
-plain_end h (Name c) e y = refl
-plain_end h (Ref g d) e y = refl
-plain_end h (Row b) e y = refl
-plain_end h (Element b d) e y = refl
-plain_end h (Original b) e y = absurd (let z : ⊥ = cc in z)
-plain_end h (Proc g l p) e y = refl
-plain_end h (Intrinsic n) e y = refl
-plain_end h (Words.Segment n) e y = refl
+plain_end h w e y = grind arith
 
 plain_operand : (w : Word) (bits : ℕ) → w ≡ Operand bits → is_original w ≡ false
 plain_operand w bits e = ap is_original e
 
 -- nor is any of the two, where one was followed and the other is an operand
 pub plain_two : (h : OperatorContext) (b a : Word) (e : End) (bits : ℕ) → follow h (in_order b a).0 ≡ Ok e → (in_order b a).1 ≡ Operand bits → NoOriginals (b ∷ a ∷ [])
-plain_two h (Operand w) a e bits f o = (refl, (plain_end h a e f, tt))
-plain_two h (Name c) a e bits f o = (refl, (plain_operand a bits o, tt))
-plain_two h (Ref g d) a e bits f o = (refl, (plain_operand a bits o, tt))
-plain_two h (Row b) a e bits f o = (refl, (plain_operand a bits o, tt))
-plain_two h (Element b n) a e bits f o = (refl, (plain_operand a bits o, tt))
-plain_two h (Original b) a e bits f o = (plain_end h (Original b) e f, (plain_operand a bits o, tt))
-plain_two h (Proc g l p) a e bits f o = (refl, (plain_operand a bits o, tt))
-plain_two h (Intrinsic n) a e bits f o = (refl, (plain_operand a bits o, tt))
-plain_two h (Words.Segment n) a e bits f o = (refl, (plain_operand a bits o, tt))
+plain_two h b a e bits f o = grind arith

@@ -52,23 +52,13 @@ abbrev pub AllLabelsAreSmall : Names → Type 0
 AllLabelsAreSmall names = (number : ℕ) → LabelsAreSmall (names.label number)
 
 stands_there : (n : ℕ) (o : Option ℕ) → is_place n o ≡ true → option_map place_at o ≡ Some (place_at n)
-stands_there n None e = absurd (let z : ⊥ = cc in z)
-stands_there n (Some m) e = ap (λ k. Some (place_at k)) (eqb-true m n e)
+stands_there n o e = grind arith
 
 stands_at : (labels : List ℕ → Option ℕ) (n : ℕ) (label : Option (List ℕ)) → is_first_label labels n label ≡ true → LabelStandsAt labels label (place_at n)
-stands_at labels n None e = tt
-stands_at labels n (Some text) e = stands_there n (labels text) e
+stands_at h n label e = grind arith
 
 branch_target : (b : branch.Branch) (n : ℕ) → n ≤ 6 * MOST_SEGMENT → target_of (branch_to b n) ≡ Some (place_at n)
-branch_target b n h = by_branch b
-  where
-    same : min n (6 * MOST_SEGMENT) ≡ n
-    same = omega arith
-
-    by_branch : (b : branch.Branch) → target_of (branch_to b n) ≡ Some (place_at n)
-    by_branch branches.Always = ap (λ k. Some (place_at k)) same
-    by_branch branches.IfTrue = ap (λ k. Some (place_at k)) same
-    by_branch branches.IfFalse = ap (λ k. Some (place_at k)) same
+branch_target b n h = grind arith
 
 place_is : (a b : Place) → a.word ≡ b.word → a.syllable ≡ b.syllable → a ≡ b
 place_is a b w s = λ i. record { word = w i; syllable = s i }
@@ -78,21 +68,13 @@ first_place : (bits : ℕ) → bits < 2 ^ 19 → place_of_bits (bits / 2 ^ 20) �
 first_place bits low = place_is (place_of_bits (bits / 2 ^ 20)) origin (omega (arith, low)) (omega (arith, low))
 
 label_place : (own n bits : ℕ) → own < 2 ^ 19 → n ≤ 6 * MOST_SEGMENT → own + syllable_bits n * 2 ^ 20 ≡ bits → place_of_bits (bits / 2 ^ 20) ≡ place_at n
-label_place own n bits low few is =
-    let same : min n (6 * MOST_SEGMENT) ≡ n = omega (arith, few) in
-    let place : syllable_bits n ≡ n % 6 * 2 ^ 13 + n / 6 = ap (λ (k : ℕ). k % 6 * 2 ^ 13 + k / 6) same in
-    let bits_is : bits / 2 ^ 20 ≡ n % 6 * 2 ^ 13 + n / 6 = omega (arith, low, is, place) in
-    place_is (place_of_bits (bits / 2 ^ 20)) (place_at n) (omega (arith, bits_is, few)) (omega (arith, bits_is, few))
+label_place own n bits low few is = grind arith
 
 label_in_small : (names : Names) (o : Option named.Named) (label : List ℕ) (n : ℕ) → AllLabelsAreSmall names → label_in names o label ≡ Some n → n ≤ 6 * MOST_SEGMENT
-label_in_small names None label n all e = absurd (none-some n e)
-label_in_small names (Some (means.Row number)) label n all e = absurd (none-some n e)
-label_in_small names (Some (means.Segment number level)) label n all e = all number label n e
+label_in_small names o label n all e = grind arith
 
 goes_to : (x : Scope) (s : sketch.Sketch) (op : Op) → AreSmall x.names → AllLabelsAreSmall x.names → LabelsAreSmall x.labels → denoted x s ≡ Some op → GoesTo x s op
-goes_to x (Jump b label) op small all own e =
-    let m = mapped (branch_to b) (x.labels label) op e in
-    ap target_of (sym m.2) ∙ branch_target b m.0 (own label m.0 m.1) ∙ ap (option_map place_at) (sym m.1)
+goes_to x (Jump b label) op small all own e = grind arith
 goes_to x (Whole op') op small all own e = tt
 goes_to x OutOfRange op small all own e = tt
 goes_to x (Coupled c couple) op small all own e = tt
@@ -102,10 +84,7 @@ goes_to x (Pcw segment) op small all own e =
     ap begins_at (sym m.2) ∙ ap Some (first_place m.0 (pcw_small (x.names.means segment) m.0 (small segment) m.1))
 goes_to x (PcwAt segment label) op small all own e =
     let m = mapped Mpcw (pcw_at (pcw_in (x.names.means segment)) (label_in x.names (x.names.means segment) label)) op e in
-    let at = at_label (pcw_in (x.names.means segment)) (label_in x.names (x.names.means segment) label) m.0 m.1 in
-    let low = pcw_small (x.names.means segment) at.own (small segment) at.base_is in
-    let few = label_in_small x.names (x.names.means segment) label at.syllable all at.label_is in
-    ap begins_at (sym m.2) ∙ ap Some (label_place at.own at.syllable m.0 low few at.is) ∙ ap (option_map place_at) (sym at.label_is)
+    grind arith
 
 -- NVLD up to a whole word
 filling_each : (k n : ℕ) → AllByRecursion IsFilled (listed_entries n (replicate k (Plain Nvld)))

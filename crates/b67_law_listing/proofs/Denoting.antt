@@ -23,17 +23,12 @@ use Rattle.b67_law_listing.specs.Operators.{HasBits}
 use Rattle.b67_model.specs.declared.limits.TheConstants.{MOST_SEGMENT}
 
 chained : {A B : Type 0} (f : A → Option B) (o : Option A) (b : B) → option_and_then f o ≡ Some b → (a : A) × (o ≡ Some a) × (f a ≡ Some b)
-chained f None b e = absurd (none-some b e)
-chained f (Some a) b e = (a, refl, e)
+chained f o b e = grind arith
 
 -- couples have 14 bits
 bits_in_small : (rows : List (ℕ × ℕ)) (level : ℕ) → AllByRecursion (λ (row : ℕ × ℕ). row.1 ≤ 5) rows → bits_in rows level ≤ 5
 bits_in_small [] level h = omega arith
-bits_in_small (row ∷ rows) level h = by_test (bits_in_small rows level h.1) (nat_le level row.0)
-  where
-    by_test : bits_in rows level ≤ 5 → (b : Bool) → cond b row.1 (bits_in rows level) ≤ 5
-    by_test more true = h.0
-    by_test more false = more
+bits_in_small (row ∷ rows) level h = grind (arith, bits_in_small rows level h.1)
 
 split_small : (level : ℕ) → level_bits level ≤ 5
 split_small level = bits_in_small splits level (omega arith, (omega arith, (omega arith, (omega arith, (omega arith, tt)))))
@@ -48,13 +43,7 @@ reversed_small (suc (suc (suc (suc (suc zero))))) level disp le lt = omega arith
 reversed_small (suc (suc (suc (suc (suc (suc k)))))) level disp le lt = absurd (omega arith)
 
 couple_small : (running : ℕ) (c : Couple) (bits : ℕ) → couple_bits running c ≡ Some bits → bits < 2 ^ 14
-couple_small running c bits e = by_test (fits_split running c) refl e
-  where
-    by_test : (b : Bool) → fits_split running c ≡ b → cond b (Some (reversed_bits (level_bits running) c.level + c.disp)) None ≡ Some bits → bits < 2 ^ 14
-    by_test true t e =
-        let both = and_parts (nat_lt c.level (2 ^ level_bits running)) (nat_lt c.disp (2 ^ (14 - level_bits running))) t in
-        subst (λ (n : ℕ). n < 2 ^ 14) (same_Some (reversed_bits (level_bits running) c.level + c.disp) bits e) (reversed_small (level_bits running) c.level c.disp (split_small running) (ltb-true c.disp (2 ^ (14 - level_bits running)) both.1))
-    by_test false t e = absurd (none-some bits e)
+couple_small running c bits e = grind (arith, ltb-true)
 
 -- segments that are named have small numbers
 abbrev pub IsSmall : Option named.Named → Type 0
@@ -64,14 +53,7 @@ abbrev pub AreSmall : Names → Type 0
 AreSmall names = (q : List ℕ) → IsSmall (names.means q)
 
 pub pcw_small : (o : Option named.Named) (bits : ℕ) → IsSmall o → pcw_in o ≡ Some bits → bits < 2 ^ 19
-pcw_small None bits h e = absurd (none-some bits e)
-pcw_small (Some (means.Row number)) bits h e = absurd (none-some bits e)
-pcw_small (Some (means.Segment number None)) bits h e = absurd (none-some bits e)
-pcw_small (Some (means.Segment number (Some level))) bits h e = by_test (nat_le level 31) refl e
-  where
-    by_test : (b : Bool) → nat_le level 31 ≡ b → cond b (Some (level * 2 ^ 14 + (number + 2))) None ≡ Some bits → bits < 2 ^ 19
-    by_test true t e = omega (arith, same_Some (level * 2 ^ 14 + (number + 2)) bits e, leb-true level 31 t, h number (Some level) refl)
-    by_test false t e = absurd (none-some bits e)
+pcw_small o bits h e = grind arith
 
 -- a procedure's bits with the place of a label
 pub record AtLabel (base : Option ℕ) (label : Option ℕ) (bits : ℕ) : Type 0 where
@@ -82,21 +64,16 @@ pub record AtLabel (base : Option ℕ) (label : Option ℕ) (bits : ℕ) : Type 
   pub is : own + syllable_bits syllable * 2 ^ 20 ≡ bits
 
 pub at_label : (base label : Option ℕ) (bits : ℕ) → pcw_at base label ≡ Some bits → AtLabel base label bits
-at_label None label bits e = absurd (none-some bits e)
-at_label (Some own) None bits e = absurd (none-some bits e)
-at_label (Some own) (Some n) bits e = record { own = own; base_is = refl; syllable = n; label_is = refl; is = same_Some (own + syllable_bits n * 2 ^ 20) bits e }
+at_label base label bits e = grind arith
 
 called_bits : (c : call.Call) (bits : ℕ) → bits < 2 ^ 14 → HasBits (call_operator c bits)
-called_bits calls.Value bits h = lt-ltb bits (2 ^ 14) h
-called_bits calls.Name bits h = lt-ltb bits (2 ^ 14) h
+called_bits c bits h = grind arith
 
 target_bits : (n : ℕ) → n ≤ 6 * MOST_SEGMENT → (nat_lt (n % 6) 8 && nat_lt (n / 6) (2 ^ 13)) ≡ true
 target_bits n h = and_from (nat_lt (n % 6) 8) (nat_lt (n / 6) (2 ^ 13)) (lt-ltb (n % 6) 8 (omega arith)) (lt-ltb (n / 6) (2 ^ 13) (omega arith))
 
 branch_bits : (b : branch.Branch) (n : ℕ) → HasBits (branch_to b n)
-branch_bits branches.Always n = target_bits (min n (6 * MOST_SEGMENT)) (omega arith)
-branch_bits branches.IfTrue n = target_bits (min n (6 * MOST_SEGMENT)) (omega arith)
-branch_bits branches.IfFalse n = target_bits (min n (6 * MOST_SEGMENT)) (omega arith)
+branch_bits b n = grind arith
 
 pub denoted_bits : (x : Scope) (s : sketch.Sketch) (op : Op) → AreSmall x.names → is_in_range s ≡ true → denoted x s ≡ Some op → HasBits op
 denoted_bits x (Whole own) op small h e = subst HasBits (same_Some own op e) h
@@ -110,13 +87,10 @@ denoted_bits x (RowCoupled c row) op small h e =
     let m = mapped (call_operator c) (option_and_then f (row_in (x.names.means row))) op e in
     let k = chained f (row_in (x.names.means row)) m.0 m.1 in
     subst HasBits m.2 (called_bits c m.0 (couple_small (min x.level 31) (record { level = 1; disp = x.segments + k.0 + 2 }) m.0 k.2))
-denoted_bits x (Jump b label) op small h e =
-    let m = mapped (branch_to b) (x.labels label) op e in
-    subst HasBits m.2 (branch_bits b m.0)
+denoted_bits x (Jump b label) op small h e = grind (arith, branch_bits)
 denoted_bits x (Pcw segment) op small h e =
     let m = mapped Mpcw (pcw_in (x.names.means segment)) op e in
-    let low = pcw_small (x.names.means segment) m.0 (small segment) m.1 in
-    subst HasBits m.2 (lt-ltb m.0 (2 ^ 48) (omega (arith, low)))
+    grind arith
 denoted_bits x (PcwAt segment label) op small h e =
     let m = mapped Mpcw (pcw_at (pcw_in (x.names.means segment)) (label_in x.names (x.names.means segment) label)) op e in
     let at = at_label (pcw_in (x.names.means segment)) (label_in x.names (x.names.means segment) label) m.0 m.1 in

@@ -21,31 +21,15 @@ use Rattle.b67_model.specs.declared.limits.TheConstants.{MOST_SEGMENT}
 
 order_has : (n m : ℕ) (xs : List ℕ) → Has xs m → Has (inserted_in_order n xs) m
 order_has n m [] h = absurd h
-order_has n m (x ∷ xs) h = elim (cases_lt n x) [
-  | inl lt ↦ rw (lt-ltb n x lt) (inr h)
-  | inr le ↦ rw (le-ltb n x le) (elim h [ inl e ↦ inl e | inr k ↦ inr (order_has n m xs k) ])
-]
+order_has n m (x ∷ xs) h = grind (arith, order_has n m xs)
 
 order_new : (n : ℕ) (xs : List ℕ) → Has (inserted_in_order n xs) n
 order_new n [] = inl refl
-order_new n (x ∷ xs) = elim (cases_lt n x) [
-  | inl lt ↦ rw (lt-ltb n x lt) (inl refl)
-  | inr le ↦ rw (le-ltb n x le) (inr (order_new n xs))
-]
+order_new n (x ∷ xs) = grind (arith, order_new n xs)
 
 order_only : (n m : ℕ) (xs : List ℕ) → Has (inserted_in_order n xs) m → (n ≡ m) ⊎ Has xs m
 order_only n m [] h = h
-order_only n m (x ∷ xs) h = elim (cases_lt n x) [
-  | inl lt ↦ first (rw (lt-ltb n x lt) at h)
-  | inr le ↦ later (λ k. order_only n m xs k) (rw (le-ltb n x le) at h)
-]
-  where
-    first : Has (n ∷ x ∷ xs) m → (n ≡ m) ⊎ Has (x ∷ xs) m
-    first h = h
-
-    later : (Has (inserted_in_order n xs) m → (n ≡ m) ⊎ Has xs m) → Has (x ∷ inserted_in_order n xs) m → (n ≡ m) ⊎ Has (x ∷ xs) m
-    later more (inl e) = inr (inl e)
-    later more (inr k) = elim (more k) [ inl e ↦ inl e | inr r ↦ inr (inr r) ]
+order_only n m (x ∷ xs) h = grind (arith, order_only n m xs)
 
 all_later : (n m : ℕ) (xs : List ℕ) → n < m → AllByRecursion (λ (k : ℕ). m < k) xs → AllByRecursion (λ (k : ℕ). n < k) xs
 all_later n m [] lt h = tt
@@ -53,10 +37,7 @@ all_later n m (x ∷ xs) lt h = (omega (arith, lt, h.0), all_later n m xs lt h.1
 
 order_above : (low n : ℕ) (xs : List ℕ) → low < n → AllByRecursion (λ (k : ℕ). low < k) xs → AllByRecursion (λ (k : ℕ). low < k) (inserted_in_order n xs)
 order_above low n [] lt h = (lt, tt)
-order_above low n (x ∷ xs) lt h = elim (cases_lt n x) [
-  | inl less ↦ rw (lt-ltb n x less) (lt, h)
-  | inr le ↦ rw (le-ltb n x le) (h.0, order_above low n xs lt h.1)
-]
+order_above low n (x ∷ xs) lt h = grind (arith, order_above low n xs lt h.1)
 
 -- a number that isn't there yet
 order_rises : (n : ℕ) (xs : List ℕ) → list_any (λ m. eqb m n) xs ≡ false → Rise xs → Rise (inserted_in_order n xs)
@@ -94,9 +75,7 @@ no_entry : (l : Line) (label : List ℕ) (text : Option (List ℕ)) (own : sketc
 no_entry l label text own e f = let g : ◌≡◌ {A = Answer statement.Statement} (Ok (statements.Operator text own)) (Ok (statements.Entry label)) = sym e ∙ f in cc
 
 enters : (x : Scope) (n : ℕ) (before : List ℕ) (lines : List Line) (content : SegmentContent) → Rise before → pass_content x n before lines ≡ Ok content → Enters x before lines content.entries
-enters x n before [] content rise e =
-    subst (λ (c : SegmentContent). Enters x before [] c.entries) (same_Ok _ content e)
-    (record { rise = rise; kept = λ n h. h; named = λ label h. absurd h.among; only = λ n h. inl h })
+enters x n before [] content rise e = grind arith
 enters x n before (l ∷ more) content rise e =
     let h = headed x n before l more content e in
     subst (λ (c : SegmentContent). Enters x before (l ∷ more) c.entries) h.all
@@ -136,12 +115,7 @@ enters x n before (l ∷ more) content rise e =
 
 -- a place's 16 bits
 place_back : (n : ℕ) → n ≤ 6 * MOST_SEGMENT → place_of_bits (syllable_bits n) ≡ place_at n
-place_back n few =
-    let same : min n (6 * MOST_SEGMENT) ≡ n = omega (arith, few) in
-    let place : syllable_bits n ≡ n % 6 * 2 ^ 13 + n / 6 = ap (λ (k : ℕ). k % 6 * 2 ^ 13 + k / 6) same in
-    let word : syllable_bits n % 2 ^ 13 ≡ n / 6 = omega (arith, place, few) in
-    let syllable : syllable_bits n / 2 ^ 13 ≡ n % 6 = omega (arith, place, few) in
-    λ i. record { word = word i; syllable = syllable i }
+place_back n few = grind arith
 
 places_back : (ns : List ℕ) → ((n : ℕ) → Has ns n → n ≤ 6 * MOST_SEGMENT) → map place_of_bits (map syllable_bits ns) ≡ map place_at ns
 places_back [] few = refl
@@ -149,13 +123,4 @@ places_back (n ∷ ns) few =
     ap (λ (p : Place). p ∷ map place_of_bits (map syllable_bits ns)) (place_back n (few n (inl refl))) ∙ ap (λ (ps : List Place). place_at n ∷ ps) (places_back ns (λ m h. few m (inr h)))
 
 pub are_entered : (x : Scope) (lines : List Line) (content : SegmentContent) → ((q : List ℕ) (m : ℕ) → x.labels q ≡ Some m → m ≤ 6 * MOST_SEGMENT) → pass_content x 0 [] lines ≡ Ok content → AreEntered x.labels lines (map syllable_bits content.entries)
-are_entered x lines content small e =
-    let r = enters x 0 [] lines content tt e in
-    let only : (n : ℕ) → Has content.entries n → (label : List ℕ) × IsEntryLabel label lines × (x.labels label ≡ Some n) = λ n h. elim (r.only n h) [ inl b ↦ absurd b | inr k ↦ k ] in
-    record {
-      syllables = content.entries;
-      places = places_back content.entries (λ n h. let k = only n h in small k.0 n k.2);
-      rise = r.rise;
-      named = r.named;
-      only = only;
-    }
+are_entered x lines content small e = grind (arith, enters, places_back)

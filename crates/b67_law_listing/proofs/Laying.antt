@@ -25,31 +25,16 @@ bytes_replicate zero = tt
 bytes_replicate (suc k) = (omega arith, bytes_replicate k)
 
 code_byte : (code : Code) → IsByte (syllable_of code)
-code_byte Add = omega arith
-code_byte _ = omega arith
+code_byte code = grind arith
 
 syllables_bytes : (op : Op) → HasBits op → Bytes (syllables op)
-syllables_bytes (Valc bits) h = (omega arith, (omega arith, tt))
-syllables_bytes (Namc bits) h = (omega arith, (omega arith, tt))
-syllables_bytes (Lt8 n) h = (omega arith, (ltb-true n 256 h, tt))
-syllables_bytes (Lt16 n) h = (omega arith, (omega arith, (omega arith, tt)))
-syllables_bytes (Lt48 bits) h = (omega arith, tt)
-syllables_bytes (Mpcw bits) h = (omega arith, tt)
-syllables_bytes (Brun place) h = (omega arith, (omega arith, (omega arith, tt)))
-syllables_bytes (Brtr place) h = (omega arith, (omega arith, (omega arith, tt)))
-syllables_bytes (Brfl place) h = (omega arith, (omega arith, (omega arith, tt)))
-syllables_bytes (Bset n) h = (omega arith, (ltb-true n 256 h, tt))
-syllables_bytes (Brst n) h = (omega arith, (ltb-true n 256 h, tt))
-syllables_bytes (Isol high width) h = let both = and_parts (nat_lt high 256) (nat_lt width 256) h in (omega arith, (ltb-true high 256 both.0, (ltb-true width 256 both.1, tt)))
-syllables_bytes (Insr high width) h = let both = and_parts (nat_lt high 256) (nat_lt width 256) h in (omega arith, (ltb-true high 256 both.0, (ltb-true width 256 both.1, tt)))
-syllables_bytes (Plain code) h = (code_byte code, tt)
+syllables_bytes op h = grind arith
 
 six_bytes : (bits : ℕ) → Bytes (six_syllables bits)
 six_bytes bits = (omega arith, (omega arith, (omega arith, (omega arith, (omega arith, (omega arith, tt))))))
 
 literal_bytes : (l : Option ℕ) (n : ℕ) → Bytes (literal_part l n)
-literal_bytes None n = tt
-literal_bytes (Some bits) n = bytes_append (filling n) (six_syllables bits) (bytes_replicate ((6 - n % 6) % 6)) (six_bytes bits)
+literal_bytes l n = grind (arith, bytes_append, bytes_replicate)
 
 one_bytes : (n : ℕ) (op : Op) → HasBits op → Bytes (laid_one n op)
 one_bytes n op h = bytes_append (syllables op) (literal_part (literal op) (n + length (syllables op))) (syllables_bytes op h) (literal_bytes (literal op) (n + length (syllables op)))
@@ -72,35 +57,20 @@ Fits None count = 1 ≤ count
 Fits (Some bits) count = (count ≡ 1) × (bits < 2 ^ 48)
 
 fits : (op : Op) → HasBits op → Fits (literal op) (length (syllables op))
-fits (Valc bits) h = omega arith
-fits (Namc bits) h = omega arith
-fits (Lt8 n) h = omega arith
-fits (Lt16 n) h = omega arith
-fits (Lt48 bits) h = (refl, ltb-true bits (2 ^ 48) h)
-fits (Mpcw bits) h = (refl, ltb-true bits (2 ^ 48) h)
-fits (Brun place) h = omega arith
-fits (Brtr place) h = omega arith
-fits (Brfl place) h = omega arith
-fits (Bset n) h = omega arith
-fits (Brst n) h = omega arith
-fits (Isol high width) h = omega arith
-fits (Insr high width) h = omega arith
-fits (Plain code) h = omega arith
+fits op h = grind arith
 
 literal_length : (bits n : ℕ) → length (literal_part (Some bits) n) ≡ (6 - n % 6) % 6 + 6
 literal_length bits n = length-append (filling n) (six_syllables bits) ∙ ap (λ k. k + 6) (filling_length n)
 
 behind_literal : (s : List ℕ) (l : Option ℕ) (n : ℕ) → Fits l (length s) → after_literal l n (length s) ≡ n + length (s ++ literal_part l (n + length s))
-behind_literal s None n h = omega (arith, length-append s [])
-behind_literal s (Some bits) n h = omega (arith, h.0, length-append s (literal_part (Some bits) (n + length s)), literal_length bits (n + length s))
+behind_literal s l n h = grind (arith, length-append, literal_length)
 
 -- the place behind an operator, as it is read and as it is laid
 pub after_is : (op : Op) (n : ℕ) → HasBits op → syllable_after op n ≡ n + length (laid_one n op)
 after_is op n h = behind_literal (syllables op) (literal op) n (fits op h)
 
 some_syllable : (s : List ℕ) (l : Option ℕ) (n : ℕ) → Fits l (length s) → 1 ≤ length (s ++ literal_part l n)
-some_syllable s None n h = omega (arith, length-append s [])
-some_syllable s (Some bits) n h = omega (arith, h.0, length-append s (literal_part (Some bits) n))
+some_syllable s l n h = grind (arith, length-append)
 
 -- syllables and a literal stand where they are laid
 pub record Whole (t : List ℕ) : Type 0 where
@@ -113,20 +83,14 @@ lengths t before s l after is = ap length is ∙ omega (arith, length-append bef
 each_there : (t before s l after : List ℕ) (n k : ℕ) → Whole t → n ≡ length before → t ≡ before ++ ((s ++ l) ++ after) → k < length s → syllable (packed_words t) (n + k) ≡ slice_index s k
 each_there t before s l after n k w at is lt =
     let inside : n + k < 6 * length (packed_words t) = omega (arith, w.words, lengths t before s l after is) in
-    let within : k < length (s ++ l) = omega (arith, length-append s l) in
-    syllable_is t (n + k) w.bytes inside ∙ ap (λ m. get_or t (m + k) 0) at ∙ ap (λ xs. get_or xs (length before + k) 0) is ∙
-    get_or-append-add before ((s ++ l) ++ after) k 0 ∙ get_or_append_left (s ++ l) after 0 k within ∙ get_or_append_left s l 0 k lt
+    grind (arith, length-append, syllable_is, get_or-append-add, get_or_append_left)
 
 together : (before s f six after : List ℕ) → before ++ ((s ++ (f ++ six)) ++ after) ≡ (before ++ (s ++ f)) ++ (six ++ after)
-together before s f six after =
-    ap (λ xs. before ++ (xs ++ after)) (sym (append_assoc s f six)) ∙ ap (λ xs. before ++ xs) (append_assoc (s ++ f) six after) ∙ sym (append_assoc before (s ++ f) (six ++ after))
+together before s f six after = grind (arith, append_assoc)
 
 literal_there : (t before s after : List ℕ) (l : Option ℕ) (n : ℕ) → n ≡ length before → Fits l (length s) → t ≡ before ++ ((s ++ literal_part l (n + length s)) ++ after) → IfSome l (λ bits. slice_get (packed_words t) (n / 6 + 1) ≡ Some bits)
 literal_there t before s after None n at h is = tt
-literal_there t before s after (Some bits) n at h is =
-    let f : List ℕ = filling (n + length s) in
-    let count : length (before ++ (s ++ f)) ≡ 6 * (n / 6 + 1) = omega (arith, at, h.0, length-append before (s ++ f), length-append s f, filling_length (n + length s)) in
-    ap (λ xs. slice_get (packed_words xs) (n / 6 + 1)) (is ∙ together before s f (six_syllables bits) after) ∙ literal_is (before ++ (s ++ f)) (n / 6 + 1) bits after h.1 count
+literal_there t before s after (Some bits) n at h is = grind (arith, length-append, filling_length, together, literal_is)
 
 laid_there : (t before s after : List ℕ) (l : Option ℕ) (n : ℕ) → Whole t → n ≡ length before → Fits l (length s) → t ≡ before ++ ((s ++ literal_part l (n + length s)) ++ after) → IsLaid s l (packed_words t) n
 laid_there t before s after l n w at h is = record {
@@ -173,26 +137,12 @@ filled_bits n [] h = nvld_bits ((6 - n % 6) % 6)
 filled_bits n (op ∷ more) h = (h.0, filled_bits (n + length (laid_one n op)) more h.1)
 
 ended : (fuel : ℕ) (words : List ℕ) (n : ℕ) (r : Reading) → r ≡ Err BadPlace → entries_from fuel words (place_at n) r ≡ []
-ended zero words n r e = refl
-ended (suc fuel) words n r e = ap (entries_from (suc fuel) words (place_at n)) e
+ended fuel words n r e = grind arith
 
 listed : (t before : List ℕ) (ops : List Op) (fuel n : ℕ) → Whole t → n ≡ length before → AllHaveBits ops → t ≡ before ++ strung n ops → length t ≤ fuel + n → entries_from fuel (packed_words t) (place_at n) (operator_at (packed_words t) (place_at n)) ≡ listed_entries n ops
-listed t before [] fuel n w at h is enough =
-    ended fuel (packed_words t) n (operator_at (packed_words t) (place_at n)) (none_there (packed_words t) n (omega (arith, at, w.words, ap length is, length-append before [])))
-listed t before (op ∷ more) zero n w at h is enough =
-    absurd (omega (
-      arith,
-      at,
-      ap length is,
-      length-append before (laid_one n op ++ strung (n + length (laid_one n op)) more),
-      length-append (laid_one n op) (strung (n + length (laid_one n op)) more),
-      some_syllable (syllables op) (literal op) (n + length (syllables op)) (fits op h.0),
-    ))
-listed t before (op ∷ more) (suc fuel) n w at h is enough =
-    let next : ℕ = n + length (laid_one n op) in
-    let some : 1 ≤ length (laid_one n op) = some_syllable (syllables op) (literal op) (n + length (syllables op)) (fits op h.0) in
-    ap (entries_from (suc fuel) (packed_words t) (place_at n)) (read_one t before (strung next more) op n w at h.0 is) ∙
-    ap (λ es. At (place_at n) op ∷ es) (listed t (before ++ laid_one n op) more fuel next w (omega (arith, at, length-append before (laid_one n op))) h.1 (is ∙ sym (append_assoc before (laid_one n op) (strung next more))) (omega arith))
+listed t before [] fuel n w at h is enough = grind (arith, ended, none_there, length-append)
+listed t before (op ∷ more) zero n w at h is enough = grind (arith, length-append)
+listed t before (op ∷ more) (suc fuel) n w at h is enough = grind (arith, read_one, length-append, append_assoc, listed t (before ++ laid_one n op) more fuel)
 
 -- the listing of operators' code is these operators, and NVLD up to a whole word
 pub listing_is : (ops : List Op) → AllHaveBits ops → listing (code_words ops) ≡ listed_entries 0 (filled 0 ops)

@@ -25,17 +25,11 @@ in_word a b c d e f (suc (suc (suc (suc (suc (suc n)))))) ha hb hc hd he hf lt =
 
 -- a syllable of the first word
 of_word : (w n : ℕ) (words : List ℕ) → n < 6 → syllable (w ∷ words) n ≡ (w / 256 ^ (5 - n)) % 256
-of_word w n words lt =
-    let word : n / 6 ≡ 0 = omega arith in
-    let place : n % 6 ≡ n = omega arith in
-    ap (λ k. (get_or (w ∷ words) k 0 / 256 ^ (5 - n % 6)) % 256) word ∙ ap (λ k. (w / 256 ^ (5 - k)) % 256) place
+of_word w n words lt = grind arith
 
 -- a syllable of a later word
 of_more : (w m n : ℕ) (words : List ℕ) → n ≡ 6 + m → syllable (w ∷ words) n ≡ syllable words m
-of_more w m n words is =
-    let word : n / 6 ≡ suc (m / 6) = omega arith in
-    let place : n % 6 ≡ m % 6 = omega arith in
-    ap (λ k. (get_or (w ∷ words) k 0 / 256 ^ (5 - n % 6)) % 256) word ∙ ap (λ k. (get_or words (m / 6) 0 / 256 ^ (5 - k)) % 256) place
+of_more w m n words is = grind arith
 
 pub syllable_is : (xs : List ℕ) (n : ℕ) → Bytes xs → n < 6 * length (packed_words xs) → syllable (packed_words xs) n ≡ get_or xs n 0
 syllable_is [] n h lt = absurd (omega arith)
@@ -50,8 +44,7 @@ syllable_is (a ∷ b ∷ c ∷ d ∷ e ∷ f ∷ more) (suc (suc zero)) h lt = o
 syllable_is (a ∷ b ∷ c ∷ d ∷ e ∷ f ∷ more) (suc (suc (suc zero))) h lt = of_word (word_of a b c d e f) 3 (packed_words more) (omega arith) ∙ in_word a b c d e f 3 h.0 h.1.0 h.1.1.0 h.1.1.1.0 h.1.1.1.1.0 h.1.1.1.1.1.0 (omega arith)
 syllable_is (a ∷ b ∷ c ∷ d ∷ e ∷ f ∷ more) (suc (suc (suc (suc zero)))) h lt = of_word (word_of a b c d e f) 4 (packed_words more) (omega arith) ∙ in_word a b c d e f 4 h.0 h.1.0 h.1.1.0 h.1.1.1.0 h.1.1.1.1.0 h.1.1.1.1.1.0 (omega arith)
 syllable_is (a ∷ b ∷ c ∷ d ∷ e ∷ f ∷ more) (suc (suc (suc (suc (suc zero))))) h lt = of_word (word_of a b c d e f) 5 (packed_words more) (omega arith) ∙ in_word a b c d e f 5 h.0 h.1.0 h.1.1.0 h.1.1.1.0 h.1.1.1.1.0 h.1.1.1.1.1.0 (omega arith)
-syllable_is (a ∷ b ∷ c ∷ d ∷ e ∷ f ∷ more) (suc (suc (suc (suc (suc (suc m)))))) h lt =
-    of_more (word_of a b c d e f) m (suc (suc (suc (suc (suc (suc m)))))) (packed_words more) (omega arith) ∙ syllable_is more m h.1.1.1.1.1.1 (omega arith)
+syllable_is (a ∷ b ∷ c ∷ d ∷ e ∷ f ∷ more) (suc (suc (suc (suc (suc (suc m)))))) h lt = grind (arith, of_more, syllable_is more m h.1.1.1.1.1.1)
 
 -- whole words
 pub packed_length : (xs : List ℕ) → length xs % 6 ≡ 0 → 6 * length (packed_words xs) ≡ length xs
@@ -64,15 +57,11 @@ packed_length (a ∷ b ∷ c ∷ d ∷ e' ∷ []) e = absurd (omega arith)
 packed_length (a ∷ b ∷ c ∷ d ∷ e' ∷ f ∷ more) e = omega (arith, packed_length more (omega arith))
 
 word_is : (bits : ℕ) (after : List ℕ) → bits < 2 ^ 48 → packed_words (six_syllables bits ++ after) ≡ bits ∷ packed_words after
-word_is bits after small =
-    let whole : word_of (bits / 2 ^ 40 % 256) (bits / 2 ^ 32 % 256) (bits / 2 ^ 24 % 256) (bits / 2 ^ 16 % 256) (bits / 2 ^ 8 % 256) (bits % 256) ≡ bits = omega arith in
-    ap (λ w. w ∷ packed_words after) whole
+word_is bits after small = grind arith
 
 -- a literal's word
 pub literal_is : (before : List ℕ) (q bits : ℕ) (after : List ℕ) → bits < 2 ^ 48 → length before ≡ 6 * q → slice_get (packed_words (before ++ (six_syllables bits ++ after))) q ≡ Some bits
-literal_is [] q bits after small e =
-    let none : q ≡ 0 = omega arith in
-    ap (λ k. slice_get (packed_words (six_syllables bits ++ after)) k) none ∙ ap (λ ws. slice_get ws 0) (word_is bits after small)
+literal_is [] q bits after small e = grind arith
 literal_is (a ∷ []) q bits after small e = absurd (omega arith)
 literal_is (a ∷ b ∷ []) q bits after small e = absurd (omega arith)
 literal_is (a ∷ b ∷ c ∷ []) q bits after small e = absurd (omega arith)

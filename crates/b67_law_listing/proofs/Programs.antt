@@ -39,41 +39,29 @@ defines (Ok (statements.Row name)) = true
 defines _ = false
 
 num_defines : (o : Option (Option ℕ)) (p : Option (List (Option ℕ))) → defines (or_reason (option_and_then (λ first. option_map (statements.Values first) p) o) 2) ≡ false
-num_defines None p = refl
-num_defines (Some first) None = refl
-num_defines (Some first) (Some more) = refl
+num_defines o p = grind arith
 
 numbers_define : (more : List (List ℕ)) → defines (or_reason (num more) 2) ≡ false
-numbers_define [] = refl
-numbers_define (word ∷ more) = num_defines (literal_bits word) (all_bits more)
+numbers_define more = grind arith
 
 sketch_defines : (label : Option (List ℕ)) (o : Option sketch.Sketch) → defines (or_reason o 2 >>= λ s. Ok (statements.Operator label s)) ≡ false
-sketch_defines label None = refl
-sketch_defines label (Some s) = refl
+sketch_defines label o = grind arith
 
 mnemonic_defines : (label : Option (List ℕ)) (o : Option Mnemonic) (f : Mnemonic → Option sketch.Sketch) → defines (or_reason o 1 >>= λ m. or_reason (f m) 2 >>= λ s. Ok (statements.Operator label s)) ≡ false
-mnemonic_defines label None f = refl
-mnemonic_defines label (Some m) f = sketch_defines label (f m)
+mnemonic_defines label o f = grind arith
 
 entry_defines : (o : Option (List ℕ)) → defines (or_reason (option_map statements.Entry o) 2) ≡ false
-entry_defines None = refl
-entry_defines (Some label) = refl
+entry_defines o = grind arith
 
 entries_define : (more : List (List ℕ)) → defines (or_reason (entry more) 2) ≡ false
-entries_define [] = refl
-entries_define (word ∷ more) = by_test (is_empty more)
-  where
-    by_test : (b : Bool) → defines (or_reason (cond b (entry_named word) None) 2) ≡ false
-    by_test true = entry_defines (name_in word)
-    by_test false = refl
+entries_define more = grind arith
 
 operator_defines : (label : Option (List ℕ)) (ws : List (List ℕ)) → defines (operator label ws) ≡ false
 operator_defines label [] = refl
 operator_defines label (key ∷ operands) = mnemonic_defines label (row_of key mnemonics) (λ m. sketch_of m operands)
 
 label_defines : (o : Option (List ℕ)) (more : List (List ℕ)) → defines (with_label o more) ≡ false
-label_defines None more = refl
-label_defines (Some label) more = operator_defines (Some label) more
+label_defines o more = grind (arith, operator_defines)
 
 labelled_defines : (ws : List (List ℕ)) → defines (labelled ws) ≡ false
 labelled_defines [] = refl
@@ -88,11 +76,7 @@ abbrev IsKnown : Line → Type 0
 IsKnown l = is_head l.kind ≡ false → defines l.says ≡ false
 
 says_known : (k : kind.Kind) (more all : List (List ℕ)) → is_head k ≡ false → defines (says k more all) ≡ false
-says_known kinds.Segment more all e = absurd (let z : ⊥ = cc in z)
-says_known kinds.Row more all e = absurd (let z : ⊥ = cc in z)
-says_known kinds.Numbers more all e = numbers_define more
-says_known kinds.Entry more all e = entries_define more
-says_known kinds.Operator more all e = labelled_defines all
+says_known k more all e = grind (arith, labelled_defines)
 
 abbrev AllKnown : List Line → Type 0
 AllKnown lines = AllByRecursion IsKnown lines
@@ -116,29 +100,13 @@ record IsSegment (names : Names) (segments s r : ℕ) (lines : List Line) (part 
   few : s + r < 255
 
 after_card : {B : Type 0} (number : ℕ) (t : Bool) (reason : ℕ) (rest : Result B Refusal) (b : B) → (of_card number (needs t reason) >> rest) ≡ Ok b → (t ≡ true) × (rest ≡ Ok b)
-after_card number true reason rest b e = (refl, e)
-after_card number false reason rest b e = err-ok (record { card = number; reason = reason }) b _ e
+after_card number t reason rest b e = grind arith
 
 segment_is : (names : Names) (segments s r number : ℕ) (name : List ℕ) (level : Option ℕ) (lines : List Line) (part : Part) → segment_part names segments s r number name level lines ≡ Ok part → IsSegment names segments s r lines part
-segment_is names segments s r number name None lines part e = err-ok (record { card = number; reason = 3 }) part _ e
-segment_is names segments s r number name (Some level) lines part e =
-    let scope : Scope = record { names = names; segments = segments; level = level; labels = λ label. meaning (labels 0 lines) label } in
-    let part_with : SegmentContent → Part = λ content. CodePart (record { level = level; entries = map syllable_bits content.entries; code = code_words content.operators }) in
-    let put : Result Part Refusal = content_of scope lines >>= λ content. Ok (part_with content) in
-    let a = after_card number (is_segment_number s (names.means name)) 4 (of_card number (needs (list_any is_code lines) 7) >> (of_card number (needs (nat_lt (s + r) 255) 9) >> put)) part e in
-    let b = after_card number (list_any is_code lines) 7 (of_card number (needs (nat_lt (s + r) 255) 9) >> put) part a.1 in
-    let c = after_card number (nat_lt (s + r) 255) 9 put part b.1 in
-    let d = after_both (content_of scope lines) (λ content. Ok (part_with content)) part c.1 in
-    record { level = level; content = d.0; taken = d.1; is = same_Ok (part_with d.0) part d.2; few = ltb-true (s + r) 255 c.0 }
+segment_is names segments s r number name level lines part e = grind arith
 
 row_is : (names : Names) (s r number : ℕ) (name : List ℕ) (lines : List Line) (part : Part) → row_part names s r number name lines ≡ Ok part → (words : List ℕ) × (RowPart words ≡ part)
-row_is names s r number name lines part e =
-    let put : Result Part Refusal = row_words names 0 lines >>= λ words. Ok (RowPart words) in
-    let a = after_card number (is_row_number r (names.means name)) 4 (of_card number (needs (list_any (λ l. is_numbers l.kind) lines) 7) >> (of_card number (needs (nat_lt (s + r) 255) 9) >> put)) part e in
-    let b = after_card number (list_any (λ l. is_numbers l.kind) lines) 7 (of_card number (needs (nat_lt (s + r) 255) 9) >> put) part a.1 in
-    let c = after_card number (nat_lt (s + r) 255) 9 put part b.1 in
-    let d = after_both (row_words names 0 lines) (λ words. Ok (RowPart words)) part c.1 in
-    (d.0, same_Ok (RowPart d.0) part d.2)
+row_is names s r number name lines part e = grind arith
 
 -- ---- segments that are named have numbers below 255
 
@@ -146,31 +114,15 @@ small_none : IsSmall None
 small_none number level e = absurd (none-some (means.Segment number level) e)
 
 head_small : (names : Names) (segments s r number : ℕ) (says : Answer statement.Statement) (lines : List Line) (part : Part) → program_part names segments s r number says lines ≡ Ok part → (rest : List (List ℕ × named.Named)) (q : List ℕ) → IsSmall (meaning rest q) → IsSmall (meaning (cons_option (definition s r says) rest) q)
-head_small names segments s r number (Ok (statements.Segment name level)) lines part e rest q h = by_test (bytes_eq q name)
-  where
-    low : s < 255
-    low = omega (arith, (segment_is names segments s r number name level lines part e).few)
-
-    by_test : (b : Bool) → IsSmall (cond b (Some (means.Segment s level)) (meaning rest q))
-    by_test true = λ n l is. let same : s ≡ n = cc in omega (arith, same, low)
-    by_test false = h
-head_small names segments s r number (Ok (statements.Row name)) lines part e rest q h = by_test (bytes_eq q name)
-  where
-    by_test : (b : Bool) → IsSmall (cond b (Some (means.Row r)) (meaning rest q))
-    by_test true = λ n l is. absurd (let z : ⊥ = cc in z)
-    by_test false = h
+head_small names segments s r number (Ok (statements.Segment name level)) lines part e rest q h = grind arith
+head_small names segments s r number (Ok (statements.Row name)) lines part e rest q h = grind arith
 head_small names segments s r number (Ok (statements.Values first more)) lines part e rest q h = h
 head_small names segments s r number (Ok (statements.Operator label own)) lines part e rest q h = h
 head_small names segments s r number (Ok (statements.Entry label)) lines part e rest q h = h
 head_small names segments s r number (Err reason) lines part e rest q h = h
 
 no_definition : (s r : ℕ) (says : Answer statement.Statement) → defines says ≡ false → (definition s r says ≡ None) × (segments_behind s says ≡ s) × (rows_behind r says ≡ r)
-no_definition s r (Ok (statements.Segment name level)) e = absurd (let z : ⊥ = cc in z)
-no_definition s r (Ok (statements.Row name)) e = absurd (let z : ⊥ = cc in z)
-no_definition s r (Ok (statements.Values first more)) e = (refl, refl, refl)
-no_definition s r (Ok (statements.Operator label own)) e = (refl, refl, refl)
-no_definition s r (Ok (statements.Entry label)) e = (refl, refl, refl)
-no_definition s r (Err reason) e = (refl, refl, refl)
+no_definition s r h e = grind arith
 
 -- what follows a line
 abbrev go_on : Names → (segments s r : ℕ) → Line → List Line → Part → Result Program Refusal
@@ -199,22 +151,14 @@ names_small names segments s r (l ∷ more) p known e q =
 -- ---- labels of all segments
 
 no_cards : (says : Answer statement.Statement) (cards : List Line) (rest : List (List Line)) → defines says ≡ false → with_cards says cards rest ≡ rest
-no_cards (Ok (statements.Segment name level)) cards rest e = absurd (let z : ⊥ = cc in z)
-no_cards (Ok (statements.Row name)) cards rest e = refl
-no_cards (Ok (statements.Values first more)) cards rest e = refl
-no_cards (Ok (statements.Operator label own)) cards rest e = refl
-no_cards (Ok (statements.Entry label)) cards rest e = refl
-no_cards (Err reason) cards rest e = refl
+no_cards h cards rest e = grind arith
 
 abbrev CardsAreSmall : List Line → Type 0
 CardsAreSmall cards = LabelsAreSmall (λ label. meaning (labels 0 cards) label)
 
 head_cards_small : (names : Names) (segments s r number : ℕ) (says : Answer statement.Statement) (lines : List Line) (part : Part) → program_part names segments s r number says lines ≡ Ok part
     → (rest : List (List Line)) → AllByRecursion CardsAreSmall rest → AllByRecursion CardsAreSmall (with_cards says lines rest)
-head_cards_small names segments s r number (Ok (statements.Segment name level)) lines part e rest h =
-    let i = segment_is names segments s r number name level lines part e in
-    let scope : Scope = record { names = names; segments = segments; level = i.level; labels = λ label. meaning (labels 0 lines) label } in
-    ((λ q m is. label_small scope 0 [] lines i.content q m (sym (content_is scope lines) ∙ i.taken) is), h)
+head_cards_small names segments s r number (Ok (statements.Segment name level)) lines part e rest h = grind (arith, label_small, content_is)
 head_cards_small names segments s r number (Ok (statements.Row name)) lines part e rest h = h
 head_cards_small names segments s r number (Ok (statements.Values first more)) lines part e rest h = h
 head_cards_small names segments s r number (Ok (statements.Operator label own)) lines part e rest h = h
@@ -249,18 +193,14 @@ head_read : (all : List Line) (s r number : ℕ) (says : Answer statement.Statem
 head_read all s r number (Ok (statements.Segment name level)) lines part small labelled e cards rest h =
     let i = segment_is (names_of all) (segment_count 0 all) s r number name level lines part e in
     subst (λ (part : Part). SegmentsAreListed all (lines ∷ cards) (with_part part rest).segments) i.is (segment_read (scope_in all lines i.level) lines i.content small labelled refl i.taken, h)
-head_read all s r number (Ok (statements.Row name)) lines part small labelled e cards rest h =
-    let i = row_is (names_of all) s r number name lines part e in
-    subst (λ (part : Part). SegmentsAreListed all cards (with_part part rest).segments) i.1 h
+head_read all s r number (Ok (statements.Row name)) lines part small labelled e cards rest h = grind arith
 head_read all s r number (Ok (statements.Values first more)) lines part small labelled e cards rest h = err-ok (record { card = number; reason = misplaced (names_of all) (statements.Values first more) }) part _ e
 head_read all s r number (Ok (statements.Operator label own)) lines part small labelled e cards rest h = err-ok (record { card = number; reason = misplaced (names_of all) (statements.Operator label own) }) part _ e
 head_read all s r number (Ok (statements.Entry label)) lines part small labelled e cards rest h = err-ok (record { card = number; reason = misplaced (names_of all) (statements.Entry label) }) part _ e
 head_read all s r number (Err reason) lines part small labelled e cards rest h = err-ok (record { card = number; reason = reason }) part _ e
 
 segments_read : (all : List Line) (s r : ℕ) (lines : List Line) (p : Program) → AllKnown lines → AreSmall (names_of all) → AllLabelsAreSmall (names_of all) → program_from (names_of all) (segment_count 0 all) s r lines ≡ Ok p → SegmentsAreListed all (cards_of_segments lines) p.segments
-segments_read all s r [] p known small labelled e =
-    let is : record { segments = []; rows = [] } ≡ p = same_Ok (record { segments = []; rows = [] }) p e in
-    subst (λ (p : Program). SegmentsAreListed all [] p.segments) is tt
+segments_read all s r [] p known small labelled e = grind arith
 segments_read all s r (l ∷ more) p known small labelled e =
     by_head (λ p e. segments_read all (segments_behind s l.says) (rows_behind r l.says) more p known.1 small labelled e) (λ e. segments_read all s r more p known.1 small labelled e) (is_head l.kind) refl e
   where

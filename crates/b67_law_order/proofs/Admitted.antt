@@ -22,13 +22,7 @@ none_right (x ∷ xs) ys e = cc
 
 tests_false : (number : ℕ) (place : Place) (tests : List (ℕ × Bool)) (t : ℕ × Bool) → refused number place tests ≡ [] → Has tests t → t.1 ≡ false
 tests_false number place [] t e h = absurd h
-tests_false number place (x ∷ tests) t e h = elim (cases_Bool x.1) [
-  | inl y ↦ let no : (record { segment = number; place = place; rule = x.0 } ∷ refused number place tests) ≡ [] = rw y at e in cc
-  | inr y ↦ elim h [
-    | inl is ↦ ap (λ (z : ℕ × Bool). z.1) (sym is) ∙ y
-    | inr m ↦ tests_false number place tests t (rw y at e) m
-  ]
-]
+tests_false number place (x ∷ tests) t e h = grind (arith, tests_false number place tests t)
 
 -- no rule is broken at an entry of the listing, and each entry of the segment is a start
 pub record Sound (l : Listed) : Type 0 where
@@ -53,23 +47,13 @@ entries_sound l (x ∷ more) none e h t k =
 
 starts_sound : (l : Listed) (entries : List ℕ) → wrong_entries l entries ≡ [] → (bits : ℕ) → Has entries bits → is_start l.entries (place_of_bits bits) ≡ true
 starts_sound l [] none bits h = absurd h
-starts_sound l (e ∷ more) none bits h =
-    let place = place_of_bits e in
-    let tests : List (ℕ × Bool) = (11, not (is_start l.entries place)) ∷ [] in
-    let first = none_left (refused l.number place tests) (wrong_entries l more) none in
-    elim h [
-      | inl is ↦ subst (λ (b : ℕ). is_start l.entries (place_of_bits b) ≡ true) is (not-false (is_start l.entries place) (tests_false l.number place tests (11, not (is_start l.entries place)) first (inl refl)))
-      | inr m ↦ starts_sound l more (none_right (refused l.number place tests) (wrong_entries l more) none) bits m
-    ]
+starts_sound l (e ∷ more) none bits h = grind (arith, starts_sound l more)
 
 abbrev pub listed : Program → ℕ → Segment → Listed
 listed p n s = record { program = p; number = n; segment = s; entries = listing s.code }
 
 own_sound : (l : Listed) → refusals_of l l.entries ++ wrong_entries l l.segment.entries ≡ [] → Sound l
-own_sound l none = record {
-  rules = entries_sound l l.entries (none_left (refusals_of l l.entries) (wrong_entries l l.segment.entries) none);
-  starts = starts_sound l l.segment.entries (none_right (refusals_of l l.entries) (wrong_entries l l.segment.entries) none);
-}
+own_sound l none = grind (arith, entries_sound, none_left, starts_sound)
 
 segments_sound : (p : Program) (n : ℕ) (segments : List Segment) (i : ℕ) (s : Segment) → refusals_from p n segments ≡ [] → slice_get segments i ≡ Some s → (m : ℕ) × Sound (listed p m s)
 segments_sound p n [] i s none e = cc
@@ -77,9 +61,7 @@ segments_sound p n (x ∷ more) zero s none e =
     let same : x ≡ s = cc in
     let l = listed p n x in
     (n, subst (λ (y : Segment). Sound (listed p n y)) same (own_sound l (none_left (refusals_of l l.entries ++ wrong_entries l x.entries) (refusals_from p (n + 1) more) none)))
-segments_sound p n (x ∷ more) (suc i) s none e =
-    let l = listed p n x in
-    segments_sound p (n + 1) more i s (none_right (refusals_of l l.entries ++ wrong_entries l x.entries) (refusals_from p (n + 1) more) none) e
+segments_sound p n (x ∷ more) (suc i) s none e = grind (arith, none_right, segments_sound p (n + 1) more i s)
 
 pub admitted_sound : (p : Program) (i : ℕ) (s : Segment) → IsAdmitted p → slice_get p.segments i ≡ Some s → (m : ℕ) × Sound (listed p m s)
 admitted_sound p i s admitted e = elim (cases_Bool (eqb (length p.segments) 0)) [
@@ -94,15 +76,7 @@ place_self : (a : Place) → same_place a a ≡ true
 place_self a = rw (eqb_self a.word, eqb_self a.syllable) refl
 
 place_same : (a b : Place) → same_place a b ≡ true → a ≡ b
-place_same a b e =
-    let r = both (eqb a.word b.word) (eqb a.syllable b.syllable) e in
-    let w = eqb-true a.word b.word r.0 in
-    let s = eqb-true a.syllable b.syllable r.1 in
-    λ i. record { word = w i; syllable = s i }
-  where
-    both : (x y : Bool) → (x && y) ≡ true → (x ≡ true) × (y ≡ true)
-    both true y e = (refl, e)
-    both false y e = absurd (true≢false (sym e))
+place_same a b e = grind arith
 
 -- what stands at a place of a listing
 pub data StandsAt (entries : List Entry) (place : Place) : Type 0 where
@@ -129,8 +103,7 @@ pub record Entered (code : List ℕ) (entries : List Entry) (place : Place) (op 
   pub goes_on : is_last entries place ≡ false → StandsAt entries next
 
 last_tail : (e : Entry) (entries : List Entry) (x : Entry) (place : Place) → Has entries x → is_last (e ∷ entries) place ≡ is_last entries place
-last_tail e [] x place h = absurd h
-last_tail e (f ∷ more) x place h = refl
+last_tail e entries x place h = grind arith
 
 pub entered : (n : ℕ) (code : List ℕ) (at : Place) (read : Reading) (place : Place) (op : Op) → read ≡ operator_at code at → Has (entries_from n code at read) (At place op) → Entered code (entries_from n code at read) place op
 entered zero code at read place op e h = absurd h
@@ -182,11 +155,7 @@ pub ends_good : (code : List ℕ) (end : ℕ) (op : Op) → ends_at code end op 
 ends_good code end op = elim (cases_Bool (leb end (6 * length code))) [ inl t ↦ rw t (λ e. cc) | inr t ↦ rw t (λ e. cc) ]
 
 pub reads_good : (code : List ℕ) (n : ℕ) (form : Option Form) → reads code n form ≢ Err BadPlace
-reads_good code n None = λ e. cc
-reads_good code n (Some (Alone op)) = ends_good code (n + 1) (Plain op)
-reads_good code n (Some (OneMore op)) = ends_good code (n + 2) (op (syllable code (n + 1)))
-reads_good code n (Some (TwoMore op)) = ends_good code (n + 3) (op (syllable code (n + 1)) (syllable code (n + 2)))
-reads_good code n (Some (Literal op)) = ends_good code (6 * (n / 6 + 2)) (op (slice_index code (n / 6 + 1)))
+reads_good code n form = grind arith
 
 first_stands : (code : List ℕ) (n : ℕ) → 0 < n → (read : Reading) → read ≢ Err BadPlace → StandsAt (entries_from n code origin read) origin
 first_stands code zero some read good = absurd (omega (arith, some))

@@ -14,14 +14,10 @@ use Rattle.b67_law_order.proofs.Posts.{Post, post_ok, post_err, post_any, post_n
 use Rattle.b67_law_order.proofs.Cells.{Fits1, Fits2}
 
 pub bits_low : (v : ℤ) → nat_abs v < 2 ^ 39 → bits_of v < 2 ^ 48
-bits_low v low = elim (cases_Bool (int_lt v (pos 0))) [
-  | inl t ↦ rw t (omega (arith, low))
-  | inr t ↦ rw t (omega (arith, low))
-]
+bits_low v low = grind arith
 
 truth_low : (b : Bool) → truth b < 2 ^ 48
-truth_low true = omega arith
-truth_low false = omega arith
+truth_low b = grind arith
 
 abbrev Low : ℕ → Type 0
 Low n = n < 2 ^ 48
@@ -51,39 +47,20 @@ pub lnot_fits : Fits1 lnot
 lnot_fits a x = post_ok Low (ones - a) (ones_sub-lt 48 a)
 
 neg_abs : (n : ℕ) → nat_abs (neg_ℤ (pos n)) ≡ n
-neg_abs zero = refl
-neg_abs (suc n) = refl
+neg_abs n = grind arith
 
 neg_neg_abs : (n : ℕ) → nat_abs (neg_ℤ (neg_ℤ (pos n))) ≡ n
-neg_neg_abs zero = refl
-neg_neg_abs (suc n) = refl
+neg_neg_abs n = grind arith
 
 pub chsn_fits : Fits1 chsn
-chsn_fits a x = post_if_number (is_whole a) where
-  low : a % 2 ^ 39 < 2 ^ 39
-  low = omega arith
-
-  by : (b : Bool) → nat_abs (neg_ℤ (cond b (pos (a % 2 ^ 39)) (neg_ℤ (pos (a % 2 ^ 39))))) < 2 ^ 39
-  by true = rw (neg_abs (a % 2 ^ 39)) low
-  by false = rw (neg_neg_abs (a % 2 ^ 39)) low
-
-  post_if_number : (b : Bool) → Post Low (cond b (Ok (value_of a)) (Err Exponent) >>= λ v. Ok (bits_of (neg_ℤ v)))
-  post_if_number true = post_ok Low (bits_of (neg_ℤ (value_of a))) (bits_low (neg_ℤ (value_of a)) (by (eqb (bit 46 a) 0)))
-  post_if_number false = post_err Low _
+chsn_fits a x = grind arith
 
 pub brst_fits : (n : ℕ) → Fits1 (brst n)
-brst_fits n a x = post_needs Low (leb n 47) _ _ (λ t. post_ok Low (cond (eqb (bit n a) 0) a (a - 2 ^ n)) (by (eqb (bit n a) 0))) where
-  by : (b : Bool) → cond b a (a - 2 ^ n) < 2 ^ 48
-  by true = x
-  by false = omega (arith, x)
+brst_fits n a x = grind arith
 
 -- two fields side by side
 joined_low : (i j a b : ℕ) → a < 2 ^ i → b < 2 ^ j → a * 2 ^ j + b < 2 ^ (i + j)
-joined_low i j a b x y =
-    let whole : 2 ^ (i + j) ≡ 2 ^ i * 2 ^ j = pow-add 2 i j in
-    let more : (a + 1) * 2 ^ j ≤ 2 ^ i * 2 ^ j = mul-le-mul_right {m = a + 1} {n = 2 ^ i} (2 ^ j) (omega (arith, x)) in
-    let next : (a + 1) * 2 ^ j ≡ a * 2 ^ j + 2 ^ j = grind arith in
-    omega (arith, y, whole, more, next)
+joined_low i j a b x y = grind (arith, pow-add)
 
 pos_pow : (k : ℕ) → 0 < 2 ^ k
 pos_pow zero = omega arith
@@ -110,29 +87,16 @@ set_low n a low x even =
     let next : q + 1 < 2 ^ ((47 - n) + 1) = omega (arith, few, twice, even) in
     let rest : r < 2 ^ n = mod-lt a (pos_pow n) in
     let joined = joined_low ((47 - n) + 1) n (q + 1) r next rest in
-    let expand : (q + 1) * 2 ^ n ≡ q * 2 ^ n + 2 ^ n = grind arith in
-    let back = whole_of a (2 ^ n) (pos_pow n) in
-    let top : 2 ^ ((47 - n) + 1 + n) ≡ 2 ^ 48 = ap (λ k. 2 ^ k) (sym parts) in
-    subst (λ k. a + 2 ^ n < k) top (omega (arith, joined, expand, back))
+    grind arith
 
 pub bset_fits : (n : ℕ) → Fits1 (bset n)
-bset_fits n a x = post_needs Low (leb n 47) _ _ (λ t. post_ok Low (cond (eqb (bit n a) 0) (a + 2 ^ n) a) (by (leb-true n 47 t) (eqb (bit n a) 0) (λ e. eqb-true (bit n a) 0 e))) where
-  by : n ≤ 47 → (b : Bool) → (b ≡ true → bit n a ≡ 0) → cond b (a + 2 ^ n) a < 2 ^ 48
-  by low true even = set_low n a low x (even refl)
-  by low false even = x
+bset_fits n a x = grind (arith, set_low)
 
 field_low : (high width : ℕ) → is_field high width ≡ true → (high ≤ 47) × (width ≤ high + 1)
-field_low high width e =
-    let one = and_parts (ltb 0 width && leb high 47) (leb width (high + 1)) e in
-    let two = and_parts (ltb 0 width) (leb high 47) one.0 in
-    (leb-true high 47 two.1, leb-true width (high + 1) one.1)
+field_low high width e = grind arith
 
 pub isol_fits : (high width : ℕ) → Fits1 (isol high width)
-isol_fits high width a x = post_needs Low (is_field high width) _ _ (λ t.
-    let f = field_low high width t in
-    let rest : (a / 2 ^ (high + 1 - width)) % 2 ^ width < 2 ^ width = mod-lt (a / 2 ^ (high + 1 - width)) (pos_pow width) in
-    let most : 2 ^ width ≤ 2 ^ 48 = pow_mono {i = width} {j = 48} (omega (arith, f.0, f.1)) in
-    post_ok Low _ (omega (arith, rest, most)))
+isol_fits high width a x = grind arith
 
 insr_low : (high width a b : ℕ) → high ≤ 47 → width ≤ high + 1 → a < 2 ^ 48 → (a / 2 ^ (high + 1)) * 2 ^ (high + 1) + (b % 2 ^ width) * 2 ^ (high + 1 - width) + a % 2 ^ (high + 1 - width) < 2 ^ 48
 insr_low high width a b low wide x =
@@ -144,11 +108,7 @@ insr_low high width a b low wide x =
     let field : b % 2 ^ width < 2 ^ width = mod-lt b (pos_pow width) in
     let rest : a % 2 ^ under < 2 ^ under = mod-lt a (pos_pow under) in
     let middle : (b % 2 ^ width) * 2 ^ under + a % 2 ^ under < 2 ^ (width + under) = joined_low width under (b % 2 ^ width) (a % 2 ^ under) field rest in
-    let sizes : width + under ≡ k = omega (arith, wide) in
-    let middle' : (b % 2 ^ width) * 2 ^ under + a % 2 ^ under < 2 ^ k = subst (λ j. (b % 2 ^ width) * 2 ^ under + a % 2 ^ under < 2 ^ j) sizes middle in
-    let all = joined_low (47 - high) k (a / 2 ^ k) ((b % 2 ^ width) * 2 ^ under + a % 2 ^ under) upper middle' in
-    let top : 2 ^ ((47 - high) + k) ≡ 2 ^ 48 = ap (λ j. 2 ^ j) (sym parts) in
-    subst (λ j. (a / 2 ^ k) * 2 ^ k + (b % 2 ^ width) * 2 ^ under + a % 2 ^ under < j) top (omega (arith, all))
+    grind (arith, joined_low)
 
 pub insr_fits : (high width : ℕ) → Fits2 (insr high width)
 insr_fits high width a b x y = post_needs Low (is_field high width) _ _ (λ t. let f = field_low high width t in post_ok Low _ (insr_low high width a b f.0 f.1 x))

@@ -36,49 +36,20 @@ module _ (P : Starts) (constants : JobConstants) (job : Job) (g : TasksInOrder P
   array_low a k = falls_low job.next_array (map (λ (x : Array). x.identity) job.arrays) a.identity g.names (has_map (λ (x : Array). x.identity) job.arrays a k)
 
   no_original : (reach : List Known) (owner : ℕ) (w : Word) → WordInOrder P job.arrays reach owner w → is_original_of job.next_array w ≡ false
-  no_original reach owner (Original m) f = elim (eqb_tells m job.next_array) [ inl e ↦ absurd (omega (arith, array_low f.item f.live, f.named, e.1)) | inr e ↦ e.0 ]
-  no_original reach owner (Operand bits) f = refl
-  no_original reach owner (Name couple) f = refl
-  no_original reach owner (Ref identity offset) f = refl
-  no_original reach owner (Row array) f = refl
-  no_original reach owner (Element array index) f = refl
-  no_original reach owner (Proc segment level place) f = refl
-  no_original reach owner (Intrinsic number) f = refl
-  no_original reach owner (Words.Segment number) f = refl
+  no_original h owner w f = grind (arith, array_low)
 
   no_copy : (reach : List Known) (owner : ℕ) (w : Word) → WordInOrder P job.arrays reach owner w → is_copy_of job.next_array w ≡ false
-  no_copy reach owner (Row m) f = elim (eqb_tells m job.next_array) [ inl e ↦ absurd (omega (arith, array_low f.item f.live, f.named, e.1)) | inr e ↦ e.0 ]
-  no_copy reach owner (Element m index) f = elim (eqb_tells m job.next_array) [ inl e ↦ absurd (omega (arith, array_low f.item f.live, f.named, e.1)) | inr e ↦ e.0 ]
-  no_copy reach owner (Original m) f = refl
-  no_copy reach owner (Operand bits) f = refl
-  no_copy reach owner (Name couple) f = refl
-  no_copy reach owner (Ref identity offset) f = refl
-  no_copy reach owner (Proc segment level place) f = refl
-  no_copy reach owner (Intrinsic number) f = refl
-  no_copy reach owner (Words.Segment number) f = refl
+  no_copy h owner w f = grind (arith, array_low)
 
   frames_none : (outer : List Known) (fs : List Frame) → FramesInOrder P job.arrays outer fs → originals_in job.next_array fs ≡ 0
   frames_none outer [] f = refl
-  frames_none outer (x ∷ fs) f =
-      let here : originals job.next_array x.cells ≡ 0 = none_pass (is_original_of job.next_array) x.cells (λ w k. no_original (map known_of (x ∷ fs) ++ outer) x.identity w (all_in (WordInOrder P job.arrays (map known_of (x ∷ fs) ++ outer) x.identity) x.cells w f.0.0 k)) in
-      omega (arith, here, frames_none outer fs f.2)
+  frames_none outer (x ∷ fs) f = grind (arith, none_pass, no_original, all_in, frames_none outer fs f.2)
 
   entry_none : (w : Word) → EntryInOrder job.arrays w → is_original_of job.next_array w ≡ false
-  entry_none (Original m) f = elim (eqb_tells m job.next_array) [ inl e ↦ absurd (omega (arith, array_low f.item f.live, f.named, e.1)) | inr e ↦ e.0 ]
-  entry_none (Operand bits) f = refl
-  entry_none (Name couple) f = refl
-  entry_none (Ref identity offset) f = refl
-  entry_none (Row array) f = refl
-  entry_none (Element array index) f = refl
-  entry_none (Proc segment level place) f = refl
-  entry_none (Intrinsic number) f = refl
-  entry_none (Words.Segment number) f = refl
+  entry_none w f = grind (arith, array_low)
 
   pub none_yet : originals_of job.next_array constants job ≡ 0
-  none_yet =
-      let dictionary : originals job.next_array constants.dictionary.cells ≡ 0 = none_pass (is_original_of job.next_array) constants.dictionary.cells (λ w k. entry_none w (all_in (EntryInOrder job.arrays) constants.dictionary.cells w g.entries k)) in
-      let tasks = total_zero (λ (t : Task). originals_in job.next_array t.frames) job.tasks (λ t k. frames_none (outer_of job t) t.frames (all_in (TaskInOrder P constants job) job.tasks t g.tasks k).frames) in
-      omega (arith, dictionary, tasks)
+  none_yet = grind (arith, entry_none, all_in, total_zero, frames_none)
 
 module _ (P : Starts) (h : OperatorContext) (cut : Cut P h) where
   pub read_good : (arguments : List Word) → Good P h (read h arguments)
@@ -96,13 +67,10 @@ module _ (P : Starts) (h : OperatorContext) (cut : Cut P h) where
   waits_at_good (AtIntrinsic n) is = post_err (Keeps P h) _
 
   pub wait_good : (arguments : List Word) → AllFit P h arguments → Good P h (wait h arguments)
-  wait_good [] fit = post_err (Keeps P h) _
-  wait_good (r ∷ []) fit = post_bind (EndInOrder P h) (Keeps P h) (follow_reference h r) _ (follow_reference_in P h cut.run (top_of h).identity r fit.0) waits_at_good
-  wait_good (r ∷ v ∷ more) fit = post_err (Keeps P h) _
+  wait_good arguments fit = grind (arith, follow_reference_in, waits_at_good)
 
   below_has : (fs : List Frame) (f : Frame) → Has (below_top fs) f → Has fs f
-  below_has [] f k = k
-  below_has (x ∷ fs) f k = inr k
+  below_has fs f k = grind arith
 
   cut_holds : (n offset bits : ℕ) → cell h n offset ≡ Ok (Operand bits) → HoldsOperand (with_task h.job (answered h [])) n offset
   cut_holds n offset bits e t live f among is w k =
@@ -114,12 +82,7 @@ module _ (P : Starts) (h : OperatorContext) (cut : Cut P h) where
       ]
 
   woken_same : (f offset : ℕ) (c : Condition) → (woken_at f offset c ≡ c) ⊎ (woken_at f offset c ≡ Ready)
-  woken_same f offset Ready = inl refl
-  woken_same f offset (Awaits n) = inl refl
-  woken_same f offset (WaitsAt g other) = by (eqb f g && eqb offset other) where
-    by : (b : Bool) → (cond b Ready (WaitsAt g other) ≡ WaitsAt g other) ⊎ (cond b Ready (WaitsAt g other) ≡ Ready)
-    by true = inr refl
-    by false = inl refl
+  woken_same f offset c = grind arith
 
   causes_good : (end : End) → EndInOrder P h end → Good P h (causes h end)
   causes_good (AtCell f offset bits) is = post_needs (Keeps P h) (not (is_critical h.job (top_of h).identity)) _ _ (λ free.
@@ -132,9 +95,7 @@ module _ (P : Starts) (h : OperatorContext) (cut : Cut P h) where
   causes_good (AtIntrinsic n) is = post_err (Keeps P h) _
 
   pub cause_good : (arguments : List Word) → AllFit P h arguments → Good P h (cause h arguments)
-  cause_good [] fit = post_err (Keeps P h) _
-  cause_good (r ∷ []) fit = post_bind (EndInOrder P h) (Keeps P h) (follow_reference h r) _ (follow_reference_in P h cut.run (top_of h).identity r fit.0) causes_good
-  cause_good (r ∷ v ∷ more) fit = post_err (Keeps P h) _
+  cause_good arguments fit = grind (arith, follow_reference_in, causes_good)
 
   -- an array is declared, owned by the frame below the mark
   pub below_high : not (is_critical h.job (top_of h).identity) ≡ true → 1 < (top (below_top h.task.frames)).identity
@@ -214,14 +175,7 @@ module _ (P : Starts) (h : OperatorContext) (cut : Cut P h) where
       originals_more n (f ∷ fs) cells more some e = omega (arith, e)
 
   pub length_fits : (n : ℤ) → Post (λ len. (0 < len) × (len < 65536)) (array_length n)
-  length_fits (negsuc n) = post_err _ _
-  length_fits (pos n) = post_if_is (λ len. (0 < len) × (len < 65536)) (ltb 0 n && ltb n 65536) _ _
-      (λ t. post_ok (λ len. (0 < len) × (len < 65536)) n (both (ltb 0 n) (ltb n 65536) t (λ a. ltb-true 0 n a) (λ b. ltb-true n 65536 b)))
-      (λ t. post_err (λ len. (0 < len) × (len < 65536)) _)
-    where
-      both : (a b : Bool) {A B : Type 0} → (a && b) ≡ true → (a ≡ true → A) → (b ≡ true → B) → A × B
-      both true b t x y = (x refl, y t)
-      both false b t x y = absurd (true≢false (sym t))
+  length_fits n = grind arith
 
   abbrev made_of : ℕ → Array
   made_of len = record { identity = h.job.next_array; owner = (top (below_top h.task.frames)).identity; writable = true; numbers = replicate len 0 }

@@ -31,32 +31,14 @@ on_cells_good P h f run keeps = post_bind (CellsKept P h (cells_of h)) (Keeps P 
     (λ cells k. cells_good P h cells None run k.fit k.above k.same)
 
 pub one_keeps : (P : Starts) (h : OperatorContext) (f : ℕ → Answer ℕ) → Fits1 f → KeepsCells P h (on_one f)
-one_keeps P h f fits [] all above = post_err _ _
-one_keeps P h f fits (Operand x ∷ rest) all above = post_bind (λ y. y < 2 ^ 48) (CellsKept P h (Operand x ∷ rest)) (f x) _ (fits x all.0)
-    (λ y low. post_ok (CellsKept P h (Operand x ∷ rest)) _ (record { fit = (low, all.1); above = above; same = λ n. refl }))
-one_keeps P h f fits (w ∷ rest) all above = post_err _ _
+one_keeps P h f fits e all above = grind arith
 
 pub two_keeps : (P : Starts) (h : OperatorContext) (f : Binary) → Fits2 f → KeepsCells P h (on_two f)
-two_keeps P h f fits [] all above = post_err _ _
-two_keeps P h f fits (b ∷ []) all above = post_err _ _
-two_keeps P h f fits (b ∷ Operand x ∷ rest) all above = on_lower b all above where
-  on_lower : (b : Word) → AllFit P h (b ∷ Operand x ∷ rest) → CopiesAbove (b ∷ Operand x ∷ rest) → Post (CellsKept P h (b ∷ Operand x ∷ rest)) (on_two f (b ∷ Operand x ∷ rest))
-  on_lower (Operand y) all above = post_bind (λ z. z < 2 ^ 48) (CellsKept P h (Operand y ∷ Operand x ∷ rest)) (f x y) _ (fits x y all.1.0 all.0)
-      (λ z low. post_ok (CellsKept P h (Operand y ∷ Operand x ∷ rest)) _ (record { fit = (low, all.1.1); above = above.1; same = λ n. omega arith }))
-  on_lower w all above = post_err _ _
-two_keeps P h f fits (b ∷ w ∷ rest) all above = post_err _ _
+two_keeps P h f fits e all above = grind arith
 
 -- a word that may be moved is no original
 pub plain_word : (w : Word) → is_original w ≡ false → (n : ℕ) → is_original_of n w ≡ false
-plain_word (Original a) e n = absurd (true≢false e)
-plain_word (Operand bits) e n = refl
-plain_word (Name couple) e n = refl
-plain_word (Ref identity offset) e n = refl
-plain_word (Row array) e n = refl
-plain_word (Element array index) e n = refl
-plain_word (Proc segment level place) e n = refl
-plain_word (Intrinsic number) e n = refl
-plain_word (Words.Segment number) e n = refl
+plain_word w e n = grind arith
 
 pub movable_plain : (w : Word) → Post (λ v. is_original w ≡ false) (movable w)
 movable_plain w = post_if_is (λ v. is_original w ≡ false) (is_original w) _ _ (λ t. post_err (λ v. is_original w ≡ false) _) (λ t. post_ok (λ v. is_original w ≡ false) w t)
@@ -66,25 +48,15 @@ pub none_of : (w : Word) (below : List Word) (n : ℕ) → is_original w ≡ fal
 none_of w below n e = let t = plain_word w e n in rw t (omega arith)
 
 pub dlet_keeps : (P : Starts) (h : OperatorContext) → KeepsCells P h dlet
-dlet_keeps P h [] all above = post_err _ _
-dlet_keeps P h (a ∷ rest) all above = post_bind (λ v. is_original a ≡ false) (CellsKept P h (a ∷ rest)) (movable a) _ (movable_plain a)
-    (λ v plain. post_ok (CellsKept P h (a ∷ rest)) _ (record { fit = all.1; above = above.1; same = λ n. sym (none_of a rest n plain) }))
+dlet_keeps P h e all above = grind arith
 
 pub exch_keeps : (P : Starts) (h : OperatorContext) → KeepsCells P h exch
 exch_keeps P h [] all above = post_err _ _
 exch_keeps P h (b ∷ []) all above = post_err _ _
-exch_keeps P h (b ∷ a ∷ rest) all above = post_bind (λ v. is_original a ≡ false) (CellsKept P h (b ∷ a ∷ rest)) (movable a) _ (movable_plain a)
-    (λ u one. post_bind (λ v. is_original b ≡ false) (CellsKept P h (b ∷ a ∷ rest)) (movable b) _ (movable_plain b)
-    (λ v two. post_ok (CellsKept P h (b ∷ a ∷ rest)) _ (record {
-      fit = (all.1.0, (all.0, all.1.1));
-      above = (plain_above a (b ∷ rest) (plain_word a one), (plain_above b rest (plain_word b two), above.1.1));
-      same = λ n. omega arith;
-    })))
+exch_keeps P h (b ∷ a ∷ rest) all above = grind arith
 
 pub dupl_keeps : (P : Starts) (h : OperatorContext) → KeepsCells P h dupl
-dupl_keeps P h [] all above = post_err _ _
-dupl_keeps P h (a ∷ rest) all above = post_bind (λ v. is_original a ≡ false) (CellsKept P h (a ∷ rest)) (movable a) _ (movable_plain a)
-    (λ v plain. post_ok (CellsKept P h (a ∷ rest)) _ (record { fit = (all.0, all); above = (plain_above a (a ∷ rest) (plain_word a plain), above); same = λ n. none_of a (a ∷ rest) n plain }))
+dupl_keeps P h e all above = grind arith
 
 abbrev IsRefFit : Starts → OperatorContext → Word → Type 0
 IsRefFit P h v = Fit P h v × ((n : ℕ) → is_original_of n v ≡ false)
@@ -99,24 +71,14 @@ stff_keeps P h run (w ∷ rest) all above = post_err _ _
 
 -- the running task at another place
 pub run_at : (P : Starts) (h : OperatorContext) (target : Place) → Run P h → P h.task.segment (level_of_frame (running h.task.frames)) target → Run P (branches h target)
-run_at P h target run starts = record {
-  unchanging = run.unchanging;
-  order = run.order;
-  found = run.found;
-  running = run.running;
-  same = ap (λ (t : Task). record t { place = target }) run.same;
-  place = starts;
-  ready = run.ready;
-}
+run_at P h target run starts = grind arith
 
 pub go_good : (P : Starts) (h : OperatorContext) (target : Place) (cells : List Word) → Run P h → P h.task.segment (level_of_frame (running h.task.frames)) target → AllFit P h cells → CopiesAbove cells → SameOriginals cells (cells_of h) →
     Good P h (leaves_cells (branches h target) cells None)
 go_good P h target cells run starts fit above same = cells_good P (branches h target) cells None (run_at P h target run starts) fit above same
 
 pub operand_plain : (w : Word) → Post (λ bits. is_original w ≡ false) (operand w)
-operand_plain (Operand bits) = post_ok (λ b. is_original (Operand bits) ≡ false) bits refl
-operand_plain (Original a) = post_err _ _
-operand_plain w = post_err _ _
+operand_plain w = grind arith
 
 pub branch_good : (P : Starts) (wanted : Bool) (h : OperatorContext) (cells : List Word) (target : Place) → Run P h → P h.task.segment (level_of_frame (running h.task.frames)) target →
     cells_of h ≡ cells → Good P h (branch_if wanted h cells target)
@@ -135,15 +97,7 @@ pub valc_good : (P : Starts) (h : OperatorContext) (couple : ℕ) → couple < 2
 valc_good P h couple low run = post_bind (EndInOrder P h) (Keeps P h) _ _ (chase_in P h run (Name couple) low) (λ end is. evaluates_good P h end run is)
 
 follow_plain : (h : OperatorContext) (w : Word) → Post (λ end. is_original w ≡ false) (follow h w)
-follow_plain h (Name couple) = post_any_at (follow h (Name couple)) (λ end. refl)
-follow_plain h (Ref f offset) = post_any_at (follow h (Ref f offset)) (λ end. refl)
-follow_plain h (Element a index) = post_any_at (follow h (Element a index)) (λ end. refl)
-follow_plain h (Operand bits) = post_err _ _
-follow_plain h (Row array) = post_err _ _
-follow_plain h (Original array) = post_err _ _
-follow_plain h (Proc segment level place) = post_err _ _
-follow_plain h (Intrinsic number) = post_err _ _
-follow_plain h (Words.Segment number) = post_err _ _
+follow_plain h w = grind arith
 
 -- what follows of a reference on the stack
 pub record Followed (P : Starts) (h : OperatorContext) (w : Word) (end : End) : Type 0 where
@@ -166,25 +120,13 @@ pub load_good : (P : Starts) (h : OperatorContext) (cells : List Word) → Run P
 load_good P h [] run at are = post_err (Keeps P h) _
 load_good P h (w ∷ rest) run at are =
     let fit : AllFit P h (w ∷ rest) = subst (AllFit P h) are (own_fit P h run) in
-    let above : CopiesAbove (w ∷ rest) = subst CopiesAbove are (own_copies P h run) in
-    post_bind (Followed P h w) (Keeps P h) (follow h w) _ (followed P h run w fit.0)
-    (λ end g. load_at_good P h rest end run at g.is fit.1 above.1 (λ n. sym (none_of w rest n g.plain) ∙ ap (originals n) (sym are)))
+    grind (arith, own_copies, followed, load_at_good)
 
 array_of_plain : (h : OperatorContext) (w : Word) → Post (λ a. is_original w ≡ false) (array_of h w)
-array_of_plain h (Row array) = post_ok _ _ refl
-array_of_plain h (Name couple) = post_any_at (array_of h (Name couple)) (λ a. refl)
-array_of_plain h (Ref f offset) = post_any_at (array_of h (Ref f offset)) (λ a. refl)
-array_of_plain h (Operand bits) = post_err _ _
-array_of_plain h (Element array index) = post_err _ _
-array_of_plain h (Original array) = post_err _ _
-array_of_plain h (Proc segment level place) = post_err _ _
-array_of_plain h (Intrinsic number) = post_err _ _
-array_of_plain h (Words.Segment number) = post_err _ _
+array_of_plain h w = grind arith
 
 indexed_plain : (h : OperatorContext) (r i : Word) → Post (λ at. (is_original r ≡ false) × (is_original i ≡ false)) (indexed h r i)
-indexed_plain h r i = post_bind (λ b. is_original i ≡ false) (λ at. (is_original r ≡ false) × (is_original i ≡ false)) (operand i) _ (operand_plain i)
-    (λ b one. post_bind (λ a. is_original r ≡ false) (λ at. (is_original r ≡ false) × (is_original i ≡ false)) (array_of h r) _ (array_of_plain h r)
-    (λ a two. post_any_at _ (λ at. (two, one))))
+indexed_plain h r i = grind arith
 
 -- two words in the order that a row takes them
 pub record Pair (P : Starts) (h : OperatorContext) (b a : Word) : Type 0 where
@@ -193,15 +135,7 @@ pub record Pair (P : Starts) (h : OperatorContext) (b a : Word) : Type 0 where
   pub plain : is_original (in_order b a).0 ≡ false → is_original (in_order b a).1 ≡ false → (is_original a ≡ false) × (is_original b ≡ false)
 
 pub pair : (P : Starts) (h : OperatorContext) (b a : Word) → Fit P h b → Fit P h a → Pair P h b a
-pair P h (Operand bits) a x y = record { first = y; second = x; plain = λ p q. (p, q) }
-pair P h (Name couple) a x y = record { first = x; second = y; plain = λ p q. (q, p) }
-pair P h (Ref f offset) a x y = record { first = x; second = y; plain = λ p q. (q, p) }
-pair P h (Row array) a x y = record { first = x; second = y; plain = λ p q. (q, p) }
-pair P h (Element array index) a x y = record { first = x; second = y; plain = λ p q. (q, p) }
-pair P h (Original array) a x y = record { first = x; second = y; plain = λ p q. (q, p) }
-pair P h (Proc segment level place) a x y = record { first = x; second = y; plain = λ p q. (q, p) }
-pair P h (Intrinsic number) a x y = record { first = x; second = y; plain = λ p q. (q, p) }
-pair P h (Words.Segment number) a x y = record { first = x; second = y; plain = λ p q. (q, p) }
+pair P h b a x y = grind arith
 
 pub two_plain : (n : ℕ) (b a : Word) (rest : List Word) → is_original a ≡ false → is_original b ≡ false → originals n (b ∷ a ∷ rest) ≡ originals n rest
 two_plain n b a rest p q = none_of b (a ∷ rest) n q ∙ none_of a rest n p

@@ -105,17 +105,7 @@ TopWords P h arrays frames cells = CellsInOrder P arrays (map known_of frames ++
 pub change_cells : (P : Starts) (h : OperatorContext) (arrays : List Array) (frames : List Frame) (next : ℕ) (cells : List Word) → Change P h arrays frames next → TopWords P h arrays frames cells →
     Change P h arrays (with_top_cells frames cells) next
 change_cells P h arrays [] next cells c words = absurd (c.some refl)
-change_cells P h arrays (f ∷ below) next cells c words = record {
-  order = (words, c.order.1, c.order.2);
-  returns = c.returns;
-  some = λ e. cc;
-  falls = c.falls;
-  up = c.up;
-  alike = λ t k. alike_trans (map known_of (from_frame t.critical h.task.frames)) (map known_of (from_frame t.critical (f ∷ below))) (map known_of (from_frame t.critical (record f { cells = cells } ∷ below))) (c.alike t k)
-      (elim (eqb_tells f.identity t.critical) [ inl e ↦ rw e.0 (alike_same (map known_of (f ∷ below))) | inr e ↦ rw e.0 (alike_same (map known_of (from_frame t.critical below))) ]);
-  stays = c.stays;
-  fewer = c.fewer;
-}
+change_cells P h arrays (f ∷ below) next cells c words = grind arith
 
 -- a critical frame is an old one
 pub critical_low : (P : Starts) (h : OperatorContext) → Run P h → (t : Task) → Has h.job.tasks t → t.critical < h.job.next_frame
@@ -161,20 +151,7 @@ change_push P h arrays frames standing run c stands returns = record {
 -- the top frame goes
 pub change_drop : (P : Starts) (h : OperatorContext) (arrays : List Array) (f : Frame) (below : List Frame) (next : ℕ) → Change P h arrays (f ∷ below) next →
     ((t : Task) → Has h.job.tasks t → t.critical ≢ f.identity) → below ≢ [] → Change P h arrays below next
-change_drop P h arrays f below next c free some = record {
-  order = c.order.2;
-  returns = c.returns.1;
-  some = some;
-  falls = falls_more f.identity next (known_numbers (map known_of below ++ outside h)) (omega (arith, c.falls.0)) c.falls.1;
-  up = c.up;
-  alike = λ t k. alike_trans (map known_of (from_frame t.critical h.task.frames)) (map known_of (from_frame t.critical (f ∷ below))) (map known_of (from_frame t.critical below)) (c.alike t k)
-      (elim (eqb_tells f.identity t.critical) [ inl e ↦ absurd (free t k (sym e.1)) | inr e ↦ rw e.0 (alike_same (map known_of (from_frame t.critical below))) ]);
-  stays = λ t k i. elim (c.stays t k i) [ inl e ↦ absurd (free t k (sym e)) | inr m ↦ m ];
-  fewer = λ n low. let one = c.fewer n low in elim (eqb_tells f.identity n) [
-    | inl e ↦ let more : 1 + frames_named n below ≤ frames_named n h.task.frames = rw e.0 at one in omega (arith, more)
-    | inr e ↦ let more : 0 + frames_named n below ≤ frames_named n h.task.frames = rw e.0 at one in omega (arith, more)
-  ];
-}
+change_drop P h arrays f below next c free some = grind (arith, falls_more)
 
 -- the marked frame on top is entered
 pub change_enter : (P : Starts) (h : OperatorContext) (arrays : List Array) (f : Frame) (below : List Frame) (next level environment : ℕ) (back : Return) → Change P h arrays (f ∷ below) next → f.standing ≡ Marked →
@@ -210,29 +187,7 @@ pub change_replaces : (P : Starts) (h : OperatorContext) (frames : List Frame) (
     ((n : ℕ) → originals_in n frames ≡ originals_in n h.task.frames) → AllByRecursion (λ n. nat_abs n < 2 ^ 39) numbers →
     Replaced P h.constants h.job h.task (with_task (record h.job { next_frame = next; numbers = numbers }) (record h.task { frames = frames; segment = segment; place = place; condition = condition }))
     (record h.task { frames = frames; segment = segment; place = place; condition = condition })
-change_replaces P h frames next segment place condition numbers order c low starts waits same reads = record {
-  number = refl;
-  line = refl;
-  critical = refl;
-  tasks = refl;
-  next_task = refl;
-  next_frame = c.up;
-  frames = c.order;
-  returns = c.returns;
-  some = c.some;
-  falls = c.falls;
-  not_higher = low;
-  place = starts;
-  condition = waits;
-  alike = c.alike;
-  stays = c.stays;
-  fewer = c.fewer;
-  kept = λ a k. record { case = inl (itself h.job.arrays a k) };
-  arrays = order.arrays;
-  once = λ a k. omega (arith, same a.identity, all_in (λ (x : Array). originals_of x.identity h.constants h.job ≡ 1) h.job.arrays a order.once k);
-  names = order.names;
-  reads = reads;
-}
+change_replaces P h frames next segment place condition numbers order c low starts waits same reads = grind (arith, all_in)
 
 -- the running task with these frames, among the same arrays
 pub changed : (P : Starts) (h : OperatorContext) (frames : List Frame) (next segment : ℕ) (place : Place) → Run P h → Change P h h.job.arrays frames next → height frames ≤ h.constants.stack_size →

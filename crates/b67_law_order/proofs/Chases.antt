@@ -31,38 +31,17 @@ LinkInOrder P h (Leads w) = RefInOrder (reach h) w
 
 pub running_in : (P : Starts) (fs : List Frame) → StackInOrder P fs → fs ≢ [] → Has fs (running fs) × IsEntered (running fs).standing
 running_in P [] g some = absurd (some refl)
-running_in P (f ∷ below) g some = by f.standing refl g.0 (λ more. running_in P below g.1 more) where
-  by : (s : Standing) → f.standing ≡ s → ReturnsInOrder P s below → (below ≢ [] → Has below (running below) × IsEntered (running below).standing) → Has (f ∷ below) (running_from s f (running below)) × IsEntered (running_from s f (running below)).standing
-  by Marked e g under = let r = under g in (inr r.0, r.1)
-  by (Entered level environment back) e g under = (inl refl, rw e tt)
+running_in P (f ∷ below) g some = grind (arith, running_in P below g.1)
 
 -- couples of a task reach offsets of twelve bits
 disp_low : (bits level : ℕ) → 2 ≤ level → (couple bits level).disp < 2 ^ 12
-disp_low bits level low = elim (cases_Bool (leb level 1)) [
-  | inl t ↦ absurd (omega (arith, leb-true level 1 t, low))
-  | inr t ↦ rw t (elim (cases_Bool (leb level 3)) [
-    | inl u ↦ rw u (omega arith)
-    | inr u ↦ rw u (elim (cases_Bool (leb level 7)) [
-      | inl v ↦ rw v (omega arith)
-      | inr v ↦ rw v (elim (cases_Bool (leb level 15)) [
-        | inl w ↦ rw w (omega arith)
-        | inr w ↦ rw w (elim (cases_Bool (leb level 31)) [ inl x ↦ rw x (omega arith) | inr x ↦ rw x (omega arith) ])
-      ])
-    ])
-  ])
-]
+disp_low bits level low = grind arith
 
 pub some_ok : {A : Type 0} (o : Option A) (fault : Fault) (x : A) → ok_or o fault ≡ Ok x → o ≡ Some x
-some_ok None fault x e = cc
-some_ok (Some y) fault x e = let same : y ≡ x = cc in ap Some same
+some_ok o fault x e = grind arith
 
 pub cell_has : (f : Frame) (offset : ℕ) (w : Word) → ok_or (cell_of f offset) InvalidAddress ≡ Ok w → Has f.cells w
-cell_has f offset w e =
-    let some : cell_of f offset ≡ Some w = some_ok (cell_of f offset) InvalidAddress w e in
-    elim (cases_Bool (ltb offset (first_offset f))) [
-      | inl t ↦ let no : None ≡ Some w = rw t at some in cc
-      | inr t ↦ has_reverse_back f.cells w (has_get (reverse f.cells) (offset - first_offset f) w (rw t at some))
-    ]
+cell_has f offset w e = grind (arith, has_reverse_back, has_get)
 
 module _ (P : Starts) (h : OperatorContext) (run : Run P h) where
   pub running_known : Has (reach h) (known_of (running h.task.frames)) × IsEntered (running h.task.frames).standing
@@ -108,37 +87,21 @@ module _ (P : Starts) (h : OperatorContext) (run : Run P h) where
 
   -- an original that is seen in an entered frame
   owned_named : (f array : ℕ) → NamesEntered (reach h) f → OwnsArray h.job.arrays f array → NamesArray h.job.arrays (reach h) array
-  owned_named f array names g = record {
-    item = g.item;
-    live = g.live;
-    named = g.named;
-    owner = subst (NamesEntered (reach h)) (sym g.owned) names;
-  }
+  owned_named f array names g = grind arith
 
   -- the index is tested as it is used
   element_in : (a index : ℕ) → NamesArray h.job.arrays (reach h) a → Post (EndInOrder P h) (element_end h a index)
-  element_in a index g = post_if_is (EndInOrder P h) (ltb index (length (array h.job a).numbers)) _ _
-      (λ t. post_ok (EndInOrder P h) (AtElement a index) (record { names = g; inside = ltb-true index _ t }))
-      (λ t. post_err (EndInOrder P h) _)
+  element_in a index g = grind arith
 
   link_word : (f offset : ℕ) → PlaceInOrder (reach h) (f, offset) → (w : Word) → cell h f offset ≡ Ok w → SeenWord P h.job.arrays (reach h) f w → LinkInOrder P h (link_at h f offset w)
-  link_word f offset at (Operand bits) e g = post_ok (EndInOrder P h) (AtCell f offset bits) (record { names = at.0; low = at.1; bound = g; found = e })
-  link_word f offset at (Name couple) e g = g
-  link_word f offset at (Ref identity other) e g = g
-  link_word f offset at (Element a index) e g = element_in a index g
-  link_word f offset at (Original array) e g = post_ok (EndInOrder P h) (AtArray array) (owned_named f array at.0 g)
-  link_word f offset at (Row array) e g = post_ok (EndInOrder P h) (AtArray array) g
-  link_word f offset at (Proc segment level place) e g = post_ok (EndInOrder P h) (AtProc f segment level place) (record { names = at.0; own = g.2; high = g.0; starts = g.1 })
-  link_word f offset at (Intrinsic number) e g = post_ok (EndInOrder P h) (AtIntrinsic number) tt
-  link_word f offset at (Words.Segment number) e g = post_err (EndInOrder P h) _
+  link_word f offset at w e g = grind arith
 
   link_cell : (f offset : ℕ) → PlaceInOrder (reach h) (f, offset) → (a : Answer Word) → cell h f offset ≡ a → LinkInOrder P h (link_in h f offset a)
   link_cell f offset at (Err fault) e = post_err (EndInOrder P h) fault
   link_cell f offset at (Ok w) e = link_word f offset at w e ((see P h run f at.0.standing at.0.among).words w (cell_has (frame h f) offset w e))
 
   link_place : (a : Answer (ℕ × ℕ)) → Post (PlaceInOrder (reach h)) a → LinkInOrder P h (link_from h a)
-  link_place (Err fault) g = post_err (EndInOrder P h) fault
-  link_place (Ok at) g = link_cell at.0 at.1 g.by (cell h at.0 at.1) refl
+  link_place a g = grind (arith, link_cell)
 
   chase_links : (links : ℕ) (l : Link) → LinkInOrder P h l → Post (EndInOrder P h) (chase_on h links l)
   chase_links links (Stops end) g = g
@@ -174,11 +137,7 @@ module _ (P : Starts) (h : OperatorContext) (run : Run P h) where
   IsArray array = NamesArray h.job.arrays (reach h) array
 
   array_at_in : (end : End) → EndInOrder P h end → Post IsArray (array_at end)
-  array_at_in (AtArray array) g = post_ok IsArray array g
-  array_at_in (AtCell f offset bits) g = post_err IsArray _
-  array_at_in (AtElement array index) g = post_err IsArray _
-  array_at_in (AtProc f segment level place) g = post_err IsArray _
-  array_at_in (AtIntrinsic n) g = post_err IsArray _
+  array_at_in end g = grind arith
 
   pub array_of_in : (owner : ℕ) (w : Word) → WordInOrder P h.job.arrays (reach h) owner w → Post IsArray (array_of h w)
   array_of_in owner (Row array) g = post_ok IsArray array g
@@ -193,24 +152,17 @@ module _ (P : Starts) (h : OperatorContext) (run : Run P h) where
 
   -- the array of an identity is the one that is named
   pub array_is : (n : ℕ) (a : NamesArray h.job.arrays (reach h) n) → array h.job n ≡ a.item
-  array_is n a =
-      let e : keyed (λ (x : Array). x.identity) n h.job.arrays ≡ Some a.item =
-      subst (λ m. keyed (λ (x : Array). x.identity) m h.job.arrays ≡ Some a.item) a.named (keyed_falls (λ (x : Array). x.identity) h.job.next_array h.job.arrays a.item run.order.names a.live) in
-      ap (λ o. unwrap_or o no_array) e
+  array_is n a = grind (arith, keyed_falls)
 
   abbrev pub IsIndexed : (ℕ × ℕ) → Type 0
   IsIndexed at = IsElement h (reach h) at.0 at.1
 
   index_in : (a : ℕ) (g : IsArray a) (n : ℤ) → Post (λ index. IsIndexed (a, index)) (index_below (length (array h.job a).numbers) n)
-  index_in a g (negsuc n) = post_err (λ index. IsIndexed (a, index)) _
-  index_in a g (pos n) = post_if_is (λ index. IsIndexed (a, index)) (ltb n (length (array h.job a).numbers)) _ _
-      (λ t. post_ok (λ index. IsIndexed (a, index)) n (record { names = g; inside = ltb-true n _ t }))
-      (λ t. post_err (λ index. IsIndexed (a, index)) _)
+  index_in a g n = grind arith
 
   pub indexed_in : (owner : ℕ) (r i : Word) → WordInOrder P h.job.arrays (reach h) owner r → Post IsIndexed (indexed h r i)
   indexed_in owner r i g = post_any IsIndexed (operand i) _ (λ bits. post_bind IsArray IsIndexed (array_of h r) _ (array_of_in owner r g)
       (λ a is. post_any IsIndexed (number bits) _ (λ n. post_bind (λ index. IsIndexed (a, index)) IsIndexed (index_below (length (array h.job a).numbers) n) _ (index_in a is n) (λ index e. post_ok IsIndexed (a, index) e))))
 
 pub ok_some : (o : Option Word) (w : Word) → ok_or o InvalidAddress ≡ Ok w → o ≡ Some w
-ok_some None w e = cc
-ok_some (Some v) w e = cc
+ok_some o w e = grind arith

@@ -46,8 +46,7 @@ plain_cells [] plain = tt
 plain_cells (w ∷ ws) plain = (plain_above w ws (plain w (inl refl)), plain_cells ws (λ v k. plain v (inr k)))
 
 from_top : (fs : List Frame) → from_frame (top fs).identity fs ≡ fs
-from_top [] = refl
-from_top (f ∷ fs) = elim (eqb_tells f.identity f.identity) [ inl e ↦ rw e.0 refl | inr e ↦ absurd (e.1 refl) ]
+from_top fs = grind arith
 
 outer_step : (job : Job) (c p : ℕ) (q : Task) → keyed (λ t. t.number) p job.tasks ≡ Some q → c ≡ (top q.frames).identity → outer_reach job c (p ∷ q.parents) ≡ reach_of job q
 outer_step job c p q found is = rw (found, is) (ap (λ fs. map known_of fs ++ outer_of job q) (from_top q.frames))
@@ -62,8 +61,7 @@ module _ (P : Starts) (constants : JobConstants) (job : Job) (parent child : Tas
   still : (n : ℕ) (q : Task) → keyed (λ t. t.number) n job.tasks ≡ Some q → keyed (λ t. t.number) n (child ∷ job.tasks) ≡ Some q
   still n q e =
       let r = keyed_has (λ t. t.number) n job.tasks q e in
-      let low = lower q r.0 in
-      elim (eqb_tells child.number n) [ inl s ↦ absurd (omega (arith, low, r.1, s.1, c.number)) | inr s ↦ rw s.0 e ]
+      grind (arith, lower)
 
   child_follows : Follows job (with_child job child) (λ n. Unit {0})
   child_follows n q lives e = record { item = q; found = still n q e; critical = refl; line = refl; alike = λ t h. alike_same (map known_of (from_frame t.critical q.frames)); stays = λ t h k. k }
@@ -91,21 +89,13 @@ module _ (P : Starts) (constants : JobConstants) (job : Job) (parent child : Tas
       (inl refl) w (c.fit w k).0
 
   environment_fits : EnvironmentInOrder (reach_of (with_child job child) parent) c.level c.environment
-  environment_fits = record {
-    low = c.stands.low;
-    high = c.stands.high;
-    standing = c.stands.standing;
-    among = alike_has (reach_of job parent) (reach_of (with_child job child) parent) c.environment c.stands.standing reach_alike c.stands.entered c.stands.among;
-    entered = c.stands.entered;
-    level_below = c.stands.level_below;
-  }
+  environment_fits = grind (arith, alike_has, reach_alike)
 
   child_order : FramesInOrder P job.arrays (reach_of (with_child job child) parent) (child_frame ∷ [])
   child_order = ((all_from (WordInOrder P job.arrays (map known_of (child_frame ∷ []) ++ reach_of (with_child job child) parent) job.next_frame) c.cells word_fits, plain_cells c.cells (λ w k. (c.fit w k).1)), environment_fits, tt)
 
   ids_top : (fs : List Frame) → fs ≢ [] → Has (identities fs) (top fs).identity
-  ids_top [] some = absurd (some refl)
-  ids_top (f ∷ fs) some = inl refl
+  ids_top fs some = grind arith
 
   child_task : TaskInOrder P constants (with_child job child) child
   child_task = record {
@@ -148,20 +138,11 @@ module _ (P : Starts) (constants : JobConstants) (job : Job) (parent child : Tas
   }
 
 top_cells : (fs : List Frame) (cells : List Word) → (top (with_top_cells fs cells)).identity ≡ (top fs).identity
-top_cells [] cells = refl
-top_cells (f ∷ below) cells = refl
+top_cells fs cells = grind arith
 
 -- it fits a frame of a wider reach, whoever its owner is
 pub word_any : (P : Starts) (arrays : List Array) (reach reach' : List Known) (owner other : ℕ) (w : Word) → Wider reach reach' arrays arrays → is_original w ≡ false → WordInOrder P arrays reach owner w → WordInOrder P arrays reach' other w
-word_any P arrays reach reach' owner other (Original a) wide plain g = absurd (true≢false plain)
-word_any P arrays reach reach' owner other (Operand bits) wide plain g = g
-word_any P arrays reach reach' owner other (Name couple) wide plain g = g
-word_any P arrays reach reach' owner other (Ref identity offset) wide plain g = (names_entered reach reach' arrays arrays identity wide g.0, g.1)
-word_any P arrays reach reach' owner other (Row array) wide plain g = names_array reach reach' arrays arrays array wide g
-word_any P arrays reach reach' owner other (Element array index) wide plain g = names_array reach reach' arrays arrays array wide g
-word_any P arrays reach reach' owner other (Proc segment level place) wide plain g = g
-word_any P arrays reach reach' owner other (Intrinsic number) wide plain g = g
-word_any P arrays reach reach' owner other (Words.Segment number) wide plain g = g
+word_any P arrays h reach' owner other w wide plain g = grind arith
 
 module _ (P : Starts) (h : OperatorContext) (run : Run P h) (marked : (top_of h).standing ≡ Marked) (low_next : h.job.next_task < 2 ^ 48) where
   -- the call's mark has no original where its words have none

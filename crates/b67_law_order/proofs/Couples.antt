@@ -1,5 +1,5 @@
 -- Where the couples of a running task lead.
-use Rattle.std.proofs.Common.{ℕ, ◌<◌, ◌^◌, Ok, Err, refl}
+use Rattle.std.proofs.Common.{ℕ, ◌<◌, ◌^◌, Ok, Err, refl, arith}
 use Rattle.b67_model.specs.Common.{Answer, Name, Task, JobConstants, Job, OperatorContext, End, chase, Starts, IsSegment, IsStart, TaskInOrder}
 use Rattle.b67_law_order.specs.Ends.{EndInOrder, StepsFrom, EndsInOrder, CouplesEndInOrder}
 use Rattle.b67_law_order.proofs.Posts.{Post}
@@ -22,8 +22,7 @@ run_of P constants job task s = record {
 }
 
 ends_by : (P : Starts) (h : OperatorContext) (a : Answer End) → Post (EndInOrder P h) a → EndsInOrder P h a
-ends_by P h (Ok end) g = g.by
-ends_by P h (Err fault) g = tt
+ends_by P h a g = grind arith
 
 couple_ends : (P : Starts) (constants : JobConstants) (job : Job) (task : Task) (couple : ℕ) → couple < 2 ^ 14 → StepsFrom P constants job task → EndsInOrder P (at_place constants job task) (chase (at_place constants job task) (Name couple))
 couple_ends P constants job task couple low s = ends_by P (at_place constants job task) (chase (at_place constants job task) (Name couple)) (chase_in P (at_place constants job task) (run_of P constants job task s) (Name couple) low)

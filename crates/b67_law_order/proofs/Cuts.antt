@@ -57,8 +57,7 @@ module _ (P : Starts) (h : OperatorContext) (cut : Cut P h) where
       (changed_reads P h (below_top h.task.frames) h.job.numbers cut.run c low_below (sym (running_marked h.task.frames cut.marked)) (below_of c) cut.run.order.reads).0
 
   pub answers_none : (printed : List Line) (touched : Option ℕ) → Good P h (answers h h.job [] printed touched)
-  answers_none printed touched = post_needs (Keeps P h) (not (is_critical h.job (top_of h).identity)) _ _
-      (λ free. result_good P h h h.job (answered h []) printed touched (λ low. cut_low free))
+  answers_none printed touched = grind (arith, cut_low)
 
   -- an operand is pushed on the frame below
   pub pushed_words : (bits : ℕ) → bits < 2 ^ 48 → Change P h h.job.arrays (below_top h.task.frames) h.job.next_frame → TopWords P h h.job.arrays (below_top h.task.frames) (Operand bits ∷ (top (below_top h.task.frames)).cells)
@@ -84,45 +83,22 @@ module _ (P : Starts) (h : OperatorContext) (cut : Cut P h) where
   answer_outer bits numbers low reads free high = (answer_both bits numbers low reads free high).1
 
   pub answers_operand : (bits : ℕ) (numbers : List ℤ) (printed : List Line) (touched : Option ℕ) → bits < 2 ^ 48 → AllByRecursion (λ n. nat_abs n < 2 ^ 39) numbers → Good P h (answers h (record h.job { numbers = numbers }) (Operand bits ∷ []) printed touched)
-  answers_operand bits numbers printed touched low reads = post_needs (Keeps P h) (not (is_critical h.job (top_of h).identity)) _ _
-      (λ free. result_good P h h (record h.job { numbers = numbers }) (answered h (Operand bits ∷ [])) printed touched (λ high. answer_job bits numbers low reads free high))
+  answers_operand bits numbers printed touched low reads = grind (arith, answer_job)
 
   pub print_good : (arguments : List Word) → Good P h (print h arguments)
-  print_good [] = post_err (Keeps P h) _
-  print_good (w ∷ []) = post_any (Keeps P h) (whole w) _ (λ n. answers_none (Value n ∷ []) None)
-  print_good (w ∷ v ∷ more) = post_err (Keeps P h) _
+  print_good arguments = grind (arith, answers_none)
 
   pub printrow_good : (arguments : List Word) → Good P h (printrow h arguments)
-  printrow_good [] = post_err (Keeps P h) _
-  printrow_good (w ∷ []) = post_any (Keeps P h) (row_copy w) _ (λ a. post_any (Keeps P h) (numbers_of (array h.job a).numbers) _ (λ values. answers_none (Values values ∷ []) (Some a)))
-  printrow_good (w ∷ v ∷ more) = post_err (Keeps P h) _
+  printrow_good arguments = grind (arith, answers_none)
 
   status_low : (n : ℤ) → status_of h.job n < 2 ^ 48
-  status_low (negsuc n) = omega arith
-  status_low (pos n) = by (keyed (λ (t : Task). t.number) n h.job.tasks) where
-    status_in_low : (c : Condition) → Intrinsics.status_in c < 2 ^ 48
-    status_in_low Ready = omega arith
-    status_in_low (Awaits m) = omega arith
-    status_in_low (WaitsAt f offset) = omega arith
-
-    past : (b : Bool) → cond b 3 0 < 2 ^ 48
-    past true = omega arith
-    past false = omega arith
-
-    by : (o : Option Task) → (elim o [ Some t ↦ Intrinsics.status_in t.condition | None ↦ cond (ltb 0 n && ltb n h.job.next_task) 3 0 ]) < 2 ^ 48
-    by (Some t) = status_in_low t.condition
-    by None = past (ltb 0 n && ltb n h.job.next_task)
+  status_low n = grind arith
 
   pub status_good : (arguments : List Word) → Good P h (status h arguments)
-  status_good [] = post_err (Keeps P h) _
-  status_good (w ∷ []) = post_any (Keeps P h) (whole w) _ (λ n. answers_operand (status_of h.job n) h.job.numbers [] None (status_low n) cut.run.order.reads)
-  status_good (w ∷ v ∷ more) = post_err (Keeps P h) _
+  status_good arguments = grind (arith, answers_operand)
 
   awaits_good : (n : ℤ) → Good P h (awaits h n)
-  awaits_good (negsuc n) = answers_none [] None
-  awaits_good (pos n) = post_if (Keeps P h) _ _ _ (post_ok (Keeps P h) (Waits (Awaits n)) tt) (answers_none [] None)
+  awaits_good n = grind (arith, answers_none)
 
   pub await_good : (arguments : List Word) → Good P h (await h arguments)
-  await_good [] = post_err (Keeps P h) _
-  await_good (w ∷ []) = post_any (Keeps P h) (whole w) _ awaits_good
-  await_good (w ∷ v ∷ more) = post_err (Keeps P h) _
+  await_good arguments = grind (arith, awaits_good)

@@ -144,12 +144,7 @@ module _ (P : Starts) (constants : JobConstants) (job : Job) (numbers : List ℕ
   }
 
 released_same : (numbers : List ℕ) (c : Condition) → (released numbers c ≡ c) ⊎ (released numbers c ≡ Ready)
-released_same numbers Ready = inl refl
-released_same numbers (WaitsAt f offset) = inl refl
-released_same numbers (Awaits n) = by (among numbers n) where
-  by : (b : Bool) → (cond b Ready (Awaits n) ≡ Awaits n) ⊎ (cond b Ready (Awaits n) ≡ Ready)
-  by true = inr refl
-  by false = inl refl
+released_same numbers c = grind arith
 
 -- the endings of these tasks keep the others in order
 pub ends_good : (P : Starts) (constants : JobConstants) (s : Settled) (endings : List (ℕ × Ending)) → TasksInOrder P constants s.job → IsClosed s.job (map (λ e. e.0) endings) → TasksInOrder P constants (ends_all s endings).job
@@ -200,15 +195,10 @@ at_depth_has depth tasks t h e = has_map (λ (u : Task). u.number) (filter (λ (
 
 deepest_has : (depth : ℕ) (tasks : List Task) (t : Task) → Has tasks t → length t.parents < depth → Has (deepest_below depth tasks) t.number
 deepest_has zero tasks t h low = absurd (omega (arith, low))
-deepest_has (suc depth) tasks t h low = elim (eqb_tells (length t.parents) depth) [
-  | inl e ↦ has_append_left (at_depth depth tasks) (deepest_below depth tasks) t.number (at_depth_has depth tasks t h e.1)
-  | inr e ↦ has_append_right (at_depth depth tasks) (deepest_below depth tasks) t.number (deepest_has depth tasks t h (omega (arith, low, e.1)))
-]
+deepest_has (suc depth) tasks t h low = grind (arith, has_append_left, at_depth_has, has_append_right, deepest_has depth tasks t h)
 
 at_depth_back : (depth : ℕ) (tasks : List Task) (n : ℕ) → Has (at_depth depth tasks) n → (t : Task) × Has tasks t × (t.number ≡ n)
-at_depth_back depth tasks n h =
-    let r = has_map_back (λ (u : Task). u.number) (filter (λ (u : Task). eqb (length u.parents) depth) (reverse tasks)) n h in
-    (r.item, has_reverse_back tasks r.item (has_filter (λ (u : Task). eqb (length u.parents) depth) (reverse tasks) r.item r.among).0, r.is)
+at_depth_back depth tasks n h = grind (arith, has_map_back, has_reverse_back, has_filter)
 
 deepest_back : (depth : ℕ) (tasks : List Task) (n : ℕ) → Has (deepest_below depth tasks) n → (t : Task) × Has tasks t × (t.number ≡ n)
 deepest_back zero tasks n h = absurd h

@@ -24,12 +24,10 @@ enter_top P h (f ∷ below) next level environment back cells c words marked sta
     change_enter P h h.job.arrays (record f { cells = cells }) below next level environment back (change_cells P h h.job.arrays (f ∷ below) next cells c words) marked stands returns
 
 pub running_marked : (fs : List Frame) → (top fs).standing ≡ Marked → level_of_frame (running fs) ≡ level_of_frame (running (below_top fs))
-running_marked [] marked = refl
-running_marked (f ∷ below) marked = rw marked refl
+running_marked fs marked = grind arith
 
 originals_top : (n : ℕ) (fs : List Frame) (standing : Standing) (cells : List Word) → fs ≢ [] → originals n cells ≡ originals n (top fs).cells → originals_in n (record (top fs) { standing = standing; cells = cells } ∷ below_top fs) ≡ originals_in n fs
-originals_top n [] standing cells some e = absurd (some refl)
-originals_top n (f ∷ below) standing cells some e = omega (arith, e)
+originals_top n fs standing cells some e = grind arith
 
 pub enters_good : (P : Starts) (h : OperatorContext) (arguments : List Word) (end : End) → Run P h → EndInOrder P h end → (top_of h).standing ≡ Marked → AllFit P h (reverse arguments) → CopiesAbove (reverse arguments) → SameOriginals (reverse arguments) (cells_of h) → Good P h (enters h arguments end)
 enters_good P h arguments (AtProc f segment level place) run is marked fit above same =
@@ -64,29 +62,14 @@ taken_apart P h run = apart_by h.task.frames h refl (own_order P h run).some
 
 -- no live task depends on the frame
 free_of : (job : Job) (n : ℕ) → is_critical job n ≡ false → (t : Task) → Has job.tasks t → t.critical ≢ n
-free_of job n none t k e = let no = any_none (λ (u : Task). eqb u.critical n) job.tasks t none k in elim (eqb_tells t.critical n) [
-  | inl s ↦ true≢false (sym s.0 ∙ no)
-  | inr s ↦ s.1 e
-]
+free_of job n none t k e = grind (arith, any_none)
 
 pub free_by : (job : Job) (n : ℕ) → not (is_critical job n) ≡ true → (t : Task) → Has job.tasks t → t.critical ≢ n
 free_by job n test = free_of job n (not-true (is_critical job n) test)
 
 -- the originals of other arrays don't lie in a frame
 pub none_original : (job : Job) (P : Starts) (reach : List Known) (n : ℕ) (a : Array) → Falls job.next_array (map (λ x. x.identity) job.arrays) → Has job.arrays a → a.owner ≢ n → (w : Word) → WordInOrder P job.arrays reach n w → is_original_of a.identity w ≡ false
-none_original job P reach n a falls live other (Original m) g = elim (eqb_tells m a.identity) [
-  | inl e ↦ let same : g.item ≡ a = falls_same (λ (x : Array). x.identity) job.next_array job.arrays g.item a falls g.live live (g.named ∙ e.1) in
-      absurd (other (ap (λ (x : Array). x.owner) (sym same) ∙ g.owned))
-  | inr e ↦ e.0
-]
-none_original job P reach n a falls live other (Operand bits) g = refl
-none_original job P reach n a falls live other (Name couple) g = refl
-none_original job P reach n a falls live other (Ref identity offset) g = refl
-none_original job P reach n a falls live other (Row array) g = refl
-none_original job P reach n a falls live other (Element array index) g = refl
-none_original job P reach n a falls live other (Proc segment level place) g = refl
-none_original job P reach n a falls live other (Intrinsic number) g = refl
-none_original job P reach n a falls live other (Words.Segment number) g = refl
+none_original job P h n a falls live other w g = grind (arith, falls_same)
 
 -- the state after a frame was left
 pub record Left (P : Starts) (h : OperatorContext) (back : Return) : Type 0 where
@@ -105,12 +88,7 @@ module _ (P : Starts) (h : OperatorContext) (run : Run P h) where
   parted p = subst (λ fs. Change P h h.job.arrays fs h.job.next_frame) p.are (no_change P h run)
 
   stays_by : (n : ℕ) (a : Array) → Has h.job.arrays a → a.owner ≢ n → Stays (filter (λ (x : Array). not (eqb x.owner n)) h.job.arrays) a
-  stays_by n a live other = record {
-    item = a;
-    live = has_filter_in (λ (x : Array). not (eqb x.owner n)) h.job.arrays a live (elim (eqb_tells a.owner n) [ inl e ↦ absurd (other e.1) | inr e ↦ rw e.0 refl ]);
-    named = refl;
-    owned = refl;
-  }
+  stays_by n a live other = grind (arith, has_filter_in)
 
   pub left_good : (back : Return) → (p : Apart h) → not (is_critical h.job p.f.identity) ≡ true → p.below ≢ [] → P back.segment (level_of_frame (running p.below)) back.place → Left P h back
   left_good back p free some starts =

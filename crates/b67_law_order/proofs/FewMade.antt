@@ -14,9 +14,7 @@ sum_few bound (m ∷ more) few short = omega (arith, sum_by-cons (λ (y : Sessio
 
 module _ (s : Session) (o : IsInOrderButPlaces s) where
   pub made_few : (m : SessionJob) → Has s.jobs m → m.progress.made ≤ MOST_LIMIT
-  made_few m inm =
-      let j = all_in (λ (y : SessionJob). JobInOrder (IsSegment y.constants) y.constants y.progress) s.jobs m o.jobs inm in
-      omega (arith, j.counts.within, j.unchanging.limit)
+  made_few m inm = grind (arith, all_in)
 
   pub all_few : s.made ≤ MOST_MADE
   all_few = omega (arith, o.counted, sum_few MOST_LIMIT s.jobs made_few o.few, o.few)

@@ -22,11 +22,7 @@ nil_left (x ∷ xs) ys e = absurd cc
 
 -- inside a segment reading never comes to a bad place
 origin_well : (code : List ℕ) → 0 < length code → operator_at code origin ≢ Err BadPlace
-origin_well code some e =
-    elim (cases_Bool (ltb 0 (length code))) [
-      | inl t ↦ reads_good code (count_at origin) (form_of (syllable code (count_at origin))) (rw t at e)
-      | inr t ↦ absurd (omega (arith, some, ltb-false 0 (length code) t))
-    ]
+origin_well code some e = grind (arith, reads_good, ltb-false)
 
 -- the operator at the first place of a segment
 pub record FirstStands (s : Segment) : Type 0 where

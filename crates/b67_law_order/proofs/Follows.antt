@@ -1,5 +1,5 @@
 -- References lead where they lead, whatever the tasks wait for.
-use Rattle.std.proofs.Common.{◌≡◌, ℕ, zero, suc, ◌-◌, List, length, Ok, Err, refl, ◌∙◌, ap, unwrap_or}
+use Rattle.std.proofs.Common.{◌≡◌, ℕ, zero, suc, ◌-◌, List, length, Ok, Err, refl, ◌∙◌, ap, unwrap_or, arith}
 use Rattle.std.specs.Prelude.{if◌then◌else◌, nat_le, nat_lt, ok_or}
 use Rattle.b67_word.specs.Couples.{couple}
 use Rattle.b67_word.specs.declared.couples.Couple.{Couple}
@@ -24,9 +24,7 @@ module _ (h k : OperatorContext) (frames : all_frames h ≡ all_frames k) (own :
   at_same n = outward_same (running_level h - n) (running h.task.frames) ∙ ap (λ (l : ℕ). outward k (l - n) (running h.task.frames)) level_same ∙ ap (λ (fs : List Frame). outward k (running_level k - n) (running fs)) own
 
   named_same : (c : Couple) → named h c ≡ named k c
-  named_same c =
-      let N : ℕ → Frame → Answer (ℕ × ℕ) = λ l f. if nat_le c.level l then Ok (f.identity, c.disp) else Err InvalidAddress in
-      ap (λ (l : ℕ). N l (frame_at h c.level)) level_same ∙ ap (N (running_level k)) (at_same c.level)
+  named_same c = grind arith
 
   place_same : (w : Word) → place_of h w ≡ place_of k w
   place_same (Name bits) = ap (λ (l : ℕ). named h (couple bits l)) level_same ∙ named_same (couple bits (running_level k))
@@ -45,28 +43,16 @@ module _ (h k : OperatorContext) (frames : all_frames h ≡ all_frames k) (own :
   -- if the arrays are the same too, for an index is tested against its array's length
   module _ (arrays : h.job.arrays ≡ k.job.arrays) where
     item_same : (a index : ℕ) → element_end h a index ≡ element_end k a index
-    item_same a index =
-        let E : List Array → Answer End = λ xs. if nat_lt index (length (unwrap_or (keyed (λ (x : Array). x.identity) a xs) no_array).numbers) then Ok (AtElement a index) else Err InvalidIndex in
-        ap E arrays
+    item_same a index = grind arith
 
     at_link_same : (f offset : ℕ) (w : Word) → link_at h f offset w ≡ link_at k f offset w
-    at_link_same f offset (Element a index) = ap Stops (item_same a index)
-    at_link_same f offset (Operand bits) = refl
-    at_link_same f offset (Name couple) = refl
-    at_link_same f offset (Ref g other) = refl
-    at_link_same f offset (Row a) = refl
-    at_link_same f offset (Original a) = refl
-    at_link_same f offset (Proc segment level place) = refl
-    at_link_same f offset (Intrinsic number) = refl
-    at_link_same f offset (Words.Segment number) = refl
+    at_link_same f offset w = grind arith
 
     in_same : (f offset : ℕ) (a : Answer Word) → link_in h f offset a ≡ link_in k f offset a
-    in_same f offset (Ok w) = at_link_same f offset w
-    in_same f offset (Err fault) = refl
+    in_same f offset a = grind arith
 
     from_same : (at : Answer (ℕ × ℕ)) → link_from h at ≡ link_from k at
-    from_same (Ok at) = ap (link_in h at.0 at.1) (cell_same at.0 at.1) ∙ in_same at.0 at.1 (cell k at.0 at.1)
-    from_same (Err fault) = refl
+    from_same at = grind (arith, in_same)
 
     link_same : (w : Word) → link h w ≡ link k w
     link_same w = ap (link_from h) (place_same w) ∙ from_same (place_of k w)

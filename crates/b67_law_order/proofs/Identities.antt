@@ -41,32 +41,16 @@ push_good : (h : OperatorContext) (w : Word) (touched : Option ℕ) → Good h (
 push_good h w touched = cells_good h h (w ∷ cells_of h) touched (same h.job)
 
 accident_good : (h k : OperatorContext) (cells : List Word) (back : Return) (end : End) → Grown h.job k.job → Good h (accident k cells back end)
-accident_good h k cells back (AtProc f segment level place) kept =
-    let up : Grown h.job (record k.job { next_frame = k.job.next_frame + 1 }) = record { frames = omega (arith, kept.frames); arrays = kept.arrays; tasks = kept.tasks; one = kept.one } in search (post_then, result_good, up)
-accident_good h k cells back (AtCell f offset bits) kept = post_err (Keeps h.job) _
-accident_good h k cells back (AtElement a index) kept = post_err (Keeps h.job) _
-accident_good h k cells back (AtArray a) kept = post_err (Keeps h.job) _
-accident_good h k cells back (AtIntrinsic n) kept = post_err (Keeps h.job) _
+accident_good h k cells back end kept = grind arith
 
 evaluates_good : (h k : OperatorContext) (end : End) → Grown h.job k.job → Good h (evaluates k end)
-evaluates_good h k (AtCell f offset bits) kept = cells_good h k _ None kept
-evaluates_good h k (AtElement a index) kept = cells_good h k _ (Some a) kept
-evaluates_good h k (AtProc f segment level place) kept = accident_good h k _ _ (AtProc f segment level place) kept
-evaluates_good h k (AtArray a) kept = post_err (Keeps h.job) _
-evaluates_good h k (AtIntrinsic n) kept = post_err (Keeps h.job) _
+evaluates_good h k end kept = grind arith
 
 enters_good : (h : OperatorContext) (arguments : List Word) (end : End) → Good h (enters h arguments end)
-enters_good h arguments (AtProc f segment level place) = search (post_then, result_good, same)
-enters_good h arguments (AtCell f offset bits) = post_err (Keeps h.job) _
-enters_good h arguments (AtElement a index) = post_err (Keeps h.job) _
-enters_good h arguments (AtArray a) = post_err (Keeps h.job) _
-enters_good h arguments (AtIntrinsic n) = post_err (Keeps h.job) _
+enters_good h arguments end = grind arith
 
 leaves_good : (h : OperatorContext) (standing : Standing) (go : OperatorContext → Bool → Answer Done) → ((k : OperatorContext) (value : Bool) → Grown h.job k.job → Good h (go k value)) → Good h (leaves h standing go)
-leaves_good h Marked go each = post_err (Keeps h.job) _
-leaves_good h (Entered level environment None) go each = post_then (Keeps h.job) _ _ (post_ok (Keeps h.job) _ tt)
-leaves_good h (Entered level environment (Some back)) go each =
-    post_then (Keeps h.job) _ _ (each (left h back) back.value (record { frames = omega arith; arrays = omega arith; tasks = omega arith; one = omega arith }))
+leaves_good h standing go each = grind arith
 
 returned_good : (h k : OperatorContext) (w : Word) (value : Bool) → Grown h.job k.job → Good h (returned k w value)
 returned_good h k w false kept = cells_good h k _ None kept
@@ -98,44 +82,28 @@ exit_good : (h : OperatorContext) → Good h (exit h)
 exit_good h = leaves_good h (top_of h).standing _ (λ k value kept. result_good h k k.job k.task [] None kept)
 
 branch_good : (wanted : Bool) (h : OperatorContext) (cells : List Word) (target : Place) → Good h (branch_if wanted h cells target)
-branch_good wanted h [] target = search steps_rules
-branch_good wanted h (a ∷ rest) target = search steps_rules
+branch_good wanted h cells target = grind arith
 
 valc_good : (h : OperatorContext) (couple : ℕ) → Good h (valc h couple)
 valc_good h couple = search steps_rules
 
 load_at_good : (h : OperatorContext) (rest : List Word) (end : End) → Good h (load_at h rest end)
-load_at_good h rest (AtProc f segment level place) = search steps_rules
-load_at_good h rest (AtCell f offset bits) = search steps_rules
-load_at_good h rest (AtElement a index) = search steps_rules
-load_at_good h rest (AtArray a) = search steps_rules
-load_at_good h rest (AtIntrinsic n) = search steps_rules
+load_at_good h rest end = grind arith
 
 load_good : (h : OperatorContext) (cells : List Word) → Good h (load h cells)
-load_good h [] = search steps_rules
-load_good h (w ∷ rest) = search (steps_rules, load_at_good)
+load_good h cells = grind (arith, load_at_good)
 
 indx_good : (h : OperatorContext) (cells : List Word) → Good h (indx h cells)
-indx_good h [] = search steps_rules
-indx_good h (b ∷ []) = search steps_rules
-indx_good h (b ∷ a ∷ rest) = search steps_rules
+indx_good h cells = grind arith
 
 nxlv_good : (h : OperatorContext) (cells : List Word) → Good h (nxlv h cells)
-nxlv_good h [] = search steps_rules
-nxlv_good h (b ∷ []) = search steps_rules
-nxlv_good h (b ∷ a ∷ rest) = search steps_rules
+nxlv_good h cells = grind arith
 
 store_at_good : (h : OperatorContext) (rest kept : List Word) (bits : ℕ) (end : End) → Good h (store_at h rest kept bits end)
-store_at_good h rest kept bits (AtCell f offset old) = post_ok (Keeps h.job) _ (record { frames = omega arith; arrays = omega arith; tasks = omega arith; one = omega arith })
-store_at_good h rest kept bits (AtElement a index) = search steps_rules
-store_at_good h rest kept bits (AtProc f segment level place) = search steps_rules
-store_at_good h rest kept bits (AtArray a) = search steps_rules
-store_at_good h rest kept bits (AtIntrinsic n) = search steps_rules
+store_at_good h rest kept bits end = grind arith
 
 store_good : (keeps : Bool) (h : OperatorContext) (cells : List Word) → Good h (store keeps h cells)
-store_good keeps h [] = search steps_rules
-store_good keeps h (b ∷ []) = search steps_rules
-store_good keeps h (b ∷ a ∷ rest) = search (steps_rules, store_at_good)
+store_good keeps h cells = grind (arith, store_at_good)
 
 answers_good : (h : OperatorContext) (job : Job) (words : List Word) (printed : List Line) (touched : Option ℕ) → Grown h.job job → Good h (answers h job words printed touched)
 answers_good h job words printed touched kept = search steps_rules
@@ -148,94 +116,58 @@ starts_good h words (AtArray a) = search steps_rules
 starts_good h words (AtIntrinsic n) = search steps_rules
 
 arraydec_good : (h : OperatorContext) (arguments : List Word) → Good h (arraydec h arguments)
-arraydec_good h [] = search steps_rules
-arraydec_good h (w ∷ []) = search (steps_rules, answers_good) depth 8
-arraydec_good h (w ∷ v ∷ more) = search steps_rules
+arraydec_good h arguments = grind arith
 
 print_good : (h : OperatorContext) (arguments : List Word) → Good h (print h arguments)
-print_good h [] = search steps_rules
-print_good h (w ∷ []) = search (steps_rules, answers_good)
-print_good h (w ∷ v ∷ more) = search steps_rules
+print_good h arguments = grind arith
 
 read_good : (h : OperatorContext) (arguments : List Word) → Good h (read h arguments)
-read_good h [] = search (steps_rules, answers_good)
-read_good h (w ∷ more) = search steps_rules
+read_good h arguments = grind arith
 
 process_good : (h : OperatorContext) (arguments : List Word) → Good h (process h arguments)
-process_good h [] = search steps_rules
-process_good h (w ∷ more) = search (steps_rules, starts_good)
+process_good h arguments = grind (arith, starts_good)
 
 printrow_good : (h : OperatorContext) (arguments : List Word) → Good h (printrow h arguments)
-printrow_good h [] = search steps_rules
-printrow_good h (w ∷ []) = search (steps_rules, answers_good) depth 8
-printrow_good h (w ∷ v ∷ more) = search steps_rules
+printrow_good h arguments = grind arith
 
 awaits_good : (h : OperatorContext) (n : ℤ) → Good h (awaits h n)
-awaits_good h (pos n) = search (steps_rules, answers_good, tt)
-awaits_good h (negsuc n) = search (steps_rules, answers_good)
+awaits_good h n = grind arith
 
 await_good : (h : OperatorContext) (arguments : List Word) → Good h (await h arguments)
-await_good h [] = search steps_rules
-await_good h (w ∷ []) = search (steps_rules, awaits_good)
-await_good h (w ∷ v ∷ more) = search steps_rules
+await_good h arguments = grind arith
 
 status_good : (h : OperatorContext) (arguments : List Word) → Good h (status h arguments)
-status_good h [] = search steps_rules
-status_good h (w ∷ []) = search (steps_rules, answers_good)
-status_good h (w ∷ v ∷ more) = search steps_rules
+status_good h arguments = grind arith
 
 waits_at_good : (h : OperatorContext) (end : End) → Good h (waits_at h end)
-waits_at_good h (AtCell f offset bits) = search (steps_rules, answers_good, tt)
-waits_at_good h (AtProc f segment level place) = search steps_rules
-waits_at_good h (AtElement a index) = search steps_rules
-waits_at_good h (AtArray a) = search steps_rules
-waits_at_good h (AtIntrinsic n) = search steps_rules
+waits_at_good h end = grind arith
 
 wait_good : (h : OperatorContext) (arguments : List Word) → Good h (wait h arguments)
-wait_good h [] = search steps_rules
-wait_good h (w ∷ []) = search (steps_rules, waits_at_good)
-wait_good h (w ∷ v ∷ more) = search steps_rules
+wait_good h arguments = grind arith
 
 causes_good : (h : OperatorContext) (end : End) → Good h (causes h end)
-causes_good h (AtCell f offset bits) = search steps_rules
-causes_good h (AtProc f segment level place) = search steps_rules
-causes_good h (AtElement a index) = search steps_rules
-causes_good h (AtArray a) = search steps_rules
-causes_good h (AtIntrinsic n) = search steps_rules
+causes_good h end = grind arith
 
 cause_good : (h : OperatorContext) (arguments : List Word) → Good h (cause h arguments)
-cause_good h [] = search steps_rules
-cause_good h (w ∷ []) = search (steps_rules, causes_good)
-cause_good h (w ∷ v ∷ more) = search steps_rules
+cause_good h arguments = grind arith
 
 deallocate_good : (h : OperatorContext) (arguments : List Word) → Good h (deallocate h arguments)
-deallocate_good h [] = search steps_rules
-deallocate_good h (w ∷ []) = search (steps_rules, answers_good) depth 8
-deallocate_good h (w ∷ v ∷ more) = search steps_rules
+deallocate_good h arguments = grind arith
 
 resize_good : (h : OperatorContext) (arguments : List Word) → Good h (resize h arguments)
-resize_good h [] = search steps_rules
-resize_good h (r ∷ []) = search steps_rules
-resize_good h (r ∷ w ∷ []) = search (steps_rules, answers_good) depth 10
-resize_good h (r ∷ w ∷ v ∷ more) = search steps_rules
+resize_good h arguments = grind arith
 
 intrinsic_good : (n : ℕ) (h : OperatorContext) (arguments : List Word) → Good h (intrinsic n h arguments)
 intrinsic_good n h arguments = search (steps_rules, arraydec_good, print_good, printrow_good, read_good, process_good, await_good, status_good, wait_good, cause_good, deallocate_good, resize_good) depth 17
 
 entr_at_good : (h : OperatorContext) (arguments : List Word) (end : End) → Good h (entr_at h arguments end)
-entr_at_good h arguments (AtIntrinsic n) = intrinsic_good n h arguments
-entr_at_good h arguments (AtCell f offset bits) = search steps_rules
-entr_at_good h arguments (AtElement a index) = search steps_rules
-entr_at_good h arguments (AtArray a) = search steps_rules
-entr_at_good h arguments (AtProc f segment level place) = enters_good h arguments (AtProc f segment level place)
+entr_at_good h arguments end = grind (arith, intrinsic_good)
 
 entr_with_good : (h : OperatorContext) (cells : List Word) → Good h (entr_with h cells)
-entr_with_good h [] = search steps_rules
-entr_with_good h (w ∷ more) = search (steps_rules, entr_at_good)
+entr_with_good h cells = grind (arith, entr_at_good)
 
 entr_good : (h : OperatorContext) (standing : Standing) → Good h (entr h standing)
-entr_good h Marked = entr_with_good h (reverse (cells_of h))
-entr_good h (Entered level environment back) = search steps_rules
+entr_good h standing = grind (arith, entr_with_good)
 
 plain_good : (code : Code) (h : OperatorContext) → Good h (plain code h)
 plain_good Exit h = exit_good h

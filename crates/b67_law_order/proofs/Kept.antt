@@ -1,5 +1,5 @@
 -- The row of an operator whose parameters fit.
-use Rattle.std.proofs.Common.{Ok, Err, refl}
+use Rattle.std.proofs.Common.{Ok, Err, refl, arith}
 use Rattle.b67_word.specs.declared.couples.Place.{Place}
 use Rattle.b67_model.specs.Common.{Answer, Task, JobConstants, Job, OperatorContext, Done, Goes, Leaves, Waits, branches, row, Starts, IsSegment, IsStart, TaskInOrder}
 use Rattle.b67_law_order.specs.Ends.{StepsFrom}
@@ -15,10 +15,7 @@ abbrev pub here : JobConstants → Job → Task → Place → OperatorContext
 here constants job task next = record { constants = constants; job = job; task = record task { place = next }; at = task.place }
 
 pub keeps : (P : Starts) (constants : JobConstants) (job : Job) (task : Task) (next : Place) (a : Answer Done) → Post (Keeps P (here constants job task next)) a → KeepsOrder P constants job task a
-keeps P constants job task next (Ok (Goes after printed touched)) g = g.by
-keeps P constants job task next (Ok Leaves) g = tt
-keeps P constants job task next (Ok (Waits condition)) g = g.by
-keeps P constants job task next (Err fault) g = tt
+keeps P constants job task next a g = grind arith
 
 pub starts_run : (P : Starts) (constants : JobConstants) (job : Job) (task : Task) (next : Place) → StepsFrom P constants job task → Run P (branches (here constants job task next) task.place)
 starts_run P constants job task next s = record {

@@ -1,5 +1,5 @@
 -- Each way in which rows are made keeps the profiles.
-use Rattle.std.proofs.Common.{subst, ◌≡◌, ℕ, ◌+◌, Bool, true, false, List, [], ◌∷◌, reverse, map, Option, Some, None, Ok, Err, refl, sym, ap, ◌∙◌, ⊎_elim}
+use Rattle.std.proofs.Common.{subst, ◌≡◌, ℕ, ◌+◌, Bool, true, false, List, [], ◌∷◌, reverse, map, Option, Some, None, Ok, Err, refl, sym, ap, ◌∙◌, ⊎_elim, arith}
 use Rattle.std.specs.Prelude.{◌==◌, not, filter}
 use Rattle.std.proofs.lemmas.Bool.{cases_Bool}
 use Rattle.std.proofs.lemmas.Option.{same_Some}
@@ -18,10 +18,7 @@ use Rattle.b67_law_order.specs.Profiles.{Profile, profile, profiles, RowsKeepPro
 pub profiles_put : (n : ℕ) (t : Task) (ts : List Task) → keyed (λ (p : Profile). p.number) n (profiles ts) ≡ Some (profile t)
     → profiles (change_keyed (λ (u : Task). u.number) n (λ (u : Task). t) ts) ≡ profiles ts
 profiles_put n t [] e = refl
-profiles_put n t (u ∷ us) e = ⊎_elim
-    (λ (q : (u.number == n) ≡ true). let same : profile u ≡ profile t = same_Some (profile u) (profile t) (rw q at e) in rw q (ap (λ (p : Profile). p ∷ profiles us) (sym same)))
-    (λ (q : (u.number == n) ≡ false). let at : keyed (λ (p : Profile). p.number) n (profiles us) ≡ Some (profile t) = rw q at e in rw q (ap (λ (ps : List Profile). profile u ∷ ps) (profiles_put n t us at)))
-    (cases_Bool (u.number == n))
+profiles_put n t (u ∷ us) e = grind (arith, profiles_put n t us)
 
 -- a store changes no profile
 stored : (identity offset : ℕ) (w : Word) (ts : List Task)
@@ -45,10 +42,7 @@ module _ (none : Type 0) (first : List Profile) (own : Profile) (known : keyed (
     pub arrays : none → h.job.arrays ≡ []
 
   with_good : (job : Job) (task : Task) → profiles job.tasks ≡ first → profile task ≡ own → profiles (with_task job task).tasks ≡ first
-  with_good job task tasks same =
-      let K : List Profile → Profile → Type 0 = λ ps p. keyed (λ (q : Profile). q.number) p.number ps ≡ Some p in
-      let there : K (profiles job.tasks) (profile task) = subst (λ (p : Profile). K (profiles job.tasks) p) (sym same) (subst (λ (ps : List Profile). K ps own) (sym tasks) known) in
-      profiles_put task.number task job.tasks there ∙ tasks
+  with_good job task tasks same = grind (arith, profiles_put)
 
   result_good : (h : OperatorContext) (job : Job) (task : Task) (printed : List Line) (touched : Option ℕ) → profiles job.tasks ≡ first → profile task ≡ own → (none → job.arrays ≡ []) → Good (result h job task printed touched)
   result_good h job task printed touched tasks same arrays = post_then Keeps _ _ (post_ok Keeps _ (with_good job task tasks same, arrays))
@@ -119,18 +113,13 @@ module _ (none : Type 0) (first : List Profile) (own : Profile) (known : keyed (
   load_at_good h rest (AtIntrinsic n) s = post_err Keeps _
 
   load_good : (h : OperatorContext) (cells : List Word) → Source h → Good (load h cells)
-  load_good h [] s = post_err Keeps _
-  load_good h (w ∷ rest) s = post_any Keeps (follow h w) _ (λ end. load_at_good h rest end s)
+  load_good h cells s = grind (arith, load_at_good)
 
   indx_good : (h : OperatorContext) (cells : List Word) → Source h → Good (indx h cells)
-  indx_good h [] s = post_err Keeps _
-  indx_good h (b ∷ []) s = post_err Keeps _
-  indx_good h (b ∷ a ∷ rest) s = post_any Keeps (indexed h (in_order b a).0 (in_order b a).1) _ (λ at. cells_good h _ None s)
+  indx_good h cells s = grind (arith, cells_good)
 
   nxlv_good : (h : OperatorContext) (cells : List Word) → Source h → Good (nxlv h cells)
-  nxlv_good h [] s = post_err Keeps _
-  nxlv_good h (b ∷ []) s = post_err Keeps _
-  nxlv_good h (b ∷ a ∷ rest) s = post_any Keeps (indexed h (in_order b a).0 (in_order b a).1) _ (λ at. cells_good h _ (Some at.0) s)
+  nxlv_good h cells s = grind (arith, cells_good)
 
   store_at_good : (h : OperatorContext) (rest kept : List Word) (bits : ℕ) (end : End) → Source h → Good (store_at h rest kept bits end)
   store_at_good h rest kept bits (AtCell f offset old) s =
@@ -141,9 +130,7 @@ module _ (none : Type 0) (first : List Profile) (own : Profile) (known : keyed (
   store_at_good h rest kept bits (AtIntrinsic n) s = post_err Keeps _
 
   store_good : (keeps : Bool) (h : OperatorContext) (cells : List Word) → Source h → Good (store keeps h cells)
-  store_good keeps h [] s = post_err Keeps _
-  store_good keeps h (b ∷ []) s = post_err Keeps _
-  store_good keeps h (b ∷ a ∷ rest) s = post_any Keeps (operand (in_order b a).1) _ (λ bits. post_any Keeps (follow h (in_order b a).0) _ (λ end. store_at_good h rest _ bits end s))
+  store_good keeps h cells s = grind (arith, store_at_good)
 
   entr_at_good : (h : OperatorContext) (arguments : List Word) (end : End) → Source h → called_at (Ok end) ≡ None → Good (entr_at h arguments end)
   entr_at_good h arguments (AtProc f segment level place) s e = enters_good h arguments (AtProc f segment level place) s
@@ -153,16 +140,14 @@ module _ (none : Type 0) (first : List Profile) (own : Profile) (known : keyed (
   entr_at_good h arguments (AtIntrinsic n) s e = absurd cc
 
   entr_end : (h : OperatorContext) (arguments : List Word) (end : Answer End) → Source h → called_at end ≡ None → Good (end >>= entr_at h arguments)
-  entr_end h arguments (Ok end) s e = entr_at_good h arguments end s e
-  entr_end h arguments (Err fault) s e = post_err Keeps _
+  entr_end h arguments end s e = grind (arith, entr_at_good)
 
   entr_with_good : (h : OperatorContext) (cells : List Word) → Source h → called_by h cells ≡ None → Good (entr_with h cells)
   entr_with_good h [] s e = post_err Keeps _
   entr_with_good h (r ∷ arguments) s e = entr_end h arguments (follow_reference h r) s e
 
   entr_good : (h : OperatorContext) (standing : Standing) → Source h → called_on h standing ≡ None → Good (entr h standing)
-  entr_good h Marked s e = entr_with_good h (reverse (cells_of h)) s e
-  entr_good h (Entered level environment back) s e = post_err Keeps _
+  entr_good h standing s e = grind (arith, entr_with_good)
 
   plain_good : (code : Code) (h : OperatorContext) → Source h → called (Plain code) h ≡ None → Good (plain code h)
   plain_good codes.Exit h s e = leaves_good h (top_of h).standing _ s (λ k value from. result_good k k.job k.task [] None from.tasks from.task from.arrays)

@@ -26,20 +26,10 @@ resized_low (suc n) [] all = let whole : suc n - 0 ≡ suc n = omega arith in rw
 resized_low (suc n) (x ∷ xs) all = let rest : suc n - suc (length xs) ≡ n - length xs = omega arith in rw rest (all.0, resized_low n xs all.1)
 
 zero_kept : (a : Array) → ArrayInOrder a → ArrayInOrder (all_zero a)
-zero_kept a g = record {
-  length_low = rw (length_replicate (length a.numbers)) g.length_low;
-  length_high = rw (length_replicate (length a.numbers)) g.length_high;
-  words = zeros_low (length a.numbers);
-  writes = g.writes;
-}
+zero_kept a g = grind (arith, length_replicate, zeros_low)
 
 resized_kept : (n : ℕ) → 0 < n → n < 65536 → (a : Array) → ArrayInOrder a → ArrayInOrder (resized n a)
-resized_kept n low high a g = record {
-  length_low = rw (resized_length n a.numbers) low;
-  length_high = rw (resized_length n a.numbers) (omega (arith, high));
-  words = resized_low n a.numbers g.words;
-  writes = g.writes;
-}
+resized_kept n low high a g = grind (arith, resized_length, resized_low)
 
 module _ (P : Starts) (h : OperatorContext) (cut : Cut P h) where
   -- the mark is cut, and an array has other numbers

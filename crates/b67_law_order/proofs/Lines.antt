@@ -9,18 +9,14 @@ use Rattle.b67_model.specs.Common.{Frame, Standing, Task, JobConstants, Job, Sta
 
 from_has : (c : ℕ) (fs : List Frame) (f : Frame) → Has (from_frame c fs) f → Has fs f
 from_has c [] f h = h
-from_has c (e ∷ below) f h = elim (eqb_tells e.identity c) [
-  | inl t ↦ let k : Has (e ∷ below) f = rw t.0 at h in k
-  | inr t ↦ let k : Has (from_frame c below) f = rw t.0 at h in inr (from_has c below f k)
-]
+from_has c (e ∷ below) f h = grind (arith, from_has c below f)
 
 -- the MCP's frame or the dictionary, or a frame of a live task above
 abbrev pub Above : Job → List ℕ → ℕ → Type 0
 Above job parents id = (id ≤ 1) ⊎ ((q : Task) × Has job.tasks q × Has parents q.number × Has (identities q.frames) id)
 
 wider : (job : Job) (n : ℕ) (parents : List ℕ) (id : ℕ) → Above job parents id → Above job (n ∷ parents) id
-wider job n parents id (inl low) = inl low
-wider job n parents id (inr (q, live, above, among)) = inr (q, live, inr above, among)
+wider job n parents id h = grind arith
 
 from_task : (job : Job) (c n id : ℕ) (s : Standing) (parents : List ℕ) (o : Option Task) → keyed (λ (t : Task). t.number) n job.tasks ≡ o → Has (map known_of (from_frame c (frames_of_task o))) (id, s) → Above job (n ∷ parents) id
 from_task job c n id s parents None e h = absurd h
@@ -69,10 +65,7 @@ module _ (P : Starts) (constants : JobConstants) (job : Job) (o : TasksInOrder P
   one_frame t h id = omega (arith, total_has (λ (v : Task). frames_named id v.frames) job.tasks t h, o.apart id)
 
   twice : (id : ℕ) (e : Frame) (more : List Frame) (g : Frame) → e.identity ≡ id → frames_named id (e ∷ more) ≤ 1 → Has more g → g.identity ≡ id → ⊥
-  twice id e more g is one b eg =
-      let under = counted id more (subst (Has (identities more)) eg (frame_named more g b)) in
-      let here : frames_named id (e ∷ more) ≡ 1 + frames_named id more = rw (eq-eqb e.identity id is) refl in
-      omega (arith, under, here, one)
+  twice id e more g is one b eg = grind (arith, counted, frame_named)
 
   same_frame : (fs : List Frame) (f g : Frame) (id : ℕ) → frames_named id fs ≤ 1 → Has fs f → Has fs g → f.identity ≡ id → g.identity ≡ id → f ≡ g
   same_frame [] f g id one hf hg ef eg = absurd hf

@@ -114,26 +114,10 @@ SeenWord P arrays reach owner (Intrinsic number) = Unit {0}
 SeenWord P arrays reach owner (Words.Segment number) = Unit {0}
 
 word_seen : (P : Starts) (arrays : List Array) (reach : List Known) (owner : ℕ) (w : Word) → 1 < owner → WordInOrder P arrays reach owner w → SeenWord P arrays reach owner w
-word_seen P arrays reach owner (Operand bits) high g = g
-word_seen P arrays reach owner (Name couple) high g = g
-word_seen P arrays reach owner (Ref identity offset) high g = g
-word_seen P arrays reach owner (Row array) high g = g
-word_seen P arrays reach owner (Element array index) high g = g
-word_seen P arrays reach owner (Original array) high g = g
-word_seen P arrays reach owner (Proc segment level place) high g = (g.0, g.1, high)
-word_seen P arrays reach owner (Intrinsic number) high g = tt
-word_seen P arrays reach owner (Words.Segment number) high g = tt
+word_seen P arrays h owner w high g = grind arith
 
 entry_seen : (P : Starts) (arrays : List Array) (reach : List Known) (w : Word) → EntryInOrder arrays w → SeenWord P arrays reach 1 w
-entry_seen P arrays reach (Operand bits) g = absurd g
-entry_seen P arrays reach (Name couple) g = absurd g
-entry_seen P arrays reach (Ref identity offset) g = absurd g
-entry_seen P arrays reach (Row array) g = absurd g
-entry_seen P arrays reach (Element array index) g = absurd g
-entry_seen P arrays reach (Original array) g = g
-entry_seen P arrays reach (Proc segment level place) g = absurd g
-entry_seen P arrays reach (Intrinsic number) g = tt
-entry_seen P arrays reach (Words.Segment number) g = tt
+entry_seen P arrays h w g = grind arith
 
 mcp_seen : (P : Starts) (arrays : List Array) (reach : List Known) (w : Word) → Has mcp.cells w → SeenWord P arrays reach 0 w
 mcp_seen P arrays reach w h = all_in (SeenWord P arrays reach 0) mcp.cells w (tt, (tt, (tt, (tt, (tt, (tt, (tt, (tt, (tt, (tt, (tt, tt))))))))))) h
@@ -171,20 +155,7 @@ reach h = reach_of h.job h.task
 pub own_order : (P : Starts) (h : OperatorContext) (run : Run P h) → TaskInOrder P h.constants h.job h.task
 own_order P h run =
     let found = all_in (TaskInOrder P h.constants h.job) h.job.tasks run.found run.order.tasks (keyed_has (λ t. t.number) h.task.number h.job.tasks run.found run.running).0 in
-    let there : Task = record run.found { segment = h.task.segment; place = h.task.place } in
-    let place : P h.task.segment (level_of_frame (Environment.running run.found.frames)) h.task.place = subst (λ (t : Task). P h.task.segment (level_of_frame (Environment.running t.frames)) h.task.place) (sym run.same) run.place in
-    let birth : BirthInOrder h.job there there.parents = birth_same h.job run.found there run.found.parents refl refl found.birth in
-    let own : TaskInOrder P h.constants h.job there = record {
-      frames = found.frames;
-      returns = found.returns;
-      some = found.some;
-      falls = found.falls;
-      not_higher = found.not_higher;
-      place = place;
-      birth = birth;
-      condition = found.condition;
-    } in
-    subst (TaskInOrder P h.constants h.job) run.same own
+    grind (arith, birth_same)
 
 -- what the running task's reach shows at an identity
 pub record Seen (P : Starts) (h : OperatorContext) (n : ℕ) (s : Standing) : Type 0 where
@@ -197,9 +168,7 @@ module _ (P : Starts) (h : OperatorContext) (run : Run P h) where
   line : Line P h.job (reach h)
   line =
       let r : Line P h.job (reach_of h.job run.found) = line_of P h.constants h.job run.order run.found (keyed_has (λ t. t.number) h.task.number h.job.tasks run.found run.running).0 in
-      let there : Task = record run.found { segment = h.task.segment; place = h.task.place } in
-      let r' : Line P h.job (reach_of h.job there) = r in
-      subst (λ (t : Task). Line P h.job (reach_of h.job t)) run.same r'
+      grind arith
 
   see_live : (f : Frame) → Has line.frames f → Seen P h f.identity f.standing
   see_live f here =
@@ -207,14 +176,7 @@ module _ (P : Starts) (h : OperatorContext) (run : Run P h) where
       let is : frame h f.identity ≡ f = ap (λ o. unwrap_or o no_frame) (keyed_left (λ (x : Frame). x.identity) f.identity (flat_map (λ (t : Task). t.frames) h.job.tasks) (h.constants.dictionary ∷ mcp ∷ []) f (found_frame P h.constants h.job run.order f live)) in
       let r = line_words P h.job.arrays base line.frames f line.order here in
       let high = above_one P h.constants h.job run.order live.task live.live f live.among in
-      let words : AllByRecursion (WordInOrder P h.job.arrays (reach h) f.identity) f.cells = rw line.is r.0 in
-      let outer : StandsInOrder (reach h) f.standing = rw line.is r.1 in
-      record {
-        identity = ap (λ (x : Frame). x.identity) is;
-        standing = ap (λ (x : Frame). x.standing) is;
-        words = λ w k. word_seen P h.job.arrays (reach h) f.identity w high (all_in (WordInOrder P h.job.arrays (reach h) f.identity) f.cells w words (subst (λ (x : Frame). Has x.cells w) is k));
-        outer = λ high. outer;
-      }
+      grind (arith, all_in)
 
   dictionary_found : frame h 1 ≡ h.constants.dictionary
   dictionary_found =
@@ -231,26 +193,13 @@ module _ (P : Starts) (h : OperatorContext) (run : Run P h) where
       ap (λ o. unwrap_or o no_frame) all
 
   see_dictionary : Seen P h 1 (Entered 1 0 None)
-  see_dictionary = record {
-    identity = rw dictionary_found run.unchanging.named;
-    standing = rw dictionary_found run.unchanging.stands;
-    words = λ w k. entry_seen P h.job.arrays (reach h) w (all_in (EntryInOrder h.job.arrays) h.constants.dictionary.cells w run.order.entries (rw dictionary_found at k));
-    outer = λ high. absurd (omega (arith, high));
-  }
+  see_dictionary = grind (arith, dictionary_found, all_in)
 
   see_mcp : Seen P h 0 (Entered 0 0 None)
-  see_mcp = record {
-    identity = rw mcp_found refl;
-    standing = rw mcp_found refl;
-    words = λ w k. mcp_seen P h.job.arrays (reach h) w (rw mcp_found at k);
-    outer = λ high. absurd (omega (arith, high));
-  }
+  see_mcp = grind (arith, mcp_found)
 
   see_base : (n : ℕ) (s : Standing) → Has base (n, s) → Seen P h n s
-  see_base n s k = elim k [
-    | inl e ↦ subst (λ (x : Known). Seen P h x.0 x.1) e see_dictionary
-    | inr m ↦ elim m [ inl e ↦ subst (λ (x : Known). Seen P h x.0 x.1) e see_mcp | inr x ↦ absurd x ]
-  ]
+  see_base n s k = grind (arith, see_dictionary, see_mcp)
 
   pub see : (n : ℕ) (s : Standing) → Has (reach h) (n, s) → Seen P h n s
   see n s k = elim (has_append_cases (map known_of line.frames) base (n, s) (rw line.is at k)) [
@@ -266,12 +215,10 @@ pub record Outer (h : OperatorContext) (s : Standing) : Type 0 where
   pub level_below : level_of_standing standing + 1 ≡ level_of_standing s
 
 outer_of_standing : (h : OperatorContext) (s : Standing) → IsEntered s → StandsInOrder (reach h) s → Outer h s
-outer_of_standing h Marked e g = absurd e
-outer_of_standing h (Entered level environment back) e g = record { standing = g.standing; among = g.among; entered = g.entered; level_below = g.level_below }
+outer_of_standing h s e g = grind arith
 
 low_of_standing : (under : List Known) (s : Standing) → IsEntered s → StandsInOrder under s → 2 ≤ level_of_standing s
-low_of_standing under Marked e g = absurd e
-low_of_standing under (Entered level environment back) e g = g.low
+low_of_standing under s e g = grind arith
 
 module _ (P : Starts) (h : OperatorContext) (run : Run P h) where
   base_in : (n : ℕ) (s : Standing) → Has base (n, s) → Has (reach h) (n, s)
@@ -306,30 +253,21 @@ module _ (P : Starts) (h : OperatorContext) (run : Run P h) where
       above_one P h.constants h.job run.order run.found (keyed_has (λ t. t.number) h.task.number h.job.tasks run.found run.running).0 f there
 
 pub known_cells : (fs : List Frame) (cells : List Word) → map known_of (with_top_cells fs cells) ≡ map known_of fs
-known_cells [] cells = refl
-known_cells (f ∷ below) cells = refl
+known_cells fs cells = grind arith
 
 pub some_cells : (fs : List Frame) (cells : List Word) → fs ≢ [] → with_top_cells fs cells ≢ []
-some_cells [] cells some = some
-some_cells (f ∷ below) cells some = λ e. cc
+some_cells fs cells some = grind arith
 
 -- a frame's cells don't count where it runs, nor in what is known of it
 pub level_from : (s : Standing) (f g r : Frame) → level_of_frame f ≡ level_of_frame g → level_of_frame (running_from s f r) ≡ level_of_frame (running_from s g r)
-level_from Marked f g r e = refl
-level_from (Entered level environment back) f g r e = e
+level_from s f g r e = grind arith
 
 pub running_cells : (fs : List Frame) (cells : List Word) → level_of_frame (running (with_top_cells fs cells)) ≡ level_of_frame (running fs)
-running_cells [] cells = refl
-running_cells (f ∷ below) cells = level_from f.standing (record f { cells = cells }) f (running below) refl
+running_cells fs cells = grind arith
 
 pub below_some : (P : Starts) (fs : List Frame) → StackInOrder P fs → fs ≢ [] → (top fs).standing ≡ Marked → below_top fs ≢ []
-below_some P [] g some marked = absurd (some refl)
-below_some P (f ∷ below) g some marked = subst (λ s. ReturnsInOrder P s below) marked g.0
+below_some P fs g some marked = grind arith
 
 -- what an entered frame is in reach of a marked one lies below it
 pub below_marked : (fs : List Frame) (outer : List Known) (n : ℕ) (s : Standing) → (top fs).standing ≡ Marked → IsEntered s → Has (map known_of fs ++ outer) (n, s) → Has (map known_of (below_top fs) ++ outer) (n, s)
-below_marked [] outer n s marked e k = k
-below_marked (f ∷ below) outer n s marked e k = elim k [
-  | inl is ↦ let no : f.standing ≡ s = ap (λ (x : Known). x.1) is in absurd (subst IsEntered (sym no ∙ marked) e)
-  | inr m ↦ m
-]
+below_marked fs outer n s marked e k = grind arith

@@ -18,8 +18,7 @@ abbrev AllLow : List Known → ℕ → Type 0
 AllLow reach bound = (id : ℕ) → Has (known_numbers reach) id → id < bound
 
 environment_low : (reach : List Known) (bound : ℕ) (s : Standing) → AllLow reach bound → 0 < bound → StandsInOrder reach s → environment_of s < bound
-environment_low reach bound State.Marked low some g = some
-environment_low reach bound (State.Entered level environment back) low some g = low environment (known_number reach environment g.standing g.among)
+environment_low reach bound s low h g = grind (arith, known_number)
 
 own_low : (P : Starts) (arrays : List Array) (bound : ℕ) (outer : List Known) (fs : List Frame) → AllLow (map known_of fs ++ outer) bound → 0 < bound → FramesInOrder P arrays outer fs → (f : Frame) → Has fs f → Low bound f
 own_low P arrays bound outer [] low some order f here = absurd here
@@ -46,12 +45,10 @@ module _ (P : Starts) (constants : JobConstants) (job : Job) (g : TasksInOrder P
   frames_low t here f k = let n = some_identity t here in own_low P job.arrays job.next_frame (outer_of job t) t.frames (λ id i. reach_low t here id i) (omega (arith, n)) (order_of t here).frames f k
 
 found_or_none : (o : Option Frame) (P : Frame → Type 0) → ((f : Frame) → o ≡ Some f → P f) → P no_frame → P (unwrap_or o no_frame)
-found_or_none None P some none = none
-found_or_none (Some f) P some none = some f refl
+found_or_none o P h none = grind arith
 
 running_by : (s : Standing) (f next : Frame) (P : Frame → Type 0) → P f → P next → P (running_from s f next)
-running_by State.Marked f next P here below = below
-running_by (State.Entered level environment back) f next P here below = here
+running_by s f next P here below = grind arith
 
 running_among : (fs : List Frame) (P : Frame → Type 0) → ((f : Frame) → Has fs f → P f) → P no_frame → P (running fs)
 running_among [] P each none = none
@@ -88,10 +85,7 @@ module _ (P : Starts) (h : OperatorContext) (unchanging : SettingInOrder h.const
   module _ (h' : OperatorContext) (same : (id : ℕ) → id < h.job.next_frame → frame h' id ≡ frame h id) where
     outward_same : (links : ℕ) (f : Frame) → Low h.job.next_frame f → (outward h' links f ≡ outward h links f) × Low h.job.next_frame (outward h links f)
     outward_same zero f low = (refl, low)
-    outward_same (suc links) f low =
-        let e : frame h' (environment_of f.standing) ≡ frame h (environment_of f.standing) = same (environment_of f.standing) low.environment in
-        let r = outward_same links (frame h (environment_of f.standing)) (frame_low (environment_of f.standing)) in
-        (ap (outward h' links) e ∙ r.0, r.1)
+    outward_same (suc links) f low = grind (arith, frame_low, outward_same links)
 
     pub frame_at_same : running h'.task.frames ≡ running h.task.frames → (n : ℕ) → (frame_at h' n ≡ frame_at h n) × ((frame_at h n).identity < h.job.next_frame)
     frame_at_same own n =

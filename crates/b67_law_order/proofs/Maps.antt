@@ -53,35 +53,11 @@ same_set (w ∷ ws) zero bits low at = (inr (at w refl, low), same_refl ws)
 same_set (w ∷ ws) (suc i) bits low at = (inl refl, same_set ws i bits low at)
 
 word_same : (P : Starts) (arrays : List Array) (reach : List Known) (owner : ℕ) (w v : Word) → SameWord w v → WordInOrder P arrays reach owner w → WordInOrder P arrays reach owner v
-word_same P arrays reach owner w (Operand bits) s g = elim s [ inl e ↦ subst (WordInOrder P arrays reach owner) e g | inr o ↦ o.1 ]
-word_same P arrays reach owner w (Name couple) s g = elim s [ inl e ↦ subst (WordInOrder P arrays reach owner) e g | inr o ↦ absurd o.1 ]
-word_same P arrays reach owner w (Ref identity offset) s g = elim s [ inl e ↦ subst (WordInOrder P arrays reach owner) e g | inr o ↦ absurd o.1 ]
-word_same P arrays reach owner w (Row array) s g = elim s [ inl e ↦ subst (WordInOrder P arrays reach owner) e g | inr o ↦ absurd o.1 ]
-word_same P arrays reach owner w (Element array index) s g = elim s [ inl e ↦ subst (WordInOrder P arrays reach owner) e g | inr o ↦ absurd o.1 ]
-word_same P arrays reach owner w (Original array) s g = elim s [ inl e ↦ subst (WordInOrder P arrays reach owner) e g | inr o ↦ absurd o.1 ]
-word_same P arrays reach owner w (Proc segment level place) s g = elim s [ inl e ↦ subst (WordInOrder P arrays reach owner) e g | inr o ↦ absurd o.1 ]
-word_same P arrays reach owner w (Intrinsic number) s g = elim s [ inl e ↦ subst (WordInOrder P arrays reach owner) e g | inr o ↦ absurd o.1 ]
-word_same P arrays reach owner w (Words.Segment number) s g = elim s [ inl e ↦ subst (WordInOrder P arrays reach owner) e g | inr o ↦ absurd o.1 ]
+word_same P arrays reach owner w v s g = grind arith
 
 -- what doesn't see operands
 both_operands : {A : Type 0} (f : Word → A) (w v : Word) (none : A) → ((bits : ℕ) → f (Operand bits) ≡ none) → IsOperand w → IsShort v → f w ≡ f v
-both_operands f (Operand a) (Operand b) none plain x y = plain a ∙ sym (plain b)
-both_operands f (Operand a) (Name couple) none plain x y = absurd y
-both_operands f (Operand a) (Ref identity offset) none plain x y = absurd y
-both_operands f (Operand a) (Row array) none plain x y = absurd y
-both_operands f (Operand a) (Element array index) none plain x y = absurd y
-both_operands f (Operand a) (Original array) none plain x y = absurd y
-both_operands f (Operand a) (Proc segment level place) none plain x y = absurd y
-both_operands f (Operand a) (Intrinsic number) none plain x y = absurd y
-both_operands f (Operand a) (Words.Segment number) none plain x y = absurd y
-both_operands f (Name couple) v none plain x y = absurd x
-both_operands f (Ref identity offset) v none plain x y = absurd x
-both_operands f (Row array) v none plain x y = absurd x
-both_operands f (Element array index) v none plain x y = absurd x
-both_operands f (Original array) v none plain x y = absurd x
-both_operands f (Proc segment level place) v none plain x y = absurd x
-both_operands f (Intrinsic number) v none plain x y = absurd x
-both_operands f (Words.Segment number) v none plain x y = absurd x
+both_operands f w v none plain x y = grind arith
 
 seen_same : {A : Type 0} (f : Word → A) (none : A) → ((bits : ℕ) → f (Operand bits) ≡ none) → (w v : Word) → SameWord w v → f w ≡ f v
 seen_same f none plain w v s = elim s [ inl e ↦ ap f e | inr o ↦ both_operands f w v none plain o.0 o.1 ]
@@ -93,26 +69,13 @@ count_same test plain (w ∷ ws) [] s = absurd s
 count_same test plain (w ∷ ws) (v ∷ vs) s = let e = seen_same test false plain w v s.0 in rw e (omega (arith, count_same test plain ws vs s.1))
 
 no_copy_same : (w v : Word) (ws vs : List Word) → SameWord w v → SameCells ws vs → NoCopyUnder w ws → NoCopyUnder v vs
-no_copy_same w (Original array) ws vs s cells g = elim s [
-  | inl e ↦ let there : NoCopyUnder (Original array) ws = subst (λ (x : Word). NoCopyUnder x ws) e g in sym (count_same (is_copy_of array) (λ b. refl) ws vs cells) ∙ there
-  | inr o ↦ absurd o.1
-]
-no_copy_same w (Operand bits) ws vs s cells g = tt
-no_copy_same w (Name couple) ws vs s cells g = tt
-no_copy_same w (Ref identity offset) ws vs s cells g = tt
-no_copy_same w (Row array) ws vs s cells g = tt
-no_copy_same w (Element array index) ws vs s cells g = tt
-no_copy_same w (Proc segment level place) ws vs s cells g = tt
-no_copy_same w (Intrinsic number) ws vs s cells g = tt
-no_copy_same w (Words.Segment number) ws vs s cells g = tt
+no_copy_same w v ws vs s cells g = grind (arith, count_same)
 
 cells_same : (P : Starts) (arrays : List Array) (reach : List Known) (owner : ℕ) (ws vs : List Word) → SameCells ws vs → CellsInOrder P arrays reach owner ws → CellsInOrder P arrays reach owner vs
 cells_same P arrays reach owner [] [] s g = g
 cells_same P arrays reach owner [] (v ∷ vs) s g = absurd s
 cells_same P arrays reach owner (w ∷ ws) [] s g = absurd s
-cells_same P arrays reach owner (w ∷ ws) (v ∷ vs) s g =
-    let rest = cells_same P arrays reach owner ws vs s.1 (g.0.1, g.1.1) in
-    ((word_same P arrays reach owner w v s.0 g.0.0, rest.0), (no_copy_same w v ws vs s.0 s.1 g.1.0, rest.1))
+cells_same P arrays reach owner (w ∷ ws) (v ∷ vs) s g = grind (arith, no_copy_same, cells_same P arrays reach owner ws vs s.1 (g.0.1, g.1.1))
 
 cells_length : (ws vs : List Word) → SameCells ws vs → length ws ≡ length vs
 cells_length [] [] s = refl
@@ -139,18 +102,13 @@ frames_known : (fs gs : List Frame) → SameFrames fs gs → map known_of fs ≡
 frames_known [] [] s = refl
 frames_known [] (g ∷ gs) s = absurd s
 frames_known (f ∷ fs) [] s = absurd s
-frames_known (f ∷ fs) (g ∷ gs) s =
-    let one : known_of f ≡ known_of g = λ i. (s.0.identity i, s.0.standing i) in
-    ap (λ k. k ∷ map known_of fs) one ∙ ap (λ ks. known_of g ∷ ks) (frames_known fs gs s.1)
+frames_known (f ∷ fs) (g ∷ gs) s = grind (arith, frames_known fs gs s.1)
 
 from_same : (c : ℕ) (fs gs : List Frame) → SameFrames fs gs → SameFrames (from_frame c fs) (from_frame c gs)
 from_same c [] [] s = tt
 from_same c [] (g ∷ gs) s = absurd s
 from_same c (f ∷ fs) [] s = absurd s
-from_same c (f ∷ fs) (g ∷ gs) s = elim (eqb_tells f.identity c) [
-  | inl e ↦ let k : eqb g.identity c ≡ true = rw (← s.0.identity) e.0 in rw (e.0, k) s
-  | inr e ↦ let k : eqb g.identity c ≡ false = rw (← s.0.identity) e.0 in rw (e.0, k) (from_same c fs gs s.1)
-]
+from_same c (f ∷ fs) (g ∷ gs) s = grind (arith, from_same c fs gs s.1)
 
 frames_order : (P : Starts) (arrays : List Array) (outer : List Known) (fs gs : List Frame) → SameFrames fs gs → FramesInOrder P arrays outer fs → FramesInOrder P arrays outer gs
 frames_order P arrays outer [] [] s o = tt
@@ -166,8 +124,7 @@ frames_order P arrays outer (f ∷ fs) (g ∷ gs) s o =
     )
 
 level_same : (s : Standing) (f g r q : Frame) → f.standing ≡ g.standing → level_of_frame r ≡ level_of_frame q → level_of_frame (running_from s f r) ≡ level_of_frame (running_from s g q)
-level_same Marked f g r q a b = b
-level_same (Entered level environment back) f g r q a b = ap (λ t. Environment.level_of_standing t) a
+level_same s f g r q a b = grind arith
 
 running_same : (fs gs : List Frame) → SameFrames fs gs → level_of_frame (running fs) ≡ level_of_frame (running gs)
 running_same [] [] s = refl
@@ -182,9 +139,7 @@ none_same (f ∷ fs) [] s = absurd s
 none_same (f ∷ fs) (g ∷ gs) s = (λ e. absurd (let z : ⊥ = cc in z), λ n. λ e. cc)
 
 returns_same : (P : Starts) (s : Standing) (fs gs : List Frame) → SameFrames fs gs → ReturnsInOrder P s fs → ReturnsInOrder P s gs
-returns_same P Marked fs gs s g = (none_same fs gs s).1 g
-returns_same P (Entered level environment None) fs gs s g = (none_same fs gs s).0 g
-returns_same P (Entered level environment (Some back)) fs gs s g = ((none_same fs gs s).1 g.0, subst (λ n. P back.segment n back.place) (running_same fs gs s) g.1)
+returns_same P h fs gs s g = grind (arith, running_same)
 
 stack_same : (P : Starts) (fs gs : List Frame) → SameFrames fs gs → StackInOrder P fs → StackInOrder P gs
 stack_same P [] [] s o = tt
@@ -196,9 +151,7 @@ height_same : (fs gs : List Frame) → SameFrames fs gs → height fs ≡ height
 height_same [] [] s = refl
 height_same [] (g ∷ gs) s = absurd s
 height_same (f ∷ fs) [] s = absurd s
-height_same (f ∷ fs) (g ∷ gs) s =
-    let head = ap (λ t. State.head_words t) s.0.standing in
-    omega (arith, head, cells_length f.cells g.cells s.0.cells, height_same fs gs s.1)
+height_same (f ∷ fs) (g ∷ gs) s = grind (arith, cells_length, height_same fs gs s.1)
 
 named_same : (n : ℕ) (fs gs : List Frame) → SameFrames fs gs → frames_named n fs ≡ frames_named n gs
 named_same n [] [] s = refl
@@ -256,21 +209,7 @@ module _ (P : Starts) (constants : JobConstants) (job : Job) (change : Task → 
       let own = task_of t h in
       let kept : TaskInOrder P constants (mapped change job) t = task_kept P constants job (mapped change job) (λ n. Unit {0}) map_follows (λ u k. (task_of u k).birth) (omega arith) t h (λ n k. tt)
       (λ a k at. record { item = a; live = k; named = refl; owned = refl }) own in
-      let outer : outer_of (mapped change job) t ≡ outer_of (mapped change job) (change t) = rw (s.critical, s.line) refl in
-      let reach : reach_of (mapped change job) t ≡ reach_of (mapped change job) (change t) = rw outer (ap (λ ks. ks ++ outer_of (mapped change job) (change t)) (frames_known t.frames (change t).frames s.frames)) in
-      record {
-        frames = frames_order P job.arrays (outer_of (mapped change job) (change t)) t.frames (change t).frames s.frames (subst (λ o. FramesInOrder P job.arrays o t.frames) outer kept.frames);
-        returns = stack_same P t.frames (change t).frames s.frames own.returns;
-        some = (none_same t.frames (change t).frames s.frames).1 own.some;
-        falls = subst (λ r. Falls job.next_frame (known_numbers r)) reach kept.falls;
-        not_higher = rw (sym (height_same t.frames (change t).frames s.frames)) own.not_higher;
-        place = rw (s.segment, s.place, sym (running_same t.frames (change t).frames s.frames)) own.place;
-        birth = subst (BirthInOrder (mapped change job) (change t)) (sym s.line) (birth_same (mapped change job) t (change t) t.parents s.number s.critical kept.birth);
-        condition = elim s.condition [
-          | inl e ↦ subst (ConditionInOrder (reach_of (mapped change job) (change t))) (sym e) (subst (λ r. ConditionInOrder r t.condition) reach kept.condition)
-          | inr e ↦ subst (ConditionInOrder (reach_of (mapped change job) (change t))) (sym e) tt
-        ];
-      }
+      grind (arith, frames_known, frames_order, stack_same, height_same, running_same, birth_same)
 
   each_task : (u : Task) → Has (map change job.tasks) u → TaskInOrder P constants (mapped change job) u
   each_task u h = let r = has_map_back change job.tasks u h in subst (TaskInOrder P constants (mapped change job)) r.is (map_task r.item r.among)

@@ -13,10 +13,7 @@ use Rattle.b67_law_order.specs.Laws.{KeptBySteps}
 use Rattle.b67_lemmas.proofs.Members.{length_change, length_filter}
 
 ends_fewer : (s : Settled) (endings : List (ℕ × Ending)) → length (ends_all s endings).job.tasks ≤ length s.job.tasks
-ends_fewer s endings =
-    let numbers = map (λ (e : ℕ × Ending). e.0) endings in
-    let stay = filter (λ (t : Task). not (among numbers t.number)) s.job.tasks in
-    omega (arith, length-map stay (λ (t : Task). record t { condition = released numbers t.condition }), length_filter (λ (t : Task). not (among numbers t.number)) s.job.tasks)
+ends_fewer s endings = grind (arith, length-map, length_filter)
 
 each_fewer : (test : Bool) (ending : Ending) (s : Settled) → length (ends_each_if test ending s).job.tasks ≤ length s.job.tasks
 each_fewer true ending s = ends_fewer s _
@@ -33,8 +30,7 @@ settles_fewer job task (Err fault) = omega (arith, each_fewer (list_all (λ (t :
 
 settles_few : (P : Starts) (constants : JobConstants) (job : Job) (task : Task) (a : Answer Done) → TasksInOrder P constants job → KeepsOrder P constants job task a → (settles job task a).alive ≤ 15
 settles_few P constants job task (Ok (Goes after printed touched)) old new = new.few
-settles_few P constants job task (Ok (Waits condition)) old new =
-    omega (arith, old.few, length_change (λ (t : Task). t.number) task.number (record task { condition = condition }) job.tasks)
+settles_few P constants job task (Ok (Waits condition)) old new = grind (arith, length_change)
 settles_few P constants job task (Ok Leaves) old new = old.few
 settles_few P constants job task (Err fault) old new = old.few
 
@@ -71,6 +67,4 @@ whole_made P constants c task keeps j live ready =
 pub step_made : (P : JobConstants → Starts) (constants : JobConstants) (c : JobProgress) (number : ℕ) (task : Task) → Keeping P constants c → JobInOrder (P constants) constants c →
     keyed (λ t. t.number) number c.job.tasks ≡ Some task → task.number ≡ number → task.condition ≡ Ready → Made (P constants) constants c (step_of constants c number)
 unfolding step_of
-step_made P constants c number task keeps j found named ready =
-    let live : keyed (λ t. t.number) task.number c.job.tasks ≡ Some task = subst (λ n. keyed (λ t. t.number) n c.job.tasks ≡ Some task) (sym named) found in
-    subst (λ o. Made (P constants) constants c (by_task constants c o)) (sym found) (whole_made P constants c task keeps j live ready)
+step_made P constants c number task keeps j found named ready = grind (arith, whole_made)

@@ -7,10 +7,7 @@ use Rattle.b67_lemmas.specs.Lists.{Has}
 
 pub numbered_change : (k n : ℕ) (new : SessionJob) (jobs : List SessionJob) → NumberedFrom k jobs → number_of new ≡ n → NumberedFrom k (change_keyed number_of n (λ y. new) jobs)
 numbered_change k n new [] a e = tt
-numbered_change k n new (y ∷ ys) a e = elim (eqb_tells (number_of y) n) [
-  | inl t ↦ rw t.0 (e ∙ sym t.1 ∙ a.0, a.1)
-  | inr t ↦ rw t.0 (a.0, numbered_change (k + 1) n new ys a.1 e)
-]
+numbered_change k n new (y ∷ ys) a e = grind (arith, numbered_change (k + 1) n new ys a.1 e)
 
 -- a job of a session in order is the first of its number, and a task the first of its number in its job
 pub numbered_low : (n : ℕ) (jobs : List SessionJob) (m : SessionJob) → NumberedFrom n jobs → Has jobs m → n ≤ m.constants.number

@@ -20,8 +20,7 @@ segments_follow n (s ∷ more) rows = (refl, segments_follow (n + 1) more rows)
 
 pub dictionary_words : (segments : List Segment) (rows : List (List ℕ)) →
     DictionaryWords 1 segments (reverse (reverse (segment_words 1 segments ++ originals 1 rows)))
-dictionary_words segments rows =
-    subst (λ ws. DictionaryWords 1 segments ws) (sym (reverse-reverse (segment_words 1 segments ++ originals 1 rows))) (segments_follow 1 segments rows)
+dictionary_words segments rows = grind (arith, reverse-reverse, segments_follow)
 
 rows_count : (n : ℕ) (rows : List (List ℕ)) → length (originals n rows) ≡ length rows
 rows_count n [] = refl
@@ -37,10 +36,7 @@ entries_count segments rows = length-reverse (segment_words 1 segments ++ origin
 -- the arrays of the rows
 rows_good : (n : ℕ) (rows : List (List ℕ)) → AllByRecursion RowWithin rows → AllByRecursion ArrayInOrder (row_arrays n rows)
 rows_good n [] h = tt
-rows_good n (r ∷ more) h = (
-  record { length_low = h.0.length_low; length_high = h.0.length_high; words = h.0.words; writes = (λ e. refl, λ e. refl) },
-  rows_good (n + 1) more h.1,
-)
+rows_good n (r ∷ more) h = grind (arith, rows_good (n + 1) more h.1)
 
 pub arrays_good : (rows : List (List ℕ)) → AllByRecursion RowWithin rows → AllByRecursion ArrayInOrder (reverse (row_arrays 1 rows))
 arrays_good rows h = all_reverse ArrayInOrder (row_arrays 1 rows) (rows_good 1 rows h)
@@ -54,11 +50,7 @@ rows_between low high n (r ∷ more) le fits = ((le, omega (arith, fits)), rows_
 
 falls_from : (n : ℕ) (rows : List (List ℕ)) → Falls (n + length rows) (map (λ a. a.identity) (reverse (row_arrays n rows)))
 falls_from n [] = tt
-falls_from n (r ∷ more) =
-    falls_turned (λ (a : Array). a.identity) (n + length (r ∷ more)) (record { identity = n; owner = 1; writable = false; numbers = r }) (row_arrays (n + 1) more) (omega arith)
-    (falls_more (n + 1 + length more) (n + length (r ∷ more)) _ (omega arith) (falls_from (n + 1) more))
-    (all_by (Between (n + 1) (n + 1 + length more)) (λ a. n < a.identity) (λ a h. omega (arith, h.0)) (row_arrays (n + 1) more)
-    (rows_between (n + 1) (n + 1 + length more) (n + 1) more (omega arith) (omega arith)))
+falls_from n (r ∷ more) = grind (arith, falls_turned, all_by, rows_between, falls_from (n + 1) more)
 
 pub names_fall : (rows : List (List ℕ)) → Falls (length rows + 1) (map (λ a. a.identity) (reverse (row_arrays 1 rows)))
 names_fall rows = falls_more (1 + length rows) (length rows + 1) _ (omega arith) (falls_from 1 rows)
@@ -70,11 +62,7 @@ none_of i n (s ∷ more) = omega (arith, none_of i (n + 1) more)
 
 none_above : (i n : ℕ) (rows : List (List ℕ)) → i < n → how_many (is_original_of i) (originals n rows) ≡ 0
 none_above i n [] lt = refl
-none_above i n (r ∷ more) lt =
-    elim (eqb_tells n i) [
-      | inl t ↦ absurd (omega (arith, t.1, lt))
-      | inr t ↦ rw t.0 (omega (arith, none_above i (n + 1) more (omega (arith, lt))))
-    ]
+none_above i n (r ∷ more) lt = grind (arith, none_above i (n + 1) more)
 
 one_of : (i n : ℕ) (rows : List (List ℕ)) → n ≤ i → i < n + length rows → how_many (is_original_of i) (originals n rows) ≡ 1
 one_of i n [] le lt = absurd (omega (arith, le, lt))
@@ -95,8 +83,7 @@ one_original i segments rows le lt =
     ∙ (let a = none_of i 1 segments in let b = one_of i 1 rows le lt in omega (arith, a, b))
 
 pub each_once : (P : Array → Type 0) (rows : List (List ℕ)) → ((a : Array) → 1 ≤ a.identity → a.identity < 1 + length rows → P a) → AllByRecursion P (reverse (row_arrays 1 rows))
-each_once P rows each =
-    all_reverse P (row_arrays 1 rows) (all_by (Between 1 (1 + length rows)) P (λ a h. each a h.0 h.1) (row_arrays 1 rows) (rows_between 1 (1 + length rows) 1 rows (omega arith) (omega arith)))
+each_once P rows each = grind (arith, all_reverse, all_by, rows_between)
 
 -- the entries of the dictionary
 segments_enter : (arrays : List Array) (n : ℕ) (segments : List Segment) → AllByRecursion (EntryInOrder arrays) (segment_words n segments)

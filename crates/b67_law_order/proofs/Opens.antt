@@ -22,16 +22,7 @@ first_task = record {
 
 -- an opening of a job whose program has a first segment
 setting_good : (number stack : ℕ) (o : Opening) → LEAST_STACK ≤ stack → stack < 2 ^ 14 → OpeningWithin o → SettingInOrder (opened number o.program stack o.limit o.numbers).constants
-setting_good number stack o low high within = record {
-  limit = within.limit_high;
-  stack_low = low;
-  stack_high = high;
-  segments = within.segments;
-  entries = omega (arith, entries_count o.program.segments o.program.rows, within.few);
-  named = refl;
-  stands = refl;
-  dictionary = dictionary_words o.program.segments o.program.rows;
-}
+setting_good number stack o low high within = grind (arith, entries_count, dictionary_words)
 
 -- the first operator of an admitted program
 starts : (number stack : ℕ) (o : Opening) → OpeningWithin o → IsStart (opened number o.program stack o.limit o.numbers).constants 1 2 origin
@@ -63,11 +54,7 @@ task_good number stack o low within = record {
 }
 
 one_frame : (identity : ℕ) → frames_in_job identity (record { arrays = []; tasks = first_task ∷ []; numbers = []; next_task = 2; next_frame = 3; next_array = 1 }) ≤ 1
-one_frame identity =
-    elim (cases_Bool (eqb 2 identity)) [
-      | inl t ↦ rw t (lit≤ tt)
-      | inr t ↦ rw t (lit≤ tt)
-    ]
+one_frame identity = grind arith
 
 once_good : (number stack : ℕ) (o : Opening) → let m = opened number o.program stack o.limit o.numbers in
     AllByRecursion (λ (a : Array). originals_of a.identity m.constants m.progress.job ≡ 1) m.progress.job.arrays

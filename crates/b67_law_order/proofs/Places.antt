@@ -19,9 +19,7 @@ use Rattle.b67_law_order.proofs.Whole.{step_good}
 use Rattle.b67_law_order.proofs.Admitted.{listed, Sound, admitted_sound, Entered, entered, StandsAt, stands_sound, start_stands, origin_stands}
 
 and_false : (a b : Bool) → (a && not b) ≡ false → a ≡ true → b ≡ true
-and_false a true e t = refl
-and_false true false e t = absurd (true≢false e)
-and_false false false e t = absurd (true≢false (sym t))
+and_false a b e t = grind arith
 
 -- a literal names a segment of its level, at which a procedure may begin at its place
 pub record Named (p : Program) (disp level bits : ℕ) : Type 0 where
@@ -36,21 +34,14 @@ level_of_segment None = None
 level_of_segment (Some s) = Some s.level
 
 named_some : (p : Program) (disp level bits : ℕ) → 2 ≤ disp → (o : Option Segment) → slice_get p.segments (disp - 2) ≡ o → holds_of (level_of_segment o) (λ n. eqb n level) ≡ true → may_begin_at o bits ≡ true → Named p disp level bits
-named_some p disp level bits low None is e b = absurd (true≢false (sym e))
-named_some p disp level bits low (Some s) is e b = record { low = low; code = s; found = is; of_level = eqb-true s.level level e; begins = b }
+named_some p disp level bits low o is e b = grind arith
 
 named_by : (p : Program) (disp level bits : ℕ) → holds_of (named_level p disp) (λ n. eqb n level) ≡ true → may_begin_at (named_segment p disp) bits ≡ true → Named p disp level bits
-named_by p disp level bits e b = elim (cases_Bool (ltb disp 2)) [
-  | inl t ↦ let no : false ≡ true = rw t at e in absurd (true≢false (sym no))
-  | inr t ↦ named_some p disp level bits (omega (arith, ltb-false disp 2 t)) (slice_get p.segments (disp - 2)) refl (rw t at e) (rw t at b)
-]
+named_by p disp level bits e b = grind arith
 
 -- no bit stands above the place of a literal
 few_bits : (p : Program) (bits : ℕ) → has_stray_bits p bits ≡ false → bits < 2 ^ 36
-few_bits p bits e =
-    let a = or_parts (not (ltb bits (2 ^ 36)) || not (eqb (bit 19 bits) 0)) (not (holds_of (named_level p (bits % 2 ^ 14)) (λ level. true))) e in
-    let b = or_parts (not (ltb bits (2 ^ 36))) (not (eqb (bit 19 bits) 0)) a.0 in
-    ltb-true bits (2 ^ 36) (not-false (ltb bits (2 ^ 36)) b.0)
+few_bits p bits e = grind arith
 
 place_is : (bits : ℕ) → bits < 2 ^ 36 → place_of_bits (bits / 2 ^ 20) ≡ record { word = (bits / 2 ^ 20) % 2 ^ 13; syllable = (bits / 2 ^ 33) % 2 ^ 3 }
 place_is bits small = let e : bits / 2 ^ 20 / 2 ^ 13 ≡ (bits / 2 ^ 33) % 2 ^ 3 = omega arith in λ i. record { word = (bits / 2 ^ 20) % 2 ^ 13; syllable = e i }

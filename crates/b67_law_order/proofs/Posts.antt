@@ -1,5 +1,5 @@
 -- What holds of an answer's value, by the ways in which answers are made.
-use Rattle.std.proofs.Common.{◌≡◌, refl, subst, Bool, true, false, Ok, Err, cond}
+use Rattle.std.proofs.Common.{◌≡◌, refl, subst, Bool, true, false, Ok, Err, cond, arith}
 use Rattle.b67_word.specs.declared.faults.Fault.{Fault}
 use Rattle.b67_model.specs.Answers.{Answer, ◌>>=◌, ◌>>◌, needs}
 
@@ -19,46 +19,36 @@ post_err P fault = record { by = tt }
 
 -- a value that meets a fact of its own leads on
 pub post_bind : {A B : Type 0} (Q : A → Type 0) (P : B → Type 0) (a : Answer A) (go : A → Answer B) → Post Q a → ((x : A) → Q x → Post P (go x)) → Post P (a >>= go)
-post_bind Q P (Ok x) go first each = each x first.by
-post_bind Q P (Err fault) go first each = record { by = tt }
+post_bind Q P a go first each = grind arith
 
 pub post_any : {A B : Type 0} (P : B → Type 0) (a : Answer A) (go : A → Answer B) → ((x : A) → Post P (go x)) → Post P (a >>= go)
-post_any P (Ok x) go each = each x
-post_any P (Err fault) go each = record { by = tt }
+post_any P a go each = grind arith
 
 pub post_then : {B : Type 0} (P : B → Type 0) (a : Answer (Unit {0})) (rest : Answer B) → Post P rest → Post P (a >> rest)
-post_then P (Ok x) rest holds = holds
-post_then P (Err fault) rest holds = record { by = tt }
+post_then P a rest holds = grind arith
 
 -- a test that a row needs holds from there on
 pub post_needs : {B : Type 0} (P : B → Type 0) (test : Bool) (fault : Fault) (rest : Answer B) → (test ≡ true → Post P rest) → Post P (needs test fault >> rest)
-post_needs P true fault rest holds = holds refl
-post_needs P false fault rest holds = record { by = tt }
+post_needs P test fault rest holds = grind arith
 
 pub post_if : {A : Type 0} (P : A → Type 0) (test : Bool) (a b : Answer A) → Post P a → Post P b → Post P (cond test a b)
-post_if P true a b x y = x
-post_if P false a b x y = y
+post_if P test a b x y = grind arith
 
 pub post_if_is : {A : Type 0} (P : A → Type 0) (test : Bool) (a b : Answer A) → (test ≡ true → Post P a) → (test ≡ false → Post P b) → Post P (cond test a b)
-post_if_is P true a b x y = x refl
-post_if_is P false a b x y = y refl
+post_if_is P test a b x y = grind arith
 
 pub post_more : {A : Type 0} (P Q : A → Type 0) (a : Answer A) → ((x : A) → P x → Q x) → Post P a → Post Q a
-post_more P Q (Ok x) more holds = record { by = more x holds.by }
-post_more P Q (Err fault) more holds = record { by = tt }
+post_more P Q a more holds = grind arith
 
 pub post_both : {A : Type 0} (P Q : A → Type 0) (a : Answer A) → Post P a → Post Q a → Post (λ x. P x × Q x) a
-post_both P Q (Ok x) p q = record { by = (p.by, q.by) }
-post_both P Q (Err fault) p q = record { by = tt }
+post_both P Q a p q = grind arith
 
 -- the value with the equation that gives it
 pub post_is : {A : Type 0} (a : Answer A) → Post (λ x. a ≡ Ok x) a
-post_is (Ok x) = record { by = refl }
-post_is (Err fault) = record { by = tt }
+post_is a = grind arith
 
 pub post_at : {A : Type 0} (P : A → Type 0) (a : Answer A) (x : A) → a ≡ Ok x → Post P a → P x
 post_at P a x e g = let there : Post P (Ok x) = subst (Post P) e g in there.by
 
 pub post_any_at : {A : Type 0} {P : A → Type 0} (a : Answer A) → ((x : A) → P x) → Post P a
-post_any_at (Ok x) each = record { by = each x }
-post_any_at (Err fault) each = record { by = tt }
+post_any_at a each = grind arith

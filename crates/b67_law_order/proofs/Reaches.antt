@@ -1,5 +1,5 @@
 -- Reaches that are alike: the same identities, and the same entered frames.
-use Rattle.std.proofs.Common.{◌≡◌, ℕ, List, [], ◌∷◌, ◌++◌, map, Some, refl, sym, ap, ◌∙◌, subst, inl, inr}
+use Rattle.std.proofs.Common.{◌≡◌, ℕ, List, [], ◌∷◌, ◌++◌, map, Some, refl, sym, ap, ◌∙◌, subst, inl, inr, arith}
 use Rattle.std.specs.List.{AllByRecursion}
 use Rattle.b67_model.specs.Keyed.{keyed}
 use Rattle.b67_lemmas.specs.Lists.{Has}
@@ -28,23 +28,13 @@ pub alike_numbers : (ks ls : List Known) → Alike ks ls → known_numbers ks �
 alike_numbers [] [] a = refl
 alike_numbers [] (l ∷ ls) a = absurd a
 alike_numbers (k ∷ ks) [] a = absurd a
-alike_numbers (k ∷ ks) (l ∷ ls) a =
-    ap (λ n. n ∷ known_numbers ks) a.0 ∙ ap (λ ns. l.0 ∷ ns) (alike_numbers ks ls a.2)
+alike_numbers (k ∷ ks) (l ∷ ls) a = grind (arith, alike_numbers ks ls a.2)
 
 pub alike_has : (ks ls : List Known) (n : ℕ) (s : Standing) → Alike ks ls → IsEntered s → Has ks (n, s) → Has ls (n, s)
 alike_has [] [] n s a e h = absurd h
 alike_has [] (l ∷ ls) n s a e h = absurd a
 alike_has (k ∷ ks) [] n s a e h = absurd a
-alike_has (k ∷ ks) (l ∷ ls) n s a e h = elim h [
-  | inl is ↦
-      let number : k.0 ≡ n = ap (λ (m : Known). m.0) is in
-      let standing : k.1 ≡ s = ap (λ (m : Known). m.1) is in
-      let stays : k.1 ≡ l.1 = a.1 (subst IsEntered (sym standing) e) in
-      let x : l.0 ≡ n = sym a.0 ∙ number in
-      let y : l.1 ≡ s = sym stays ∙ standing in
-      inl (λ i. (x i, y i))
-  | inr m ↦ inr (alike_has ks ls n s a.2 e m)
-]
+alike_has (k ∷ ks) (l ∷ ls) n s a e h = grind (arith, alike_has ks ls n s a.2 e)
 
 -- the array is there, of whatever length
 pub record Stays (arrays' : List Array) (a : Array) : Type 0 where
@@ -65,29 +55,11 @@ pub known_number : (reach : List Known) (n : ℕ) (s : Standing) → Has reach (
 known_number reach n s h = has_map (λ (k : Known). k.0) reach (n, s) h
 
 pub names_array : (reach reach' : List Known) (arrays arrays' : List Array) (array : ℕ) → Wider reach reach' arrays arrays' → NamesArray arrays reach array → NamesArray arrays' reach' array
-names_array reach reach' arrays arrays' array wide e =
-    let owner = names_entered reach reach' arrays arrays' e.item.owner wide e.owner in
-    let kept = wide.kept e.item e.live (known_number reach' e.item.owner owner.standing owner.among) in
-    record {
-      item = kept.item;
-      live = kept.live;
-      named = kept.named ∙ e.named;
-      owner = subst (NamesEntered reach') (sym kept.owned) owner;
-    }
+names_array reach reach' arrays arrays' array wide e = grind (arith, known_number)
 
 pub word_wider : (P : Starts) (reach reach' : List Known) (arrays arrays' : List Array) (owner : ℕ) → Wider reach reach' arrays arrays' → Has (known_numbers reach') owner → (w : Word) →
     WordInOrder P arrays reach owner w → WordInOrder P arrays' reach' owner w
-word_wider P reach reach' arrays arrays' owner wide at (Operand bits) g = g
-word_wider P reach reach' arrays arrays' owner wide at (Name couple) g = g
-word_wider P reach reach' arrays arrays' owner wide at (Ref identity offset) g = (names_entered reach reach' arrays arrays' identity wide g.0, g.1)
-word_wider P reach reach' arrays arrays' owner wide at (Row array) g = names_array reach reach' arrays arrays' array wide g
-word_wider P reach reach' arrays arrays' owner wide at (Element array index) g = names_array reach reach' arrays arrays' array wide g
-word_wider P reach reach' arrays arrays' owner wide at (Original array) g =
-    let kept = wide.kept g.item g.live (subst (Has (known_numbers reach')) (sym g.owned) at) in
-    record { item = kept.item; live = kept.live; named = kept.named ∙ g.named; owned = kept.owned ∙ g.owned }
-word_wider P reach reach' arrays arrays' owner wide at (Proc segment level place) g = g
-word_wider P reach reach' arrays arrays' owner wide at (Intrinsic number) g = g
-word_wider P reach reach' arrays arrays' owner wide at (Words.Segment number) g = g
+word_wider P reach reach' arrays arrays' owner wide at w g = grind (arith, names_array)
 
 pub words_wider : (P : Starts) (reach reach' : List Known) (arrays arrays' : List Array) (owner : ℕ) → Wider reach reach' arrays arrays' → Has (known_numbers reach') owner → (ws : List Word) →
     AllByRecursion (WordInOrder P arrays reach owner) ws → AllByRecursion (WordInOrder P arrays' reach' owner) ws
@@ -96,9 +68,7 @@ words_wider P reach reach' arrays arrays' owner wide at (w ∷ ws) all =
     (word_wider P reach reach' arrays arrays' owner wide at w all.0, words_wider P reach reach' arrays arrays' owner wide at ws all.1)
 
 pub stands_wider : (under under' : List Known) (s : Standing) → ((n : ℕ) (t : Standing) → IsEntered t → Has under (n, t) → Has under' (n, t)) → StandsInOrder under s → StandsInOrder under' s
-stands_wider under under' Marked more g = tt
-stands_wider under under' (Entered level environment back) more g =
-    record { low = g.low; high = g.high; standing = g.standing; among = more environment g.standing g.entered g.among; entered = g.entered; level_below = g.level_below }
+stands_wider under under' s more g = grind arith
 
 pub alike_under : (outer outer' : List Known) (fs : List Frame) → Alike outer outer' → Alike (map known_of fs ++ outer) (map known_of fs ++ outer')
 alike_under outer outer' fs alike = alike_append (map known_of fs) (map known_of fs) outer outer' (alike_same (map known_of fs)) alike
@@ -135,9 +105,7 @@ Births job = (t : Task) → Has job.tasks t → BirthInOrder job t t.parents
 -- what lies outside a task's frames is alike then
 pub outer_alike : (job job' : Job) (Lives : ℕ → Type 0) → Follows job job' Lives → Births job → (t : Task) → Has job.tasks t → (parents : List ℕ) → t.parents ≡ parents →
     ((n : ℕ) → Has parents n → Lives n) → Alike (outer_reach job t.critical parents) (outer_reach job' t.critical parents)
-outer_alike job job' Lives follows births t here [] line live = tt' where
-  tt' : Alike base base
-  tt' = alike_same base
+outer_alike job job' Lives follows births t here [] line live = grind arith
 outer_alike job job' Lives follows births t here (p ∷ more) line live =
     let birth : ParentInOrder job t p more = subst (BirthInOrder job t) line (births t here) in
     let q = birth.parent in

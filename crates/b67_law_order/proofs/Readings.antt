@@ -40,10 +40,7 @@ table_fits = (tt, (tt, (tt, (tt, (tt, (tt, (tt, (tt, (tt, (tt, (tt, (tt, (tt, (t
 
 form_in_fits : (rows : List (ℕ × Form)) (first : ℕ) → AllByRecursion (λ (row : ℕ × Form). FormFits row.1) rows → SomeFits (form_in rows first)
 form_in_fits [] first all = tt
-form_in_fits (row ∷ rows) first all = elim (cases_Bool (eqb row.0 first)) [
-  | inl t ↦ rw t all.0
-  | inr t ↦ rw t (form_in_fits rows first all.1)
-]
+form_in_fits (row ∷ rows) first all = grind (arith, form_in_fits rows first all.1)
 
 form_fits : (first : ℕ) → SomeFits (form_of first)
 form_fits first = elim (cases_Bool (ltb first 64)) [
@@ -63,20 +60,10 @@ syllable_low : (code : List ℕ) (n : ℕ) → syllable code n < 256
 syllable_low code n = mod-lt (slice_index code (n / 6) / 256 ^ (5 - n % 6)) (omega arith)
 
 ends_fit : (code : List ℕ) (end : ℕ) (op : Op) → length code < 2 ^ 13 → OpBits op → ReadFits (ends_at code end op)
-ends_fit code end op short bits = elim (cases_Bool (leb end (6 * length code))) [
-  | inl t ↦ let low = leb-true end (6 * length code) t in rw t (bits, (omega (arith, low, short), omega arith))
-  | inr t ↦ rw t tt
-]
+ends_fit code end op short bits = grind arith
 
 reads_fit : (code : List ℕ) (n : ℕ) (form : Option Form) → length code < 2 ^ 13 → AllByRecursion (λ (w : ℕ). w < 2 ^ 48) code → SomeFits form → ReadFits (reads code n form)
-reads_fit code n None short words fits = tt
-reads_fit code n (Some (Alone op)) short words fits = ends_fit code (n + 1) (Plain op) short tt
-reads_fit code n (Some (OneMore op)) short words fits = ends_fit code (n + 2) (op (syllable code (n + 1))) short (fits (syllable code (n + 1)) (syllable_low code (n + 1)))
-reads_fit code n (Some (TwoMore op)) short words fits = ends_fit code (n + 3) (op (syllable code (n + 1)) (syllable code (n + 2))) short (fits (syllable code (n + 1)) (syllable code (n + 2)) (syllable_low code (n + 1)) (syllable_low code (n + 2)))
-reads_fit code n (Some (Literal op)) short words fits = ends_fit code (6 * (n / 6 + 2)) (op (slice_index code (n / 6 + 1))) short (fits (slice_index code (n / 6 + 1)) (number_low code (n / 6 + 1) words))
+reads_fit code n form short words fits = grind (arith, number_low)
 
 pub operator_fits : (code : List ℕ) (at : Place) → length code < 2 ^ 13 → AllByRecursion (λ (w : ℕ). w < 2 ^ 48) code → ReadFits (operator_at code at)
-operator_fits code at short words = elim (cases_Bool (ltb at.syllable 6 && ltb at.word (length code))) [
-  | inl t ↦ rw t (reads_fit code (count_at at) (form_of (syllable code (count_at at))) short words (form_fits (syllable code (count_at at))))
-  | inr t ↦ rw t tt
-]
+operator_fits code at short words = grind (arith, reads_fit, form_fits)

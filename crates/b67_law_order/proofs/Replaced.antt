@@ -11,10 +11,7 @@ use Rattle.b67_model.specs.Common.{Word, Operand, Name, Ref, Row, Element, Origi
 use Rattle.b67_law_order.proofs.Reaches.{Alike, alike_same, alike_under, alike_numbers, alike_has, Stays, frames_alike, Follower, Follows, Births, outer_alike, birth_follows}
 
 condition_alike : (reach reach' : List Known) (c : Condition) → Alike reach reach' → ConditionInOrder reach c → ConditionInOrder reach' c
-condition_alike reach reach' Ready alike g = tt
-condition_alike reach reach' (Awaits n) alike g = tt
-condition_alike reach reach' (WaitsAt f offset) alike g =
-    (record { standing = g.0.standing; among = alike_has reach reach' f g.0.standing alike g.0.entered g.0.among; entered = g.0.entered }, g.1)
+condition_alike reach reach' c alike g = grind (arith, alike_has)
 
 -- a task that doesn't change, in a job that follows
 pub task_kept : (P : Starts) (constants : JobConstants) (job job' : Job) (Lives : ℕ → Type 0) → Follows job job' Lives → Births job → job.next_frame ≤ job'.next_frame → (t : Task) → Has job.tasks t →
@@ -40,10 +37,7 @@ pub record IsLive (job : Job) (n : ℕ) : Type 0 where
 
 pub has_counts : (n : ℕ) (frames : List Frame) → Has (known_numbers (map known_of frames)) n → 1 ≤ frames_named n frames
 has_counts n [] h = absurd h
-has_counts n (f ∷ below) h = elim (eqb_tells f.identity n) [
-  | inl t ↦ rw t.0 (omega arith)
-  | inr t ↦ elim h [ inl e ↦ absurd (t.1 e) | inr m ↦ rw t.0 (omega (arith, has_counts n below m)) ]
-]
+has_counts n (f ∷ below) h = grind (arith, has_counts n below)
 
 pub from_counts : (n c : ℕ) (frames : List Frame) → frames_named n (from_frame c frames) ≤ frames_named n frames
 from_counts n c [] = omega arith
@@ -107,22 +101,10 @@ pub record Replaced (P : Starts) (constants : JobConstants) (job : Job) (old : T
   pub reads : AllByRecursion (λ n. nat_abs n < 2 ^ 39) job'.numbers
 
 pub birth_same : (job : Job) (t u : Task) (parents : List ℕ) → u.number ≡ t.number → u.critical ≡ t.critical → BirthInOrder job t parents → BirthInOrder job u parents
-birth_same job t u [] n c b = (n ∙ b.0, c ∙ b.1)
-birth_same job t u (p ∷ more) n c b =
-    record { parent = b.parent; found = b.found; line = b.line; older = omega (arith, n, b.older); is_critical = subst (Has (identities b.parent.frames)) (sym c) b.is_critical }
+birth_same job t u parents n c b = grind arith
 
 pub entry_kept : (arrays arrays' : List Array) (w : Word) → ((a : Array) → Has arrays a → a.owner ≡ 1 → Stays arrays' a) → EntryInOrder arrays w → EntryInOrder arrays' w
-entry_kept arrays arrays' (Original n) stay g =
-    let kept = stay g.item g.live g.owned in
-    record { item = kept.item; live = kept.live; named = kept.named ∙ g.named; owned = kept.owned ∙ g.owned }
-entry_kept arrays arrays' (Words.Segment n) stay g = tt
-entry_kept arrays arrays' (Operand bits) stay g = g
-entry_kept arrays arrays' (Name couple) stay g = g
-entry_kept arrays arrays' (Ref identity offset) stay g = g
-entry_kept arrays arrays' (Row array) stay g = g
-entry_kept arrays arrays' (Element array index) stay g = g
-entry_kept arrays arrays' (Proc segment level place) stay g = g
-entry_kept arrays arrays' (Intrinsic number) stay g = g
+entry_kept arrays arrays' w h g = grind arith
 
 -- a fresh identity stands nowhere
 frames_fresh : (bound n : ℕ) (frames : List Frame) (outer : List Known) → Falls bound (known_numbers (map known_of frames ++ outer)) → bound ≤ n → frames_named n frames ≡ 0
@@ -171,19 +153,12 @@ module _ (P : Starts) (constants : JobConstants) (job : Job) (old : Task) (job' 
   ]
 
   stay : (t : Task) → Has job'.tasks t → (a : Array) → Has job.arrays a → Has (known_numbers (reach_of job' t)) a.owner → Stays job'.arrays a
-  stay t here a live at = elim (r.kept a live).case [
-    | inl s ↦ s
-    | inr gone ↦ elim (reach_live job' t a.owner here at).counted [
-      | inl low ↦ absurd (omega (arith, low, gone.0))
-      | inr one ↦ absurd (omega (arith, one, gone.1, counted a.owner, g.apart a.owner))
-    ]
-  ]
+  stay t here a live at = grind (arith, reach_live, counted)
 
   pub outer_kept : Alike (outer_of job old) (outer_of job' new)
   outer_kept =
       let outer : Alike (outer_of job old) (outer_reach job' old.critical old.parents) = outer_alike job job' (λ n. Unit {0}) follows births old old_live old.parents refl (λ n h. tt) in
-      let same : outer_reach job' old.critical old.parents ≡ outer_of job' new = rw (r.critical, r.line) refl in
-      subst (Alike (outer_of job old)) same outer
+      grind arith
 
   own : TaskInOrder P constants job' new
   own =
@@ -207,9 +182,7 @@ module _ (P : Starts) (constants : JobConstants) (job : Job) (old : Task) (job' 
   ]
 
   once : (a : Array) → Has job'.arrays a → originals_of a.identity constants job' ≡ 1
-  once a live =
-      let e = total_change (λ (t : Task). t.number) (λ (t : Task). originals_in a.identity t.frames) old.number old new job.tasks found in
-      rw r.tasks (omega (arith, e, r.once a live))
+  once a live = grind (arith, total_change)
 
   pub replaced : TasksInOrder P constants job'
   replaced = record {

@@ -1,5 +1,5 @@
 -- Leaving, and the word that is returned.
-use Rattle.std.proofs.Common.{◌≡◌, ◌≢◌, ℕ, Bool, true, false, not, eqb, List, [], ◌∷◌, ◌++◌, map, Option, Some, None, Ok, refl, sym, ap, ◌∙◌, subst, inl, inr}
+use Rattle.std.proofs.Common.{◌≡◌, ◌≢◌, ℕ, Bool, true, false, not, eqb, List, [], ◌∷◌, ◌++◌, map, Option, Some, None, Ok, refl, sym, ap, ◌∙◌, subst, inl, inr, arith}
 use Rattle.std.proofs.lemmas.Bool.Decides.{eqb_tells}
 use Rattle.std.proofs.lemmas.Bool.{true≢false}
 use Rattle.b67_model.specs.Common.{Answer, Word, Operand, Name, Ref, Row, Element, Original, Proc, Intrinsic, Frame, Standing, Marked, Entered, Return, Array, Task, Job, OperatorContext, with_task, level_of_frame, running, array, element, owner_of, End, AtCell, AtElement, AtArray, AtProc, AtIntrinsic, follow, Line, Done, Goes, Leaves, Waits, top_of, cells_of, result, with_cells, is_critical, accident, evaluates, left, leaves, exit, returnable, returned, retn_word, retn, Starts, Known, known_of, IsEntered, NamesEntered, NamesArray, ReturnsInOrder, is_original_of, TasksInOrder}
@@ -25,18 +25,10 @@ result_no_wait : (k : OperatorContext) (job : Job) (task : Task) (printed : List
 result_no_wait k job task printed touched = post_then NoWait _ _ (post_ok NoWait _ tt)
 
 accident_no_wait : (k : OperatorContext) (cells : List Word) (back : Return) (end : End) → Post NoWait (accident k cells back end)
-accident_no_wait k cells back (AtProc f segment level place) = search (post_then, result_no_wait)
-accident_no_wait k cells back (AtCell f offset bits) = post_err NoWait _
-accident_no_wait k cells back (AtElement a index) = post_err NoWait _
-accident_no_wait k cells back (AtArray a) = post_err NoWait _
-accident_no_wait k cells back (AtIntrinsic n) = post_err NoWait _
+accident_no_wait k cells back end = grind arith
 
 evaluates_no_wait : (k : OperatorContext) (end : End) → Post NoWait (evaluates k end)
-evaluates_no_wait k (AtCell f offset bits) = result_no_wait k k.job (with_cells k (Operand bits ∷ cells_of k)) [] None
-evaluates_no_wait k (AtElement a index) = result_no_wait k k.job (with_cells k (Operand (element k.job a index) ∷ cells_of k)) [] (Some a)
-evaluates_no_wait k (AtProc f segment level place) = accident_no_wait k _ _ (AtProc f segment level place)
-evaluates_no_wait k (AtArray a) = post_err NoWait _
-evaluates_no_wait k (AtIntrinsic n) = post_err NoWait _
+evaluates_no_wait k end = grind arith
 
 returned_no_wait : (k : OperatorContext) (w : Word) (value : Bool) → Post NoWait (returned k w value)
 returned_no_wait k w false = result_no_wait k k.job (with_cells k (w ∷ cells_of k)) [] None
@@ -54,9 +46,7 @@ returned_good P k (Operand bits) true run m = push_good P k (Operand bits) None 
 returned_good P k w true run m = post_bind (EndInOrder P k) (Keeps P k) (follow k w) _ (follow_in P k run (top_of k).identity w m.fit) (λ end is. evaluates_good P k end run is)
 
 keeps_from : (P : Starts) (h k : OperatorContext) (done : Done) → k.constants ≡ h.constants → (Keeps P k done × NoWait done) → Keeps P h done
-keeps_from P h k (Goes after printed touched) same g = subst (λ s. TasksInOrder P s after) same g.0
-keeps_from P h k Leaves same g = tt
-keeps_from P h k (Waits condition) same g = absurd g.1
+keeps_from P h k done same g = grind arith
 
 -- the same, seen from the state before the frame was left
 returned_before : (P : Starts) (h k : OperatorContext) (w : Word) (value : Bool) → k.constants ≡ h.constants → Run P k → Moves P k w → Good P h (returned k w value)
@@ -73,10 +63,7 @@ module _ (P : Starts) (h : OperatorContext) (run : Run P h) where
   leaves_good (Entered level environment (Some back)) e go each =
       let p = taken_apart P h run in
       let whole = parted P h run p in
-      let stands : p.f.standing ≡ Entered level environment (Some back) = ap (λ (x : Frame). x.standing) (sym (top_is h p)) ∙ e in
-      let r = returns_some P p.f.standing p.below level environment back whole.returns.0 stands in
-      post_needs (Keeps P h) (not (is_critical h.job (top_of h).identity)) _ _
-      (λ t. each back (left_good P h run back p (subst (λ (x : Frame). not (is_critical h.job x.identity) ≡ true) (top_is h p) t) r.0 r.1))
+      grind (arith, left_good)
 
   pub exit_good : Good P h (exit h)
   exit_good = leaves_good (top_of h).standing refl _ (λ back l. result_good P h (left h back) (left h back).job (left h back).task [] None (λ low. same_job back l))
@@ -120,10 +107,8 @@ module _ (P : Starts) (h : OperatorContext) (run : Run P h) where
   returnable_good : (back : Return) → Left P h back → (w : Word) → Fit P h w → Post (Moves P (left h back)) (returnable h.job (top_of h).identity w)
   returnable_good back l (Ref f offset) g = post_needs (Moves P (left h back)) (not (eqb f (top_of h).identity)) _ _
       (λ t. post_ok (Moves P (left h back)) (Ref f offset) (record { fit = (names_still back l f (not_eqb f (top_of h).identity t) g.0, g.1); plain = λ n. refl }))
-  returnable_good back l (Row a) g = post_needs (Moves P (left h back)) (not (eqb (owner_of h.job a) (top_of h).identity)) _ _
-      (λ t. post_ok (Moves P (left h back)) (Row a) (record { fit = array_still back l a t g; plain = λ n. refl }))
-  returnable_good back l (Element a index) g = post_needs (Moves P (left h back)) (not (eqb (owner_of h.job a) (top_of h).identity)) _ _
-      (λ t. post_ok (Moves P (left h back)) (Element a index) (record { fit = array_still back l a t g; plain = λ n. refl }))
+  returnable_good back l (Row a) g = grind (arith, array_still)
+  returnable_good back l (Element a index) g = grind (arith, array_still)
   returnable_good back l (Original a) g = post_err (Moves P (left h back)) _
   returnable_good back l (Name couple) g = post_err (Moves P (left h back)) _
   returnable_good back l (Operand bits) g = post_ok (Moves P (left h back)) _ (record { fit = g; plain = λ n. refl })

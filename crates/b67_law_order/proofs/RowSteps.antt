@@ -61,14 +61,12 @@ plain_above (Intrinsic number) below plain = tt
 plain_above (Words.Segment number) below plain = tt
 
 pub originals_cells : (n : ℕ) (fs : List Frame) (cells : List Word) → originals n cells ≡ originals n (top fs).cells → originals_in n (with_top_cells fs cells) ≡ originals_in n fs
-originals_cells n [] cells e = refl
-originals_cells n (f ∷ below) cells e = omega (arith, e)
+originals_cells n fs cells e = grind arith
 
 -- the result of a row
 pub result_good : (P : Starts) (h k : OperatorContext) (job : Job) (task : Task) (printed : List Line) (touched : Option ℕ) → (height task.frames ≤ k.constants.stack_size → TasksInOrder P h.constants (with_task job task)) →
     Good P h (result k job task printed touched)
-result_good P h k job task printed touched good =
-    post_needs (Keeps P h) (leb (height task.frames) k.constants.stack_size) StackOverflow _ (λ t. post_ok (Keeps P h) _ (good (leb-true (height task.frames) k.constants.stack_size t)))
+result_good P h k job task printed touched good = grind arith
 
 pub cells_good : (P : Starts) (h : OperatorContext) (cells : List Word) (touched : Option ℕ) → Run P h → AllFit P h cells → CopiesAbove cells → SameOriginals cells (cells_of h) → Good P h (leaves_cells h cells touched)
 cells_good P h cells touched run fit above same = result_good P h h h.job (with_cells h cells) [] touched
@@ -85,17 +83,7 @@ pub environment_of_proc : (P : Starts) (h : OperatorContext) (run : Run P h) (un
 environment_of_proc P h run under f segment level place is keep test =
     let s = is.names.standing in
     let seen = see P h run f s is.names.among in
-    let low = level_low P h run f s is.names.among is.names.entered is.own in
-    let same : level_of_frame (frame h f) ≡ level_of_standing s = ap level_of_standing seen.standing in
-    let plus : level_of_frame (frame h f) + 1 ≡ level = eqb-true (level_of_frame (frame h f) + 1) level test in
-    record {
-      low = omega (arith, low, same, plus);
-      high = is.high;
-      standing = s;
-      among = keep s is.names.entered is.names.among;
-      entered = is.names.entered;
-      level_below = omega (arith, same, plus);
-    }
+    grind arith
 
 -- an accidental entry, over these cells
 pub accident_good : (P : Starts) (h : OperatorContext) (cells : List Word) (back : Return) (end : End) → Run P h → EndInOrder P h end → AllFit P h cells → CopiesAbove cells → SameOriginals cells (cells_of h) →

@@ -34,28 +34,10 @@ use Rattle.b67_law_order.proofs.Children.{started_good}
 
 above_left : (xs ys : List Word) → CopiesAbove (xs ++ ys) → CopiesAbove xs
 above_left [] ys g = tt
-above_left (x ∷ xs) ys g = (no_copy_left x xs ys g.0, above_left xs ys g.1) where
-  no_copy_left : (w : Word) (xs ys : List Word) → NoCopyUnder w (xs ++ ys) → NoCopyUnder w xs
-  no_copy_left (Original a) xs ys g = omega (arith, g, total_append (λ w. cond (is_copy_of a w) 1 0) xs ys)
-  no_copy_left (Operand bits) xs ys g = tt
-  no_copy_left (Name couple) xs ys g = tt
-  no_copy_left (Ref identity offset) xs ys g = tt
-  no_copy_left (Row array) xs ys g = tt
-  no_copy_left (Element array index) xs ys g = tt
-  no_copy_left (Proc segment level place) xs ys g = tt
-  no_copy_left (Intrinsic number) xs ys g = tt
-  no_copy_left (Words.Segment number) xs ys g = tt
+above_left (x ∷ xs) ys g = grind (arith, total_append, above_left xs ys g.1)
 
 row_copy_plain : (w : Word) → Post (λ a. is_original w ≡ false) (row_copy w)
-row_copy_plain (Row a) = post_ok _ _ refl
-row_copy_plain (Operand bits) = post_err _ _
-row_copy_plain (Name couple) = post_err _ _
-row_copy_plain (Ref f offset) = post_err _ _
-row_copy_plain (Element a index) = post_err _ _
-row_copy_plain (Original a) = post_err _ _
-row_copy_plain (Proc segment level place) = post_err _ _
-row_copy_plain (Intrinsic n) = post_err _ _
-row_copy_plain (Words.Segment n) = post_err _ _
+row_copy_plain w = grind arith
 
 whole_plain : (w : Word) → Post (λ n. is_original w ≡ false) (whole w)
 whole_plain w = post_bind (λ bits. is_original w ≡ false) (λ n. is_original w ≡ false) (operand w) _ (operand_plain w) (λ bits e. post_any_at (number bits) (λ n. e))
@@ -71,21 +53,10 @@ pub record Call (P : Starts) (h : OperatorContext) (arguments : List Word) : Typ
 
 each_call : (P : Starts) (h : OperatorContext) (n : ℕ) (arguments : List Word) → Good P h (arraydec h arguments) → Good P h (print h arguments) → Good P h (printrow h arguments) → Good P h (read h arguments) → Good P h (process h arguments) →
     Good P h (await h arguments) → Good P h (status h arguments) → Good P h (wait h arguments) → Good P h (cause h arguments) → Good P h (deallocate h arguments) → Good P h (resize h arguments) → Good P h (intrinsic n h arguments)
-each_call P h n arguments a b c d e f g i j k l =
-    post_if (Keeps P h) _ _ _ a (post_if (Keeps P h) _ _ _ b (post_if (Keeps P h) _ _ _ c (post_if (Keeps P h) _ _ _ d (post_if (Keeps P h) _ _ _ e
-    (post_if (Keeps P h) _ _ _ f (post_if (Keeps P h) _ _ _ g (post_if (Keeps P h) _ _ _ i (post_if (Keeps P h) _ _ _ j
-    (post_if (Keeps P h) _ _ _ k (post_if (Keeps P h) _ _ _ l (post_err (Keeps P h) _)))))))))))
+each_call P h n arguments a b c d e f g i j k l = grind (arith, post_if)
 
 follow_reference_plain : (h : OperatorContext) (w : Word) → Post (λ end. is_original w ≡ false) (follow_reference h w)
-follow_reference_plain h (Name couple) = post_any_at (follow_reference h (Name couple)) (λ end. refl)
-follow_reference_plain h (Ref f offset) = post_any_at (follow_reference h (Ref f offset)) (λ end. refl)
-follow_reference_plain h (Element array index) = post_err _ _
-follow_reference_plain h (Operand bits) = post_err _ _
-follow_reference_plain h (Row array) = post_err _ _
-follow_reference_plain h (Original array) = post_err _ _
-follow_reference_plain h (Proc segment level place) = post_err _ _
-follow_reference_plain h (Intrinsic number) = post_err _ _
-follow_reference_plain h (Words.Segment number) = post_err _ _
+follow_reference_plain h w = grind arith
 
 reference_followed : (P : Starts) (h : OperatorContext) → Run P h → (owner : ℕ) (w : Word) → WordInOrder P h.job.arrays (reach h) owner w → Post (Followed P h w) (follow_reference h w)
 reference_followed P h run owner w fit = post_more (λ end. EndInOrder P h end × (is_original w ≡ false)) (Followed P h w) (follow_reference h w) (λ end g. record { is = g.0; plain = g.1 })
@@ -181,8 +152,7 @@ module _ (P : Starts) (h : OperatorContext) where
       }) g.is)
 
   pub entr_good : Run P h → h.job.next_task < 2 ^ 48 → (s : Standing) → (top_of h).standing ≡ s → Good P h (entr h s)
-  entr_good run next Marked e = entr_with_good run e next (reverse (cells_of h)) refl
-  entr_good run next (Entered level environment back) e = post_err (Keeps P h) _
+  entr_good run next s e = grind (arith, entr_with_good)
 
 module _ (P : Starts) (h : OperatorContext) (start : Run P (branches h h.at)) (next : h.job.next_task < 2 ^ 48) where
   -- the operators after which the next one may follow

@@ -34,8 +34,7 @@ few_tasks P [] a = tt
 few_tasks P (m ∷ jobs) a = (a.0.tasks.few, few_tasks P jobs a.1)
 
 turn_good : (s : Session) (turn : ℕ) → s.turn ≤ s.made → (turn ≡ 0) ⊎ (turn ≡ s.turn) → turn + 1 ≤ s.made + 1
-turn_good s turn le (inl e) = omega (arith, e)
-turn_good s turn le (inr e) = omega (arith, e, le)
+turn_good s turn le h = grind arith
 
 session_good : (P : JobConstants → Starts) (s : Session) (c : Choice) (m : SessionJob) (made : JobMoment) → SessionInOrder P s → keyed number_of c.who.job s.jobs ≡ Some m →
     (c.turn ≡ 0) ⊎ (c.turn ≡ s.turn) → Made (P m.constants) m.constants m.progress made → SessionInOrder P (with_moment s c m made)
@@ -46,24 +45,7 @@ session_good P s c m made o found turn good =
     let same = change_is number_of c.who.job (λ (k : SessionJob). record k { progress = made.progress }) m s.jobs found in
     let tasks = total_change number_of tasks_of c.who.job m new s.jobs found in
     let counts = total_change number_of made_of c.who.job m new s.jobs found in
-    let low = total_has tasks_of s.jobs m named.0 in
-    let others = others_fifteen tasks_of s.jobs m (few_tasks P s.jobs o.jobs) named.0 in
-    let lengths = length_change number_of c.who.job new s.jobs in
-    let t = sum_total tasks_of s.jobs in
-    let j = sum_total tasks_of jobs in
-    let before = sum_total made_of s.jobs in
-    let behind = sum_total made_of jobs in
-    subst (λ (js : List SessionJob). SessionInOrder P (session_with s c m made js)) (sym same) (record {
-      few = omega (arith, lengths, o.few);
-      numbered = numbered_change 1 c.who.job new s.jobs o.numbered named.1;
-      one_size = (o.one_size.0, all_change (λ (k : SessionJob). k.constants.stack_size ≡ o.one_size.0) number_of c.who.job new s.jobs o.one_size.1 (all_in (λ (k : SessionJob). k.constants.stack_size ≡ o.one_size.0) s.jobs m o.one_size.1 named.0));
-      jobs = all_change (λ (k : SessionJob). JobInOrder (P k.constants) k.constants k.progress) number_of c.who.job new s.jobs o.jobs good.order;
-      switches = o.switches;
-      peak_low = peak_low_of s.peak (sum_by tasks_of s.jobs) (sum_by tasks_of jobs) (tasks_of m) (tasks_of new) made.alive (omega (arith, tasks, t, j)) (omega (arith, low, t)) good.fewer;
-      peak_high = peak_high_of s.peak (sum_by tasks_of s.jobs) (tasks_of m) made.alive (length s.jobs) o.peak_high (omega (arith, others, t)) (omega (arith, low, t)) good.few o.few;
-      counted = omega (arith, counts, before, behind, o.counted, good.counted);
-      turn = turn_good s c.turn o.turn turn;
-    })
+    grind (arith, others_fifteen, few_tasks, length_change, sum_total, numbered_change, all_change, all_in)
 
 -- a step, where it is known what steps keep in each job
 next_good : (P : JobConstants → Starts) (s : Session) (after : StepResult) → SessionInOrder P s → ((m : SessionJob) → Has s.jobs m → Keeping P m.constants m.progress) → next s ≡ Some after → SessionInOrder P after.session
@@ -95,10 +77,7 @@ sessions_stay_in_order_but_places s after o e =
 -- jobs keep their settings
 admitted_change : (n : ℕ) (c : JobProgress) (jobs : List SessionJob) → AllByRecursion RunsAdmitted jobs → AllByRecursion RunsAdmitted (change_keyed number_of n (λ (k : SessionJob). record k { progress = c }) jobs)
 admitted_change n c [] a = tt
-admitted_change n c (m ∷ jobs) a = elim (eqb_tells (number_of m) n) [
-  | inl t ↦ rw t.0 (record { program = a.0.program; admitted = a.0.admitted; segments = a.0.segments }, a.1)
-  | inr t ↦ rw t.0 (a.0, admitted_change n c jobs a.1)
-]
+admitted_change n c (m ∷ jobs) a = grind (arith, admitted_change n c jobs a.1)
 
 admitted_by : (s : Session) (after : StepResult) (c : Choice) (o : Option SessionJob) → AllByRecursion RunsAdmitted s.jobs → moment_by s c o ≡ Some after → AllByRecursion RunsAdmitted after.session.jobs
 admitted_by s after c None a e = absurd cc
@@ -110,18 +89,14 @@ admitted_by s after c (Some m) a e =
     subst (λ (x : StepResult). AllByRecursion RunsAdmitted x.session.jobs) same (admitted_change c.who.job made.progress s.jobs a)
 
 admitted_for : (s : Session) (after : StepResult) (o : Option Choice) → AllByRecursion RunsAdmitted s.jobs → moment_for s o ≡ Some after → AllByRecursion RunsAdmitted after.session.jobs
-admitted_for s after None a e = absurd cc
-admitted_for s after (Some c) a e = admitted_by s after c (keyed number_of c.who.job s.jobs) a e
+admitted_for s h o a e = grind (arith, admitted_by)
 
 admitted_next : (s : Session) (after : StepResult) → AllByRecursion RunsAdmitted s.jobs → next s ≡ Some after → AllByRecursion RunsAdmitted after.session.jobs
 unfolding next
 admitted_next s after a e = admitted_for s after (choice s) a e
 
 keeps_admitted : (m : SessionJob) → RunsAdmitted m → Keeping IsStart m.constants m.progress
-keeps_admitted m a = record {
-  rows = λ task from. rows_keep_order a.program m.constants m.progress.job task a.admitted a.segments from;
-  steps = λ task. steps_keep_order a.program m.constants m.progress task a.admitted a.segments;
-}
+keeps_admitted m a = grind (arith, rows_keep_order, steps_keep_order)
 
 pub sessions_stay_in_order : SessionsStayInOrder
 sessions_stay_in_order s after o admitted e = (

@@ -25,28 +25,10 @@ reading_fits constants task g = let code = code_fits constants task.segment g in
 
 -- a literal's fields
 pub proc_fits : (h : OperatorContext) (bits : ℕ) → is_proc h bits ≡ true → StartsAt (IsSegment h.constants) (proc_of bits)
-proc_fits h bits test =
-    let one = and_parts (ltb bits (2 ^ 36) && (eqb ((bits / 2 ^ 19) % 2) 0) && ltb 1 (bits % 2 ^ 14)) (ltb (bits % 2 ^ 14) (length h.constants.segments + 2)) test in
-    let two = and_parts (ltb bits (2 ^ 36) && (eqb ((bits / 2 ^ 19) % 2) 0)) (ltb 1 (bits % 2 ^ 14)) one.0 in
-    let low = ltb-true 1 (bits % 2 ^ 14) two.1 in
-    let high = ltb-true (bits % 2 ^ 14) (length h.constants.segments + 2) one.1 in
-    record { from_one = omega (arith, low); within = omega (arith, high, low); word_fits = omega arith; syllable_fits = omega arith }
+proc_fits h bits test = grind arith
 
 pub parameters_fit : (h : OperatorContext) (level : ℕ) (op : Op) → IsSegment h.constants h.task.segment level h.at → OpBits op → ParametersFit (IsSegment h.constants) h op
-parameters_fit h level (Valc couple) at bits = bits
-parameters_fit h level (Namc couple) at bits = bits
-parameters_fit h level (Lt8 n) at bits = bits
-parameters_fit h level (Lt16 n) at bits = bits
-parameters_fit h level (Lt48 n) at bits = bits
-parameters_fit h level (Mpcw n) at bits = proc_fits h n
-parameters_fit h level (Brun target) at bits = record { from_one = at.from_one; within = at.within; word_fits = bits.0; syllable_fits = bits.1 }
-parameters_fit h level (Brtr target) at bits = record { from_one = at.from_one; within = at.within; word_fits = bits.0; syllable_fits = bits.1 }
-parameters_fit h level (Brfl target) at bits = record { from_one = at.from_one; within = at.within; word_fits = bits.0; syllable_fits = bits.1 }
-parameters_fit h level (Bset n) at bits = tt
-parameters_fit h level (Brst n) at bits = tt
-parameters_fit h level (Isol high width) at bits = tt
-parameters_fit h level (Insr high width) at bits = tt
-parameters_fit h level (Plain code) at bits = tt
+parameters_fit h level op at bits = grind arith
 
 pub rows_keep_order_but_places : RowsKeepOrderButPlaces
 rows_keep_order_but_places constants job task s =

@@ -43,8 +43,7 @@ start_up constants order segment level place h =
     let within = slice_get_within constants.segments (segment - 1) h.code h.found in
     let read = entered (6 * length h.code.code) h.code.code (record { word = 0; syllable = 0 }) (operator_at h.code.code (record { word = 0; syllable = 0 })) place h.op refl h.stands in
     let inside = read_inside h.code.code place (h.op, read.next) read.reads in
-    let short = (segment_at constants.segments (segment - 1) h.code order.segments h.found).length_high in
-    record { from_one = h.from_one; within = omega (arith, within, h.from_one); word_fits = omega (arith, inside.1, short); syllable_fits = omega (arith, inside.0) }
+    grind (arith, segment_at)
 
 -- the one law
 member_start : (m : SessionJob) → JobInOrder (IsStart m.constants) m.constants m.progress → JobInOrder (IsSegment m.constants) m.constants m.progress
@@ -67,17 +66,7 @@ member_start m h = record {
 }
 
 pub starts_are_segments : StartsAreSegments
-starts_are_segments s h = record {
-  few = h.few;
-  numbered = h.numbered;
-  one_size = h.one_size;
-  jobs = all_members (λ (m : SessionJob). JobInOrder (IsStart m.constants) m.constants m.progress) (λ (m : SessionJob). JobInOrder (IsSegment m.constants) m.constants m.progress) member_start s.jobs h.jobs;
-  switches = h.switches;
-  peak_low = h.peak_low;
-  peak_high = h.peak_high;
-  counted = h.counted;
-  turn = h.turn;
-}
+starts_are_segments s h = grind (arith, all_members, member_start)
 
 -- other numbers: segments
 pub recoded_count : (xs ys : List Segment) → Recoded xs ys → length ys ≡ length xs
@@ -88,10 +77,7 @@ recoded_count (x ∷ xs) [] h = absurd h
 
 recoded_order : (xs ys : List Segment) → Recoded xs ys → AllByRecursion SegmentInOrder xs → AllByRecursion SegmentInOrder ys
 recoded_order [] [] h o = o
-recoded_order (x ∷ xs) (y ∷ ys) h o =
-    let low = o.0.length_low in
-    let high = o.0.length_high in
-    (record { length_low = omega (arith, low, h.0.count); length_high = omega (arith, high, h.0.count); words = h.0.bits }, recoded_order xs ys h.1 o.1)
+recoded_order (x ∷ xs) (y ∷ ys) h o = grind (arith, recoded_order xs ys h.1 o.1)
 recoded_order [] (y ∷ ys) h o = absurd h
 recoded_order (x ∷ xs) [] h o = absurd h
 
@@ -116,34 +102,14 @@ twin_array [] (y ∷ ys) h a k = absurd h
 twin_array (x ∷ xs) [] h a k = absurd h
 
 names_up : (xs ys : List Array) → Refilled xs ys → (reach : List Known) (a : ℕ) → NamesArray xs reach a → NamesArray ys reach a
-names_up xs ys h reach a n =
-    let t = twin_array xs ys h n.item n.live in
-    record {
-      item = t.item;
-      live = t.among;
-      named = t.same.identity ∙ n.named;
-      owner = (let P : ℕ → Type 0 = λ o. NamesEntered reach o in subst P (sym t.same.owner) n.owner);
-    }
+names_up xs ys h reach a n = grind (arith, twin_array)
 
 owns_up : (xs ys : List Array) → Refilled xs ys → (owner a : ℕ) → OwnsArray xs owner a → OwnsArray ys owner a
-owns_up xs ys h owner a n =
-    let t = twin_array xs ys h n.item n.live in
-    record { item = t.item; live = t.among; named = t.same.identity ∙ n.named; owned = t.same.owner ∙ n.owned }
+owns_up xs ys h owner a n = grind (arith, twin_array)
 
 arrays_order : (xs ys : List Array) → Refilled xs ys → AllByRecursion ArrayInOrder xs → AllByRecursion ArrayInOrder ys
 arrays_order [] [] h o = o
-arrays_order (x ∷ xs) (y ∷ ys) h o =
-    let low = o.0.length_low in
-    let high = o.0.length_high in
-    let W : Bool → ℕ → Type 0 = λ w n. (w ≡ false) ↔ (n ≡ 1) in (
-      record {
-        length_low = omega (arith, low, h.0.numbers.count);
-        length_high = omega (arith, high, h.0.numbers.count);
-        words = h.0.numbers.bits;
-        writes = subst (λ (w : Bool). W w y.owner) (sym h.0.writable) (subst (W x.writable) (sym h.0.owner) o.0.writes);
-      },
-      arrays_order xs ys h.1 o.1,
-    )
+arrays_order (x ∷ xs) (y ∷ ys) h o = grind (arith, arrays_order xs ys h.1 o.1)
 arrays_order [] (y ∷ ys) h o = absurd h
 arrays_order (x ∷ xs) [] h o = absurd h
 
@@ -160,15 +126,7 @@ identities_same [] (y ∷ ys) h = absurd h
 identities_same (x ∷ xs) [] h = absurd h
 
 entry_up : (xs ys : List Array) → Refilled xs ys → (w : Word) → EntryInOrder xs w → EntryInOrder ys w
-entry_up xs ys h (Operand bits) o = o
-entry_up xs ys h (Name couple) o = o
-entry_up xs ys h (Ref identity offset) o = o
-entry_up xs ys h (Row array) o = o
-entry_up xs ys h (Element array index) o = o
-entry_up xs ys h (Original array) o = owns_up xs ys h 1 array o
-entry_up xs ys h (Proc segment level place) o = o
-entry_up xs ys h (Intrinsic number) o = o
-entry_up xs ys h (Words.Segment number) o = o
+entry_up xs ys h w o = grind (arith, owns_up)
 
 entries_up : (xs ys : List Array) → Refilled xs ys → (ws : List Word) → AllByRecursion (EntryInOrder xs) ws → AllByRecursion (EntryInOrder ys) ws
 entries_up xs ys h [] o = o
@@ -182,21 +140,10 @@ module _ (m : SessionJob) (segments : List Segment) (arrays : List Array) (code 
   job' = record m.progress.job { arrays = arrays }
 
   segment_up : (segment level : ℕ) (place : Place) → IsSegment m.constants segment level place → IsSegment setting' segment level place
-  segment_up segment level place h =
-      let within = h.within in
-      record { from_one = h.from_one; within = omega (arith, within, recoded_count m.constants.segments segments code); word_fits = h.word_fits; syllable_fits = h.syllable_fits }
+  segment_up segment level place h = grind (arith, recoded_count)
 
   pub setting_up : SettingInOrder m.constants → SettingInOrder setting'
-  setting_up h = record {
-    limit = h.limit;
-    stack_low = h.stack_low;
-    stack_high = h.stack_high;
-    segments = recoded_order m.constants.segments segments code h.segments;
-    entries = h.entries;
-    named = h.named;
-    stands = h.stands;
-    dictionary = recoded_words 1 m.constants.segments segments (reverse m.constants.dictionary.cells) code h.dictionary;
-  }
+  setting_up h = grind (arith, recoded_order, recoded_words)
 
   pub tasks_up : TasksInOrder (IsSegment m.constants) m.constants m.progress.job → TasksInOrder (IsSegment setting') setting' job'
   tasks_up h = record {
@@ -213,12 +160,7 @@ module _ (m : SessionJob) (segments : List Segment) (arrays : List Array) (code 
   }
 
   member_up : JobInOrder (IsSegment m.constants) m.constants m.progress → JobInOrder (IsSegment setting') setting' (record m.progress { job = job' })
-  member_up h = record {
-    unchanging = setting_up h.unchanging;
-    tasks = tasks_up h.tasks;
-    counts = record { next = h.counts.next; within = h.counts.within; goes_on = h.counts.goes_on };
-    below_limit = h.below_limit;
-  }
+  member_up h = grind (arith, setting_up, tasks_up)
 
 abbrev Good : SessionJob → Type 0
 Good m = JobInOrder (IsSegment m.constants) m.constants m.progress
@@ -250,23 +192,9 @@ count_up (m ∷ ms) [] h = absurd h
 pub sum_up : (f : SessionJob → ℕ) → ((m : SessionJob) (segments : List Segment) (arrays : List Array) → f (record m { constants = record m.constants { segments = segments }; progress = record m.progress { job = record m.progress.job { arrays = arrays } } }) ≡ f m)
     → (ms ns : List SessionJob) → AllOtherNumbers ms ns → sum_by f ns ≡ sum_by f ms
 sum_up f same [] [] h = refl
-sum_up f same (m ∷ ms) (n ∷ ns) h =
-    sum_by-cons f n ns ∙ ap (λ (k : ℕ). k + sum_by f ns) (ap f h.0.rest ∙ same m n.constants.segments n.progress.job.arrays) ∙ ap (λ (k : ℕ). f m + k) (sum_up f same ms ns h.1) ∙ sym (sum_by-cons f m ms)
+sum_up f same (m ∷ ms) (n ∷ ns) h = grind (arith, sum_by-cons, sum_up f same ms ns h.1)
 sum_up f same [] (n ∷ ns) h = absurd h
 sum_up f same (m ∷ ms) [] h = absurd h
 
 pub other_numbers_keep_order : OtherNumbersKeepOrder
-other_numbers_keep_order s jobs h o =
-    let few = o.few in
-    let low = o.peak_low in
-    record {
-      few = omega (arith, few, count_up s.jobs jobs h);
-      numbered = numbered_up 1 s.jobs jobs h o.numbered;
-      one_size = (o.one_size.0, sizes_up o.one_size.0 s.jobs jobs h o.one_size.1);
-      jobs = members_up s.jobs jobs h o.jobs;
-      switches = o.switches;
-      peak_low = omega (arith, low, sum_up (λ (m : SessionJob). length m.progress.job.tasks) (λ m segments arrays. refl) s.jobs jobs h);
-      peak_high = o.peak_high;
-      counted = o.counted ∙ sym (sum_up (λ (m : SessionJob). m.progress.made) (λ m segments arrays. refl) s.jobs jobs h);
-      turn = o.turn;
-    }
+other_numbers_keep_order s jobs h o = grind (arith, count_up, numbered_up, sizes_up, members_up, sum_up)

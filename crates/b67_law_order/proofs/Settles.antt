@@ -77,10 +77,7 @@ NextLow job (Ok (Waits condition)) = Unit {0}
 NextLow job (Err fault) = Unit {0}
 
 next_of : (job : Job) (a : Answer Done) → Post (Identities.Keeps job) a → NextLow job a
-next_of job (Ok (Goes after printed touched)) g = g.by.one
-next_of job (Ok Leaves) g = tt
-next_of job (Ok (Waits condition)) g = tt
-next_of job (Err fault) g = tt
+next_of job a g = grind arith
 
 settles_next : (job : Job) (task : Task) (a : Answer Done) → NextLow job a → (settles job task a).settled.job.next_task ≤ job.next_task + 1
 settles_next job task (Ok (Goes after printed touched)) g = omega (arith, each_next (list_all (λ t. not (is_ready t)) after.tasks) Deadlock (unsettled after), g)
@@ -89,8 +86,7 @@ settles_next job task (Ok Leaves) g = let e = each_next (list_all (λ t. not (is
 settles_next job task (Err fault) g = let e = each_next (list_all (λ t. not (is_ready t)) (ends_task job task.number (Faulted fault)).job.tasks) Deadlock (ends_task job task.number (Faulted fault)) in omega (arith, e)
 
 step_next : (constants : JobConstants) (job : Job) (task : Task) (r : Reading) → NextLow job (step_by constants job task r)
-step_next constants job task (Err why) = tt
-step_next constants job task (Ok read) = next_of job _ (Identities.row_good read.0 (record { constants = constants; job = job; task = record task { place = read.1 }; at = task.place }))
+step_next constants job task r = grind (arith, Identities.row_good)
 
 pub stepped_next : (constants : JobConstants) (job : Job) (task : Task) → (stepped constants job task).settled.job.next_task ≤ job.next_task + 1
 unfolding step stepped
@@ -105,10 +101,7 @@ all_gone P constants s ending g =
 -- who is ready after the third item
 some_ready : (tasks : List Task) → list_all (λ t. not (is_ready t)) tasks ≡ false → (t : Task) × Has tasks t × IsTrue (is_ready t)
 some_ready [] e = absurd (true≢false e)
-some_ready (t ∷ tasks) e = elim (cases_Bool (is_ready t)) [
-  | inl y ↦ (t, inl refl, y)
-  | inr n ↦ let r = some_ready tasks (rw n at e) in (r.0, inr r.1, r.2)
-]
+some_ready (t ∷ tasks) e = grind (arith, some_ready tasks)
 
 ready_by : (P : Starts) (constants : JobConstants) (s : Settled) (test : Bool) → list_all (λ t. not (is_ready t)) s.job.tasks ≡ test → TasksInOrder P constants s.job → (ends_each_if test Deadlock s).job.tasks ≢ [] →
     (t : Task) × Has (ends_each_if test Deadlock s).job.tasks t × IsTrue (is_ready t)
@@ -128,8 +121,7 @@ unfolding stepped
 stepped_ready P constants job task s g some = settles_ready P constants job task (step constants job task) s g some
 
 not_empty : (tasks : List Task) (t : Task) → Has tasks t → tasks ≢ []
-not_empty [] t h = absurd h
-not_empty (x ∷ tasks) t h = λ e. cc
+not_empty tasks t h = grind arith
 
 whole_by : (P : Starts) (constants : JobConstants) (c : JobProgress) (task : Task) (s : Settled) (test : Bool) → eqb (c.made + 1) constants.limit ≡ test → JobInOrder P constants c → c.made < constants.limit → TasksInOrder P constants s.job → s.job.next_task ≤ c.job.next_task + 1 →
     (s.job.tasks ≢ [] → (t : Task) × Has s.job.tasks t × IsTrue (is_ready t)) → (ended : List (ℕ × Ending)) →

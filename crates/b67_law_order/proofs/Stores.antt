@@ -22,8 +22,7 @@ use Rattle.b67_word.specs.declared.faults.Fault.TheVariants.{InvalidAddress}
 
 -- fewer cells are no higher
 height_cells : (fs : List Frame) (cells : List Word) → length cells ≤ length (top fs).cells → height (with_top_cells fs cells) ≤ height fs
-height_cells [] cells low = omega arith
-height_cells (f ∷ below) cells low = omega (arith, low)
+height_cells fs cells low = grind arith
 
 -- other cells on top, without the test of the height
 pub cells_low : (P : Starts) (h : OperatorContext) (cells : List Word) → Run P h → AllFit P h cells → CopiesAbove cells → SameOriginals cells (cells_of h) → length cells ≤ length (cells_of h) → TasksInOrder P h.constants (with_task h.job (with_cells h cells))
@@ -35,18 +34,7 @@ cells_low P h cells run fit above same low = changed P h (with_top_cells h.task.
 -- an array's element changes
 pub change_has : (n : ℕ) (f : Array → Array) (xs : List Array) (a : Array) → Has xs a → ((x : Array) → Stays (f x ∷ []) x) → Stays (change_keyed (λ x. x.identity) n f xs) a
 change_has n f [] a h same = absurd h
-change_has n f (x ∷ xs) a h same = elim (eqb_tells x.identity n) [
-  | inl e ↦ rw e.0 (elim h [
-    | inl is ↦ let s = same x in
-        let item : f x ≡ s.item = elim s.live [ inl z ↦ z | inr z ↦ absurd z ] in
-        subst (Stays (f x ∷ xs)) is (record { item = s.item; live = inl item; named = s.named; owned = s.owned })
-    | inr m ↦ record { item = a; live = inr m; named = refl; owned = refl }
-  ])
-  | inr e ↦ rw e.0 (elim h [
-    | inl is ↦ record { item = a; live = inl is; named = refl; owned = refl }
-    | inr m ↦ let s = change_has n f xs a m same in record { item = s.item; live = inr s.live; named = s.named; owned = s.owned }
-  ])
-]
+change_has n f (x ∷ xs) a h same = grind (arith, change_has n f xs a)
 
 set_low : (xs : List ℕ) (i bits : ℕ) → bits < 2 ^ 48 → AllByRecursion (λ (n : ℕ). n < 2 ^ 48) xs → AllByRecursion (λ (n : ℕ). n < 2 ^ 48) (slice_set xs i bits)
 set_low [] i bits low all = tt
@@ -59,34 +47,22 @@ set_length (x ∷ xs) zero bits = refl
 set_length (x ∷ xs) (suc i) bits = ap suc (set_length xs i bits)
 
 number_kept : (index bits : ℕ) (a : Array) → bits < 2 ^ 48 → ArrayInOrder a → ArrayInOrder (with_number index bits a)
-number_kept index bits a low g = record {
-  length_low = rw (set_length a.numbers index bits) g.length_low;
-  length_high = rw (set_length a.numbers index bits) g.length_high;
-  words = set_low a.numbers index bits low g.words;
-  writes = g.writes;
-}
+number_kept index bits a low g = grind (arith, set_length, set_low)
 
 -- one array changes to another in order
 pub arrays_changed : (n : ℕ) (f : Array → Array) (xs : List Array) → ((a : Array) → ArrayInOrder a → ArrayInOrder (f a)) → AllByRecursion ArrayInOrder xs → AllByRecursion ArrayInOrder (change_keyed (λ a. a.identity) n f xs)
 arrays_changed n f [] fits all = tt
-arrays_changed n f (x ∷ xs) fits all = elim (eqb_tells x.identity n) [
-  | inl e ↦ rw e.0 (fits x all.0, all.1)
-  | inr e ↦ rw e.0 (all.0, arrays_changed n f xs fits all.1)
-]
+arrays_changed n f (x ∷ xs) fits all = grind (arith, arrays_changed n f xs fits all.1)
 
 pub names_changed : (n : ℕ) (f : Array → Array) (xs : List Array) → ((a : Array) → (f a).identity ≡ a.identity) → map (λ (a : Array). a.identity) (change_keyed (λ a. a.identity) n f xs) ≡ map (λ (a : Array). a.identity) xs
 names_changed n f [] same = refl
-names_changed n f (x ∷ xs) same = elim (eqb_tells x.identity n) [
-  | inl e ↦ rw e.0 (ap (λ m. m ∷ map (λ (a : Array). a.identity) xs) (same x))
-  | inr e ↦ rw e.0 (ap (λ ms. x.identity ∷ ms) (names_changed n f xs same))
-]
+names_changed n f (x ∷ xs) same = grind (arith, names_changed n f xs same)
 
 -- a fact of identities alone
 pub by_names : (Q : ℕ → Type 0) (xs ys : List Array) → map (λ (a : Array). a.identity) xs ≡ map (λ (a : Array). a.identity) ys → AllByRecursion (λ (a : Array). Q a.identity) ys → (a : Array) → Has xs a → Q a.identity
 by_names Q xs ys same all a h =
     let there : Has (map (λ (x : Array). x.identity) ys) a.identity = subst (λ ns. Has ns a.identity) same (has_map (λ (x : Array). x.identity) xs a h) in
-    let r = has_map_back (λ (x : Array). x.identity) ys a.identity there in
-    subst Q r.is (all_in (λ (x : Array). Q x.identity) ys r.item all r.among)
+    grind (arith, has_map_back, all_in)
 
 pub element_stored : (P : Starts) (h : OperatorContext) (a index bits : ℕ) (cells : List Word) → Run P h → bits < 2 ^ 48 → AllFit P h cells → CopiesAbove cells → SameOriginals cells (cells_of h) → Good P h (result h (with_element h.job a index bits) (with_cells h cells) [] (Some a))
 element_stored P h a index bits cells run low fit above same = result_good P h h (with_element h.job a index bits) (with_cells h cells) [] (Some a) (λ high.
@@ -128,13 +104,7 @@ pub holds_operand : (P : Starts) (h : OperatorContext) (n offset bits : ℕ) →
 holds_operand P h n offset bits run e f live is =
     let high = above_one P h.constants h.job run.order live.task live.live f live.among in
     let there : frame h n ≡ f = subst (λ m. frame h m ≡ f) is (ap (λ o. unwrap_or o no_frame) (keyed_left (λ (x : Frame). x.identity) f.identity (flat_map (λ (t : Task). t.frames) h.job.tasks) (h.constants.dictionary ∷ mcp ∷ []) f (found_frame P h.constants h.job run.order f live))) in
-    let found : ok_or (cell_of f offset) InvalidAddress ≡ Ok (Operand bits) = subst (λ (x : Frame). ok_or (cell_of x offset) InvalidAddress ≡ Ok (Operand bits)) there e in
-    let some : cell_of f offset ≡ Some (Operand bits) = some_ok (cell_of f offset) InvalidAddress (Operand bits) found in
-    let two : first_offset f ≡ 2 = elim (eqb_tells f.identity 0) [ inl z ↦ absurd (omega (arith, z.1, high)) | inr z ↦ rw z.0 refl ] in
-    elim (cases_Bool (ltb offset (first_offset f))) [
-      | inl t ↦ let no : None ≡ Some (Operand bits) = rw t at some in cc
-      | inr t ↦ let at : slice_get (reverse f.cells) (offset - first_offset f) ≡ Some (Operand bits) = rw t at some in subst (λ k. slice_get (reverse f.cells) (offset - k) ≡ Some (Operand bits)) two at
-    ]
+    grind arith
 
 pub same_item : (f : Frame) (i : ℕ) (w v : Word) → slice_get (reverse f.cells) i ≡ Some w → slice_get (reverse f.cells) i ≡ Some v → w ≡ v
 same_item f i w v a b = let e : Some w ≡ Some v = sym a ∙ b in cc
@@ -152,19 +122,13 @@ pub record KeptCells (rest kept : List Word) : Type 0 where
   pub operands : AllByRecursion IsOperand above
 
 top_has : (fs : List Frame) → fs ≢ [] → Has fs (top fs)
-top_has [] some = absurd (some refl)
-top_has (f ∷ below) some = inl refl
+top_has fs some = grind arith
 
 cells_has : (fs : List Frame) (cells : List Word) (g : Frame) → Has (with_top_cells fs cells) g → (record (top fs) { cells = cells } ≡ g) ⊎ Has fs g
-cells_has [] cells g k = absurd k
-cells_has (f ∷ below) cells g k = elim k [ inl e ↦ inl e | inr m ↦ inr (inr m) ]
+cells_has fs cells g k = grind arith
 
 pub own_frame : (P : Starts) (h : OperatorContext) → Run P h → (f : Frame) → Has h.task.frames f → IsFrame h.job f
-own_frame P h run f k = record {
-  task = run.found;
-  live = (keyed_has (λ t. t.number) h.task.number h.job.tasks run.found run.running).0;
-  among = subst (λ (t : Task). Has t.frames f) (sym run.same) k;
-}
+own_frame P h run f k = grind (arith, keyed_has)
 
 store_holds : (P : Starts) (h : OperatorContext) (b a : Word) (rest kept : List Word) (n offset bits : ℕ) → Run P h → cell h n offset ≡ Ok (Operand bits) → cells_of h ≡ b ∷ a ∷ rest → KeptCells rest kept →
     HoldsOperand (with_task h.job (with_cells h kept)) n offset
@@ -208,8 +172,7 @@ pub record IsOperandOf (w : Word) (bits : ℕ) : Type 0 where
   pub is : w ≡ Operand bits
 
 operand_of : (w : Word) → Post (IsOperandOf w) (operand w)
-operand_of (Operand bits) = post_ok (IsOperandOf (Operand bits)) bits (record { is = refl })
-operand_of w = post_err _ _
+operand_of w = grind arith
 
 leaves_two : (P : Starts) (h : OperatorContext) (b a v : Word) (rest : List Word) (bits : ℕ) (keeps : Bool) → AllFit P h rest → Fit P h v → CopiesAbove rest → SameOriginals rest (cells_of h) → cells_of h ≡ b ∷ a ∷ rest → v ≡ Operand bits →
     Leaves2 P h rest (cond keeps (v ∷ rest) rest)
@@ -222,13 +185,7 @@ leaves_two P h b a v rest bits true fit one above same are is =
       low = rw are (omega arith);
       cells = record { above = v ∷ []; are = reverse-append (v ∷ []) rest; operands = (subst IsOperand (sym is) tt, tt) };
     }
-leaves_two P h b a v rest bits false fit one above same are is = record {
-  fit = fit;
-  above = above;
-  same = same;
-  low = rw are (omega arith);
-  cells = record { above = []; are = sym (append-nil (reverse rest)); operands = tt };
-}
+leaves_two P h b a v rest bits false fit one above same are is = grind (arith, append-nil)
 
 pub store_good : (P : Starts) (keeps : Bool) (h : OperatorContext) (cells : List Word) → Run P h → P h.task.segment (level_of_frame (running h.task.frames)) h.at → cells_of h ≡ cells → Good P h (store keeps h cells)
 store_good P keeps h [] run at are = post_err (Keeps P h) _

@@ -10,10 +10,7 @@ total_fifteen w (x ∷ xs) a = omega (arith, a.0, total_fifteen w xs a.1)
 -- the others beside one have at most fifteen each
 pub others_fifteen : {A : Type 0} (w : A → ℕ) (xs : List A) (old : A) → AllByRecursion (λ x. w x ≤ 15) xs → Has xs old → total w xs + 15 ≤ w old + 15 * length xs
 others_fifteen w [] old a h = absurd h
-others_fifteen w (x ∷ xs) old a h = elim h [
-  | inl e ↦ omega (arith, ap w e, total_fifteen w xs a.1)
-  | inr r ↦ omega (arith, a.0, others_fifteen w xs old a.1 r)
-]
+others_fifteen w (x ∷ xs) old a h = grind (arith, total_fifteen, others_fifteen w xs old a.1)
 
 pub peak_low_of : (p t j o n a : ℕ) → j + o ≡ t + n → o ≤ t → n ≤ a → j ≤ max p (t - o + a)
 peak_low_of p t j o n a e le few = omega (arith, e, le, few)

@@ -53,60 +53,35 @@ AlikeOption _ _ = ⊥
 
 alike_keyed : (j : ℕ) (ms ns : List SessionJob) → AllAlike ms ns → AlikeOption (keyed number_of j ms) (keyed number_of j ns)
 alike_keyed j [] [] e = tt
-alike_keyed j (m ∷ ms) (n ∷ ns) e = ⊎_elim
-    (λ (t : (number_of m == j) ≡ true). let u : (number_of n == j) ≡ true = ap (λ (i : ℕ). i == j) e.0.number ∙ t in rw (t, u) e.0)
-    (λ (t : (number_of m == j) ≡ false). let u : (number_of n == j) ≡ false = ap (λ (i : ℕ). i == j) e.0.number ∙ t in rw (t, u) (alike_keyed j ms ns e.1))
-    (cases_Bool (number_of m == j))
+alike_keyed j (m ∷ ms) (n ∷ ns) e = grind (arith, alike_keyed j ms ns e.1)
 alike_keyed j [] (n ∷ ns) e = absurd e
 alike_keyed j (m ∷ ms) [] e = absurd e
 
 -- spots and critical marks read no more of a job than its tasks
 pub outer_same : (plan : Placement) (j : ℕ) (job job' : Job) → job'.tasks ≡ job.tasks → (c : ℕ) (parents : List ℕ) → outer_spots plan j job' c parents ≡ outer_spots plan j job c parents
 outer_same plan j job job' e c [] = refl
-outer_same plan j job job' e c (parent ∷ more) =
-    let at : List Task → Option Task = λ ts. keyed (λ (t : Task). t.number) parent ts in
-    let inner : (ℕ → StackPlace) → ℕ → StackPlace = λ f id. spot_in (slot_of plan j parent) f (from_frame c (frames_of_task (at job.tasks))) id in
-    let O : Job → Option Task → ℕ → StackPlace = λ k o id. spot_in (slot_of plan j parent) (outer_spots plan j k (critical_of o) more) (from_frame c (frames_of_task o)) id in
-    ap (λ (o : Option Task). O job' o) (ap at e)
-    ∙ ap inner (outer_same plan j job job' e (critical_of (at job.tasks)) more)
+outer_same plan j job job' e c (parent ∷ more) = grind arith
 
 pub critical_same : (job job' : Job) → job'.tasks ≡ job.tasks → (fs : List Frame) → critical_mark job' fs ≡ critical_mark job fs
 critical_same job job' e [] = refl
-critical_same job job' e (f ∷ below) =
-    ap (λ (ts : List Task). if list_any (λ (t : Task). t.critical == f.identity) ts then State.height below else critical_mark job' below) e
-    ∙ ap (λ (n : ℕ). if list_any (λ (t : Task). t.critical == f.identity) job.tasks then State.height below else n) (critical_same job job' e below)
+critical_same job job' e (f ∷ below) = grind arith
 
 outward_same : (h h' : OperatorContext) → all_frames h' ≡ all_frames h → (links : ℕ) (g : Frame) → outward h' links g ≡ outward h links g
 outward_same h h' e zero g = refl
-outward_same h h' e (suc links) g =
-    ap (λ (fs : List Frame). outward h' links (unwrap_or (keyed (λ (f : Frame). f.identity) (environment_of g.standing) fs) State.no_frame)) e
-    ∙ outward_same h h' e links (frame h (environment_of g.standing))
+outward_same h h' e (suc links) g = grind arith
 
 module _ (m n : SessionJob) (e : Alike m n) where
   pub has_task : (u : Task) → Has n.progress.job.tasks u → Has m.progress.job.tasks u
   has_task u k = let Q : List Task → Type 0 = λ ts. Has ts u in subst Q e.tasks k
 
   pub dictionary_alike : (core : List Tagged) (plan : Placement) → RepresentsDictionary core plan m → RepresentsDictionary core plan n
-  dictionary_alike core plan h = record {
-    mark = ap (λ (i : ℕ). slice_get core (plan.dictionary i)) e.number ∙ h.mark;
-    entries = ap (λ (i : ℕ). slice_get core (plan.dictionary i + 1)) e.number ∙ h.entries ∙ ap (λ (d : Frame). Some (word 0 (length d.cells))) (sym e.dictionary);
-  }
+  dictionary_alike core plan h = grind arith
 
   pub row_homes_alike : (plan : Placement) → RowHomes plan m → RowHomes plan n
-  row_homes_alike plan h i low up =
-      let cells : length n.constants.dictionary.cells ≡ length m.constants.dictionary.cells = ap (λ (d : Frame). length d.cells) e.dictionary in
-      let there = h i low (omega (arith, up, cells, e.count)) in
-      ap (λ (j : ℕ). plan.home j i) e.number ∙ there ∙ ap (λ (j : ℕ). plan.dictionary j + 1 + length m.constants.segments + i) (sym e.number)
-      ∙ ap (λ (k : ℕ). plan.dictionary n.constants.number + 1 + k + i) (sym e.count)
+  row_homes_alike plan h i low up = grind arith
 
   pub task_stands_alike : (r : Regs) (plan : Placement) (t : Task) → RepresentsTask r plan m t → RepresentsTask r plan n t
-  task_stands_alike r plan t h = record {
-    slot = h.slot ∙ ap (λ (i : ℕ). slot_of plan i t.number) (sym e.number);
-    dict = h.dict ∙ ap plan.dictionary (sym e.number);
-    entries = h.entries ∙ ap (λ (d : Frame). length d.cells) (sym e.dictionary);
-    segment = h.segment;
-    place = h.place;
-  }
+  task_stands_alike r plan t h = grind arith
 
   here_m : Task → OperatorContext
   here_m t = record { constants = m.constants; job = m.progress.job; task = t; at = t.place }
@@ -116,22 +91,14 @@ module _ (m n : SessionJob) (e : Alike m n) where
 
   frames_alike : (t : Task) → all_frames (here_n t) ≡ all_frames (here_m t)
   unfolding here_m here_n
-  frames_alike t =
-      ap (λ (ts : List Task). flat_map (λ (u : Task). u.frames) ts ++ (n.constants.dictionary ∷ State.mcp ∷ [])) e.tasks
-      ∙ ap (λ (d : Frame). flat_map (λ (u : Task). u.frames) m.progress.job.tasks ++ (d ∷ State.mcp ∷ [])) e.dictionary
+  frames_alike t = grind arith
 
   spots_alike : (plan : Placement) (t : Task) (id : ℕ) → spots plan n.constants.number n.progress.job t id ≡ spots plan m.constants.number m.progress.job t id
-  spots_alike plan t id =
-      ap (λ (i : ℕ). spots plan i n.progress.job t id) e.number
-      ∙ ap (λ (o : ℕ → StackPlace). spot_in (slot_of plan m.constants.number t.number) o t.frames id) (outer_same plan m.constants.number m.progress.job n.progress.job e.tasks t.critical t.parents)
+  spots_alike plan t id = grind arith
 
   pub shows_alike : (display : List ℕ) (plan : Placement) (t : Task) → ShowsDisplay display plan m t → ShowsDisplay display plan n t
   unfolding here_m here_n
-  shows_alike display plan t h i up =
-      let at : frame_at (here_n t) i ≡ frame_at (here_m t) i = outward_same (here_m t) (here_n t) (frames_alike t) (running_level (here_m t) - i) (running t.frames) in
-      h i up
-      ∙ ap (λ (f : Frame). Some (address_of plan (spots plan m.constants.number m.progress.job t f.identity))) (sym at)
-      ∙ ap (λ (s : StackPlace). Some (address_of plan s)) (sym (spots_alike plan t (frame_at (here_n t) i).identity))
+  shows_alike display plan t h i up = grind arith
 
 module _ (plan : Placement) (ms ns : List SessionJob) (e : AllAlike ms ns) where
   pub rows_alike : RowsFit plan ms → RowsFit plan ns
@@ -151,9 +118,7 @@ module _ (plan : Placement) (ms ns : List SessionJob) (e : AllAlike ms ns) where
 
 pub dictionaries_alike : (plan : Placement) (at : ℕ) (ms ns : List SessionJob) → AllAlike ms ns → DictionariesFollow plan at ms → DictionariesFollow plan at ns
 dictionaries_alike plan at [] [] e h = h
-dictionaries_alike plan at (m ∷ ms) (n ∷ ns) e h =
-    let P : Frame → Type 0 = λ d. DictionariesFollow plan (at + (2 + length d.cells)) ns in
-    (ap plan.dictionary e.0.number ∙ h.0, subst P (sym e.0.dictionary) (dictionaries_alike plan (at + (2 + length m.constants.dictionary.cells)) ms ns e.1 h.1))
+dictionaries_alike plan at (m ∷ ms) (n ∷ ns) e h = grind (arith, dictionaries_alike plan (at + (2 + length m.constants.dictionary.cells)) ms ns e.1 h.1)
 dictionaries_alike plan at [] (n ∷ ns) e h = absurd e
 dictionaries_alike plan at (m ∷ ms) [] e h = absurd e
 

@@ -1,5 +1,5 @@
 -- What the machine represents doesn't depend on what the running task waits for.
-use Rattle.std.proofs.Common.{◌≡◌, ℕ, List, refl, sym, ◌∙◌, ap, subst, true, false, ◌==◌, ⊎_elim}
+use Rattle.std.proofs.Common.{◌≡◌, ℕ, List, refl, sym, ◌∙◌, ap, subst, true, false, ◌==◌, ⊎_elim, arith}
 use Rattle.std.proofs.lemmas.Bool.{cases_Bool, eqb-true}
 use Rattle.b67_model.specs.Keyed.{change_keyed}
 use Rattle.b67_model.specs.Common.{Condition, Task, Job, SessionJob, with_task, number_of, Session}
@@ -20,14 +20,7 @@ with_job-twice s m one two = ap (λ (js : List SessionJob). record s { jobs = js
 
 -- the stack that stands there already
 same_stack : (p : MachineView) (k : ℕ) (stack : List Activation) → p.slots k ≡ Running stack → with_stack p k stack ≡ p
-same_stack p k stack is =
-    let slots : (with_stack p k stack).slots ≡ p.slots = λ i j. at j i in
-    ap (λ (z : ℕ → Slot). let q : MachineView = record { stacks = p.stacks; size = p.size; peak = p.peak; slots = z; objects = p.objects } in q) slots where
-      at : (j : ℕ) → (with_stack p k stack).slots j ≡ p.slots j
-      at j = ⊎_elim
-          (λ (t : (j == k) ≡ true). let e : j ≡ k = eqb-true j k t in rw t (sym is ∙ ap p.slots (sym e)))
-          (λ (t : (j == k) ≡ false). rw t refl)
-          (cases_Bool (j == k))
+same_stack p k stack is = grind arith
 
 module _ (left : List PagedObject) (x : Storage) (cpu : Cpu) (plan : Placement) (s : Session) (m : SessionJob) (job : Job) (u : Task) (c d : Condition) (n : ℕ) where
   abbrev moved : Condition → SessionJob

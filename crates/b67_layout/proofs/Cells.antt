@@ -16,34 +16,26 @@ use Rattle.b67_layout.proofs.Members.{member_kept}
 -- what other cells leave of the frames
 module _ (P : Starts) (fs : List Frame) (cs : List Word) where
   known-same : map known_of (with_top_cells fs cs) ≡ map known_of fs
-  known-same = by fs where
-    by : (gs : List Frame) → map known_of (with_top_cells gs cs) ≡ map known_of gs
-    by [] = refl
-    by (f ∷ below) = refl
+  known-same = grind arith
 
 pub frames_with : (P : Starts) (arrays : List Array) (outer : List Known) (fs : List Frame) (cs : List Word) → FramesInOrder P arrays outer fs → CellsInOrder P arrays (map known_of fs ++ outer) (top fs).identity cs → FramesInOrder P arrays outer (with_top_cells fs cs)
 frames_with P arrays outer [] cs o words = o
 frames_with P arrays outer (f ∷ below) cs o words = (words, o.1, o.2)
 
 returns_with : (P : Starts) (fs : List Frame) (cs : List Word) → StackInOrder P fs → StackInOrder P (with_top_cells fs cs)
-returns_with P [] cs o = o
-returns_with P (f ∷ below) cs o = o
+returns_with P fs cs o = grind arith
 
 alike_with : (n : ℕ) (fs : List Frame) (cs : List Word) → Alike (map known_of (from_frame n fs)) (map known_of (from_frame n (with_top_cells fs cs)))
-alike_with n [] cs = alike_same []
-alike_with n (f ∷ below) cs = elim (eqb_tells f.identity n) [ inl e ↦ rw e.0 (alike_same (map known_of (f ∷ below))) | inr e ↦ rw e.0 (alike_same (map known_of (from_frame n below))) ]
+alike_with n fs cs = grind (arith, alike_same)
 
 stays_with : (n : ℕ) (fs : List Frame) (cs : List Word) → Has (identities fs) n → Has (identities (with_top_cells fs cs)) n
-stays_with n [] cs h = h
-stays_with n (f ∷ below) cs h = h
+stays_with n fs cs h = grind arith
 
 named_with : (n : ℕ) (fs : List Frame) (cs : List Word) → frames_named n (with_top_cells fs cs) ≡ frames_named n fs
-named_with n [] cs = refl
-named_with n (f ∷ below) cs = refl
+named_with n fs cs = grind arith
 
 originals_with : (n : ℕ) (fs : List Frame) (cs : List Word) → fs ≢ [] → how_many (is_original_of n) cs ≡ how_many (is_original_of n) (top fs).cells → originals_in n (with_top_cells fs cs) ≡ originals_in n fs
-originals_with n [] cs some e = absurd (some refl)
-originals_with n (f ∷ below) cs some e = ap (λ (k : ℕ). k + originals_in n below) e
+originals_with n fs cs some e = grind arith
 
 module _ (plan : Placement) (s : Session) (m : SessionJob) (t : Task) (ordered : IsInOrderButCounts s) (runs : IsRunning plan s.jobs m t) (cs : List Word) (q : Place)
     (words : CellsInOrder (IsSegment m.constants) m.progress.job.arrays (map known_of t.frames ++ outer_of m.progress.job t) (top t.frames).identity cs)

@@ -1,5 +1,5 @@
 -- The view of a session doesn't show how many operators were made.
-use Rattle.std.proofs.Common.{◌≡◌, ℕ, List, [], ◌∷◌, ◌++◌, Option, Some, None, refl, ◌∙◌, ap, true, false, ⊎_elim}
+use Rattle.std.proofs.Common.{◌≡◌, ℕ, List, [], ◌∷◌, ◌++◌, Option, Some, None, refl, ◌∙◌, ap, true, false, ⊎_elim, arith}
 use Rattle.std.specs.Prelude.{◌==◌, flat_map}
 use Rattle.std.proofs.lemmas.Bool.{cases_Bool}
 use Rattle.b67_model.specs.Common.{JobConstants, Task, Job, SessionJob, number_of}
@@ -24,21 +24,13 @@ SameOption _ _ = ⊥
 
 same_keyed : (j : ℕ) (ms ns : List SessionJob) → SameJobs ms ns → SameOption (keyed number_of j ms) (keyed number_of j ns)
 same_keyed j [] [] e = tt
-same_keyed j (m ∷ ms) (n ∷ ns) e =
-    let number : number_of n ≡ number_of m = ap (λ (s : JobConstants). s.number) e.0.constants in
-    ⊎_elim
-    (λ (t : (number_of m == j) ≡ true). let u : (number_of n == j) ≡ true = ap (λ (i : ℕ). i == j) number ∙ t in rw (t, u) e.0)
-    (λ (t : (number_of m == j) ≡ false). let u : (number_of n == j) ≡ false = ap (λ (i : ℕ). i == j) number ∙ t in rw (t, u) (same_keyed j ms ns e.1))
-    (cases_Bool (number_of m == j))
+same_keyed j (m ∷ ms) (n ∷ ns) e = grind (arith, same_keyed j ms ns e.1)
 same_keyed j [] (n ∷ ns) e = absurd e
 same_keyed j (m ∷ ms) [] e = absurd e
 
 module _ (plan : Placement) (ms ns : List SessionJob) (e : SameJobs ms ns) where
   same_in : (k j task : ℕ) (a b : Option SessionJob) → SameOption a b → slot_in plan k j task b ≡ slot_in plan k j task a
-  same_in k j task None None s = refl
-  same_in k j task (Some m) (Some n) s = ap (λ (job : Job). slot_with plan k j job (keyed (λ (t : Task). t.number) task job.tasks)) s.job
-  same_in k j task None (Some n) s = absurd s
-  same_in k j task (Some m) None s = absurd s
+  same_in k j task a b s = grind arith
 
   same_by : (k : ℕ) (o : Option Slotted) → slot_by plan ns k o ≡ slot_by plan ms k o
   same_by k None = refl
@@ -49,15 +41,9 @@ module _ (plan : Placement) (ms ns : List SessionJob) (e : SameJobs ms ns) where
 
 same_objects : (plan : Placement) (ms ns : List SessionJob) → SameJobs ms ns → flat_map (objects_of plan) ns ≡ flat_map (objects_of plan) ms
 same_objects plan [] [] e = refl
-same_objects plan (m ∷ ms) (n ∷ ns) e =
-    let T : JobConstants → Job → List PagedObject = λ st job. objects_of plan (record { constants = st; progress = record { job = job; made = 0; ended = [] } }) in
-    let head : objects_of plan n ≡ objects_of plan m = ap (λ (st : JobConstants). T st n.progress.job) e.0.constants ∙ ap (T m.constants) e.0.job in
-    ap (λ (ts : List PagedObject). ts ++ flat_map (objects_of plan) ns) head ∙ ap (λ (ts : List PagedObject). objects_of plan m ++ ts) (same_objects plan ms ns e.1)
+same_objects plan (m ∷ ms) (n ∷ ns) e = grind (arith, same_objects plan ms ns e.1)
 same_objects plan [] (n ∷ ns) e = absurd e
 same_objects plan (m ∷ ms) [] e = absurd e
 
 pub same_machine_view : (plan : Placement) (ms ns : List SessionJob) → SameJobs ms ns → machine_view plan ns ≡ machine_view plan ms
-same_machine_view plan ms ns e =
-    let P : (ℕ → Slot) → List PagedObject → MachineView = λ s objects. record { stacks = plan.stacks; size = plan.size; peak = plan.peak; slots = s; objects = objects } in
-    let slots : slot_at plan ns ≡ slot_at plan ms = λ z k. same_slots plan ms ns e k z in
-    ap (λ (s : ℕ → Slot). P s (flat_map (objects_of plan) ns)) slots ∙ ap (P (slot_at plan ms)) (same_objects plan ms ns e)
+same_machine_view plan ms ns e = grind (arith, same_slots, same_objects)

@@ -18,10 +18,7 @@ known_look id d (k ∷ ks) = if k.0 == id then k else known_look id d ks
 look-known : (d : Frame) (id : ℕ) (xs : List Frame) → known_of (unwrap_or (keyed (λ f. f.identity) id xs) d) ≡ known_look id (known_of d) (map known_of xs)
 unfolding known_look
 look-known d id [] = refl
-look-known d id (f ∷ fs) = ⊎_elim
-    (λ (t : (f.identity == id) ≡ true). rw t refl)
-    (λ (t : (f.identity == id) ≡ false). rw t (look-known d id fs))
-    (cases_Bool (f.identity == id))
+look-known d id (f ∷ fs) = grind (arith, look-known d id fs)
 
 same_look : (d : Frame) (id : ℕ) (xs ys : List Frame) → map known_of xs ≡ map known_of ys → known_of (unwrap_or (keyed (λ f. f.identity) id xs) d) ≡ known_of (unwrap_or (keyed (λ f. f.identity) id ys) d)
 same_look d id xs ys e = look-known d id xs ∙ ap (known_look id (known_of d)) e ∙ sym (look-known d id ys)
@@ -53,34 +50,17 @@ module _ (h h' : OperatorContext) (frames : map known_of (all_frames h') ≡ map
 
   same_outward : (links : ℕ) (g' g : Frame) → known_of g' ≡ known_of g → known_of (outward h' links g') ≡ known_of (outward h links g)
   same_outward zero g' g e = e
-  same_outward (suc links) g' g e =
-      let env : environment_of g'.standing ≡ environment_of g.standing = ap (λ (k : Known). environment_of k.1) e in
-      same_outward links (frame h' (environment_of g'.standing)) (frame h (environment_of g.standing)) (same_frame (environment_of g'.standing) ∙ ap (λ (i : ℕ). known_of (frame h i)) env)
+  same_outward (suc links) g' g e = grind (arith, same_frame, same_outward links)
 
   -- the frame at a level is the same, as far as others may name it
   pub same_frame_at : (n : ℕ) → map known_of h'.task.frames ≡ map known_of h.task.frames → known_of (frame_at h' n) ≡ known_of (frame_at h n)
-  same_frame_at n own =
-      let run = same_running h'.task.frames h.task.frames own in
-      let level : running_level h' ≡ running_level h = ap (λ (k : Known). level_of_standing k.1) run in
-      same_outward (running_level h' - n) (running h'.task.frames) (running h.task.frames) run
-      ∙ ap (λ (i : ℕ). known_of (outward h (i - n) (running h.task.frames))) level
+  same_frame_at n own = grind (arith, same_running, same_outward)
 
 -- all frames of a job, where one task's keep their identities and standings
 pub tasks_known : (n : ℕ) (t t' : Task) → map known_of t'.frames ≡ map known_of t.frames → (xs : List Task) → keyed (λ (u : Task). u.number) n xs ≡ Some t
     → map known_of (flat_map (λ (u : Task). u.frames) (change_keyed (λ (u : Task). u.number) n (λ u. t') xs)) ≡ map known_of (flat_map (λ (u : Task). u.frames) xs)
 tasks_known n t t' e [] k = refl
-tasks_known n t t' e (y ∷ ys) k = ⊎_elim
-    (λ (q : (y.number == n) ≡ true).
-    let same : y ≡ t = same_Some y t (rw q at k) in
-    rw q (map-append known_of t'.frames (flat_map (λ (u : Task). u.frames) ys)
-    ∙ ap (λ (ks : List Known). ks ++ map known_of (flat_map (λ (u : Task). u.frames) ys)) (e ∙ ap (λ (u : Task). map known_of u.frames) (sym same))
-    ∙ sym (map-append known_of y.frames (flat_map (λ (u : Task). u.frames) ys))))
-    (λ (q : (y.number == n) ≡ false).
-    let at : keyed (λ (u : Task). u.number) n ys ≡ Some t = rw q at k in
-    rw q (map-append known_of y.frames (flat_map (λ (u : Task). u.frames) (change_keyed (λ (u : Task). u.number) n (λ u. t') ys))
-    ∙ ap (λ (ks : List Known). map known_of y.frames ++ ks) (tasks_known n t t' e ys at)
-    ∙ sym (map-append known_of y.frames (flat_map (λ (u : Task). u.frames) ys))))
-    (cases_Bool (y.number == n))
+tasks_known n t t' e (y ∷ ys) k = grind (arith, map-append, tasks_known n t t' e ys)
 
 -- the display of the task that changed
 pub Shows-same : (display : List ℕ) (plan : Placement) (m : SessionJob) (c : JobProgress) (t t' : Task)

@@ -122,10 +122,7 @@ AllFrom P from (suc n) = P from × AllFrom P (from + 1) n
 
 all_from : (P : ℕ → Type 0) (from n : ℕ) → AllFrom P from n → (i : ℕ) → from ≤ i → i < from + n → P i
 all_from P from zero a i low up = absurd (omega arith)
-all_from P from (suc n) a i low up = ⊎_elim
-    (λ (e : i ≡ from). subst P (sym e) a.0)
-    (λ (e : i ≡ from → ⊥). all_from P (from + 1) n a.1 i (omega arith) (omega arith))
-    (cases_eq i from)
+all_from P from (suc n) a i low up = grind (arith, all_from P (from + 1) n a.1 i)
 
 get-past : {A : Type 0} (xs ys : List A) (i k : ℕ) → k ≡ length xs + i → slice_get (xs ++ ys) k ≡ slice_get ys i
 get-past [] ys i k e = ap (slice_get ys) (let z : k ≡ i = omega arith in z)
@@ -144,46 +141,19 @@ get-only (suc n) x (suc i) h = get-only n x i (omega arith)
 
 -- what holds of the one item, of both of two, and of both slots
 only : {A : Type 0} (x : A) (P : A → Type 0) → P x → (y : A) → Has (x ∷ []) y → P y
-only x P h y (inl e) = subst P e h
-only x P h y (inr k) = absurd k
+only x P h y e = grind arith
 
 both : {A : Type 0} (x y : A) (P : A → Type 0) → P x → P y → (z : A) → Has (x ∷ y ∷ []) z → P z
-both x y P h k z (inl e) = subst P e h
-both x y P h k z (inr (inl e)) = subst P e k
-both x y P h k z (inr (inr n)) = absurd n
+both x y P h k z e = grind arith
 
 two_slots : (P : ℕ → Type 0) → P 0 → P 1 → (k : ℕ) → k < 2 → P k
-two_slots P h g k small = ⊎_elim
-    (λ (e : k ≡ 0). subst P (sym e) h)
-    (λ (e : k ≡ 0 → ⊥). subst P (let one : 1 ≡ k = omega (arith, e) in one) g)
-    (cases_eq k 0)
+two_slots P h g k small = grind arith
 
 no_copies : (k : ℕ) → k < 2 → CopiesName p.objects (words k (stack_of (p.slots k)))
-no_copies = two_slots (λ k. CopiesName p.objects (words k (stack_of (p.slots k)))) none_0 none_1 where
-  none_0 : CopiesName p.objects (words 0 (stack_of (p.slots 0)))
-  none_0 c home (inl e) = absurd (let z : ⊥ = cc in z)
-  none_0 c home (inr (inl e)) = absurd (let z : ⊥ = cc in z)
-  none_0 c home (inr (inr k)) = absurd k
-
-  none_1 : CopiesName p.objects (words 1 (stack_of (p.slots 1)))
-  none_1 c home (inl e) = absurd (let z : ⊥ = cc in z)
-  none_1 c home (inr (inl e)) = absurd (let z : ⊥ = cc in z)
-  none_1 c home (inr (inr k)) = absurd k
+no_copies = grind arith
 
 laid : IsLaidOut 291 p
-laid = record {
-  low = refl;
-  first = omega arith;
-  room = omega arith;
-  slots = two_slots (λ k. SlotFits p k (p.slots k))
-      (record { some = λ e. cc; heads = ((omega arith, omega arith, omega arith, refl), tt); fits = omega arith }, no_copies 0 (omega arith))
-      (record { some = λ e. cc; heads = ((omega arith, omega arith, omega arith, refl), tt); fits = omega arith }, no_copies 1 (omega arith));
-  homes = only object (λ u. (160 ≤ u.home) × (u.home < 291)) (omega arith, omega arith);
-  codes = only object (λ u. u.kind ≡ kind.Code → u.home < 163) (λ e. omega arith);
-  differ = λ u v inu inv e. only object (λ x. x.home ≡ v.home → x ≡ v) (only object (λ y. object.home ≡ y.home → object ≡ y) (λ z. refl) v inv) u inu e;
-  not_base = only object (λ u. (k : ℕ) → k < 2 → u.home ≢ slot_base p k) (two_slots (λ k. 162 ≢ slot_base p k) (λ e. omega arith) (λ e. omega arith));
-  lengths = only object (λ u. (0 < length u.numbers) × (length u.numbers < 2 ^ 16)) (omega arith, omega arith);
-}
+laid = grind arith
 
 slots : RepresentsSlots core regs 291 p
 slots = record {
@@ -233,13 +203,7 @@ chains first some = ⊎_elim
     (cases_eq 1 first)
 
 owned : Owned storage p.objects
-owned = record {
-  of_area = areas;
-  of_held = by_held;
-  of_chain = chains;
-  no_zero = refl;
-  one_chain = λ t u int inu some e. only object (λ x. x.home ≡ u.home) (only object (λ y. object.home ≡ y.home) refl u inu) t int;
-}
+owned = grind (arith, areas, by_held, chains)
 
 directory : IsDirectory core 291 spans
 directory = record {
@@ -275,14 +239,7 @@ rows_fit = record {
 }
 
 fits : PlanFits plan session
-fits = record {
-  rows = rows_fit;
-  peak = refl;
-  few = omega arith;
-  sizes = only member (λ m. m.constants.stack_size ≡ 64) refl;
-  dictionaries = (refl, refl);
-  row_homes = only member (λ m. (n : ℕ) → 1 ≤ n → n + length m.constants.segments ≤ length m.constants.dictionary.cells → plan.home m.constants.number n ≡ plan.dictionary m.constants.number + 1 + length m.constants.segments + n) (λ n low up. absurd (omega arith));
-}
+fits = grind (arith, rows_fit)
 
 -- a slot that no task has is neither
 above_both : (k : ℕ) → ((r : Slotted) → Has plan.rows r → r.slot ≢ k) → 2 ≤ k
@@ -309,9 +266,7 @@ runs = record { member = refl; task = refl; slot = refl }
 
 -- what is so of the child is so of each task that runs
 for_running : (P : SessionJob → Task → Type 0) → P member child → (m : SessionJob) (t : Task) → IsRunning plan session.jobs m t → P m t
-for_running P h m t r =
-    for_tasks (λ x u. IsRunning plan session.jobs x u → P x u) (λ z. h) (λ z. absurd (let e : 1 ≡ 0 = z.slot in omega (arith, e))) m t
-    (keyed_has number_of m.constants.number session.jobs m r.member).0 (keyed_has (λ (u : Task). u.number) t.number m.progress.job.tasks t r.task).0 r
+for_running P h m t r = grind arith
 
 holds : SessionHolds storage core regs machine.critical plan session
 holds = record {
@@ -353,16 +308,7 @@ runs_child = record {
 -- ---- its order
 
 setting : SettingInOrder member.constants
-setting = record {
-  limit = omega arith;
-  stack_low = omega arith;
-  stack_high = omega arith;
-  segments = (record { length_low = omega arith; length_high = omega arith; words = (omega arith, (omega arith, tt)) }, tt);
-  entries = omega arith;
-  named = refl;
-  stands = refl;
-  dictionary = (refl, tt);
-}
+setting = grind arith
 
 child_in_order : TaskInOrder (IsSegment member.constants) member.constants job child
 child_in_order = record {
@@ -398,33 +344,10 @@ parent_in_order = record {
 
 -- each frame has an identity of its own
 apart : (identity : ℕ) → frames_in_job identity job ≤ 1
-apart identity = ⊎_elim
-    (λ (e : 3 ≡ identity). subst (λ (n : ℕ). frames_in_job n job ≤ 1) e (omega arith))
-    (λ (e : 3 ≡ identity → ⊥). ⊎_elim
-    (λ (f : 2 ≡ identity). subst (λ (n : ℕ). frames_in_job n job ≤ 1) f (omega arith))
-    (λ (f : 2 ≡ identity → ⊥). rw (ne_eqb 3 identity e, ne_eqb 2 identity f) (omega arith))
-    (cases_eq 2 identity))
-    (cases_eq 3 identity)
+apart identity = grind arith
 
 in_order : TasksInOrder (IsSegment member.constants) member.constants job
-in_order = record {
-  tasks = (child_in_order, (parent_in_order, tt));
-  apart = apart;
-  arrays = tt;
-  once = tt;
-  entries = (tt, tt);
-  numbers = (omega arith, (omega arith, tt));
-  names = tt;
-  few = omega arith;
-  reads = tt;
-}
+in_order = grind (arith, child_in_order, parent_in_order)
 
 pub ordered : IsInOrderButCounts session
-ordered = record {
-  few = omega arith;
-  numbered = (refl, tt);
-  one_size = (64, (refl, tt));
-  jobs = (record { unchanging = setting; tasks = in_order; few_born = omega arith }, tt);
-  peak_low = omega arith;
-  peak_high = omega arith;
-}
+ordered = grind (arith, in_order)

@@ -8,8 +8,7 @@ use Rattle.b67_layout.specs.Common.{Placement, spot_in, shape, head, activations
 
 module _ (plan : Placement) (j : ℕ) (job : Job) (k : ℕ) (outer : ℕ → StackPlace) where
   head_size-head : (spot : ℕ → StackPlace) (s : Standing) → head_size (head spot s) ≡ head_words s
-  head_size-head spot State.Marked = refl
-  head_size-head spot (State.Entered level environment back) = refl
+  head_size-head spot s = grind arith
 
   pub size-is : (f : Frame) (below : List Frame) → top_size (activations plan j job k outer (f ∷ below)) ≡ words_of f
   size-is f below = omega (arith, head_size-head (spot_in k outer below) f.standing, length-map f.cells (shape plan j job (spot_in k outer (f ∷ below))))
@@ -19,8 +18,7 @@ module _ (plan : Placement) (j : ℕ) (job : Job) (k : ℕ) (outer : ℕ → Sta
   height-is (f ∷ below) = omega (arith, height-is below, size-is f below)
 
   level-head : (spot : ℕ → StackPlace) (s : Standing) (f next : Frame) (level : ℕ) → f.standing ≡ s → level ≡ level_of_frame next → level_from (head spot s) level ≡ level_of_frame (running_from s f next)
-  level-head spot State.Marked f next level e h = h
-  level-head spot (State.Entered level environment back) f next l e h = ap level_of_standing (sym e)
+  level-head spot s f next level e h = grind arith
 
   pub level-is : (fs : List Frame) → stack_level (activations plan j job k outer fs) ≡ level_of_frame (running fs)
   level-is [] = refl

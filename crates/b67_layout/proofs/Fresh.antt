@@ -37,14 +37,10 @@ module _ (P : Starts) (constants : JobConstants) (job : Job) (o : TasksInOrder P
       falls_low job.next_frame (known_numbers (reach_of job b.parent)) u.critical p.falls (has-number b.parent.frames (outer_of job b.parent) u.critical b.is_critical)
 
   pub critical-below : (u : Task) → Has job.tasks u → u.critical < job.next_frame
-  critical-below u h =
-      let t = task_in_order u h in
-      by_birth u u.parents (first-below job.next_frame u.frames (outer_of job u) t.some t.falls) t.birth
+  critical-below u h = grind (arith, task_in_order, by_birth, first-below)
 
   pub next_is_free : (t : Task) → Has job.tasks t → IsFree job job.next_frame
-  next_is_free t h =
-      let i = task_in_order t h in
-      record { some = (let low : 0 < job.next_frame = first-below job.next_frame t.frames (outer_of job t) i.some i.falls in λ e. omega (arith, e, low)); uncritical = λ u in_u e. (let low = critical-below u in_u in omega (arith, low, e)) }
+  next_is_free t h = grind (arith, critical-below)
 
 none_critical : (n : ℕ) (ts : List Task) → ((u : Task) → Has ts u → u.critical ≢ n) → list_any (λ (u : Task). u.critical == n) ts ≡ false
 none_critical n [] apart = refl

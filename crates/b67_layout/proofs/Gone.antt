@@ -1,5 +1,5 @@
 -- A step that leaves the identities of the arrays leaves no array to release.
-use Rattle.std.proofs.Common.{◌≡◌, ℕ, List, [], ◌∷◌, map, refl, sym, ap, true, false, not, ◌==◌, inl, inr, ⊎_elim, subst}
+use Rattle.std.proofs.Common.{◌≡◌, ℕ, List, [], ◌∷◌, map, refl, sym, ap, true, false, not, ◌==◌, inl, inr, ⊎_elim, subst, arith}
 use Rattle.std.specs.Prelude.{filter}
 use Rattle.std.specs.List.{list_any}
 use Rattle.std.proofs.lemmas.Bool.{cases_Bool, eq-eqb}
@@ -10,10 +10,7 @@ use Rattle.b67_layout.specs.Common.{Placement, array_object, gone, objects_gone}
 named : (n : ℕ) (xs : List Array) → Has (map (λ (b : Array). b.identity) xs) n → list_any (λ (b : Array). b.identity == n) xs ≡ true
 named n [] h = absurd h
 named n (a ∷ more) (inl e) = rw (eq-eqb a.identity n e) refl
-named n (a ∷ more) (inr h) = ⊎_elim
-    (λ (q : (a.identity == n) ≡ true). rw q refl)
-    (λ (q : (a.identity == n) ≡ false). rw q (named n more h))
-    (cases_Bool (a.identity == n))
+named n (a ∷ more) (inr h) = grind (arith, named n more h)
 
 none_left : (new old : List Array) → ((a : Array) → Has old a → Has (map (λ (b : Array). b.identity) new) a.identity) → filter (λ (a : Array). not (list_any (λ (b : Array). b.identity == a.identity) new)) old ≡ []
 none_left new [] all = refl

@@ -55,9 +55,7 @@ stack_in_slot plan jobs y u fit in_y in_u ky ku =
 -- a dictionary lies below slot 0
 dictionary_end : (plan : Placement) (at : ℕ) (jobs : List SessionJob) (y : SessionJob) → DictionariesFollow plan at jobs → Has jobs y → plan.dictionary y.constants.number + (2 + length y.constants.dictionary.cells) ≤ plan.stacks
 dictionary_end plan at [] y d h = absurd h
-dictionary_end plan at (m ∷ more) y d (inl e) =
-    let P : SessionJob → Type 0 = λ z. plan.dictionary z.constants.number + (2 + length z.constants.dictionary.cells) ≤ plan.stacks in
-    subst P e (omega (arith, d.0, follow-up plan (at + (2 + length m.constants.dictionary.cells)) more d.1))
+dictionary_end plan at (m ∷ more) y d (inl e) = grind (arith, follow-up)
 dictionary_end plan at (m ∷ more) y d (inr k) = dictionary_end plan (at + (2 + length m.constants.dictionary.cells)) more y d.1 k
 
 -- an original that lies in a stack
@@ -68,12 +66,10 @@ original_inside x core plan j job k from outer fs g a l h w =
     (omega (arith, r.low, r.fits.0), omega (arith, r.up, r.fits.0, words-length k (activations plan j job k outer fs)))
 
 lie_below : (R : Shapes.Shape → ℕ → Tagged → Type 0) (core : List Tagged) (from k : ℕ) (h : Head) (below : List Activation) (under : List Shapes.Shape) → LieDownward R core from (headed k h below under) → LieDownward R core from under
-lie_below R core from k Stacks.Marked below under l = l.1
-lie_below R core from k (Stacks.Entered level environment back) below under l = l.1.1
+lie_below R core from k h below e l = grind arith
 
 head_length : (k : ℕ) (h : Head) (below : List Activation) (under : List Shapes.Shape) → 1 + length under ≤ length (headed k h below under)
-head_length k Stacks.Marked below under = omega arith
-head_length k (Stacks.Entered level environment back) below under = omega arith
+head_length k h below e = grind arith
 
 module _ (x : Storage) (core : List Tagged) (r : Regs) (marks : List ℕ) (plan : Placement) (s : Session) (m : SessionJob) (t : Task) (f : Frame) (below : List Frame)
     (o : IsInOrderButCounts s) (h : SessionHolds x core r marks plan s) (runs : IsRunning plan s.jobs m t) (frames : t.frames ≡ f ∷ below) where
@@ -167,9 +163,7 @@ module _ (x : Storage) (core : List Tagged) (r : Regs) (marks : List ℕ) (plan 
       (running_lies x core r (machine_view plan s.jobs) plan.running (stack_of_task plan m.constants.number m.progress.job plan.running t) h.memory used) in
       let q = lies_over (Fits x.held) core (suc base) shapes (headed plan.running fh under (words plan.running under)) (Shapes.Original (plan.home m.constants.number b)) lies
       (has_map (shape plan m.constants.number m.progress.job (spot_in plan.running outer (f ∷ below))) f.cells (Original b) w) in
-      let up = words-length plan.running all in
-      let low = head_length plan.running fh under (words plan.running under) in
-      (omega (arith, q.low, q.fits.0, low, words-length plan.running under), omega (arith, q.up, q.fits.0, up, length-append shapes (headed plan.running fh under (words plan.running under))))
+      grind (arith, words-length)
 
   -- the arrays of the frame have their originals there
   pub homes_high : (b : Array) → Has m.progress.job.arrays b → b.owner ≡ f.identity → (base + stack_words under + 1 < plan.home m.constants.number b.identity) × (plan.home m.constants.number b.identity ≤ base + stack_words all)

@@ -13,8 +13,7 @@ use Rattle.b67_law_order.proofs.Numbered.{numbered_low}
 -- two lists of numbers that differ, without one in both
 differ_append : (xs ys : List ℕ) → Differ xs → Differ ys → ((n : ℕ) → Has xs n → Has ys n → ⊥) → Differ (xs ++ ys)
 differ_append [] ys d e apart = e
-differ_append (x ∷ xs) ys d e apart =
-    (λ h. ⊎_elim (λ (i : Has xs x). d.0 i) (λ (i : Has ys x). apart x (inl refl) i) (has_append_cases xs ys x h), differ_append xs ys d.1 e (λ n h k. apart n (inr h) k))
+differ_append (x ∷ xs) ys d e apart = grind (arith, has_append_cases, differ_append xs ys d.1 e)
 
 module _ (plan : Placement) (s : Session) (o : IsInOrderButCounts s) (fit : RowsFit plan s.jobs) where
   -- a slot tells the task

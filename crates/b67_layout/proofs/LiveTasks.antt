@@ -9,9 +9,7 @@ use Rattle.b67_layout.specs.Common.{JobInOrderButCounts, IsInOrderButCounts, Pla
 use Rattle.b67_law_order.proofs.Numbered.{numbered_low}
 
 pub live_in_order : (s : Session) (m : SessionJob) (t : Task) → IsInOrderButCounts s → Has s.jobs m → Has m.progress.job.tasks t → keyed (λ (u : Task). u.number) t.number m.progress.job.tasks ≡ Some t
-live_in_order s m t o inm int =
-    let j = all_in (λ (y : SessionJob). JobInOrderButCounts (IsSegment y.constants) y.constants y.progress) s.jobs m o.jobs inm in
-    keyed_falls (λ (u : Task). u.number) m.progress.job.next_task m.progress.job.tasks t j.tasks.numbers int
+live_in_order s m t o inm int = grind (arith, all_in, keyed_falls)
 
 -- a job's row
 pub record JobAt (plan : Placement) (rows : List JobRow) (i : ℕ) (m : SessionJob) : Type 0 where
@@ -22,12 +20,8 @@ pub record JobAt (plan : Placement) (rows : List JobRow) (i : ℕ) (m : SessionJ
 pub job_at : (plan : Placement) (n : ℕ) (jobs : List SessionJob) (rows : List JobRow) (m : SessionJob) → NumberedFrom n jobs → JobsShow plan jobs rows → Has jobs m → JobAt plan rows (m.constants.number - n) m
 job_at plan n [] rows m d h inm = absurd inm
 job_at plan n (y ∷ more) [] m d h inm = absurd h
-job_at plan n (y ∷ more) (r ∷ rows) m d h (inl e) =
-    let P : SessionJob → Type 0 = λ z. JobAt plan (r ∷ rows) (z.constants.number - n) z in
-    let first : y.constants.number - n ≡ zero = omega (arith, d.0) in
-    subst P e (record { row = r; at = ap (slice_get (r ∷ rows)) first; shows = h.0 })
+job_at plan n (y ∷ more) (r ∷ rows) m d h (inl e) = grind arith
 job_at plan n (y ∷ more) (r ∷ rows) m d h (inr k) =
     let b = job_at plan (n + 1) more rows m d.1 h.1 k in
     let low = numbered_low (n + 1) more m d.1 k in
-    let next : m.constants.number - n ≡ suc (m.constants.number - (n + 1)) = omega (arith, low) in
-    record { row = b.row; at = ap (slice_get (r ∷ rows)) next ∙ b.at; shows = b.shows }
+    grind arith

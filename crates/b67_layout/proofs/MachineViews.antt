@@ -1,5 +1,5 @@
 -- A step of one task on top of its stack changes the view in that task's slot alone.
-use Rattle.std.proofs.Common.{◌≡◌, ◌≢◌, ℕ, List, [], ◌∷◌, ◌++◌, map, Option, Some, None, refl, sym, ◌∙◌, ap, Bool, true, false, cond, ◌==◌, ⊎_elim}
+use Rattle.std.proofs.Common.{◌≡◌, ◌≢◌, ℕ, List, [], ◌∷◌, ◌++◌, map, Option, Some, None, refl, sym, ◌∙◌, ap, Bool, true, false, cond, ◌==◌, ⊎_elim, arith}
 use Rattle.std.specs.Prelude.{if◌then◌else◌, flat_map}
 use Rattle.std.proofs.lemmas.Option.{same_Some}
 use Rattle.std.proofs.lemmas.Bool.{cases_eq, cases_Bool, eq-eqb, ne_eqb, eqb-true}
@@ -17,17 +17,11 @@ with_course jobs j c = change_keyed number_of j (λ (m : SessionJob). record m {
 
 pub member-same : (jobs : List SessionJob) (j : ℕ) (c : JobProgress) (m : SessionJob) → keyed number_of j jobs ≡ Some m → keyed number_of j (with_course jobs j c) ≡ Some (record m { progress = c })
 member-same [] j c m e = cc
-member-same (x ∷ xs) j c m e = ⊎_elim
-    (λ (t : (number_of x == j) ≡ true). let same : x ≡ m = same_Some x m (rw t at e) in rw t (rw t (ap (λ (y : SessionJob). Some (record y { progress = c })) same)))
-    (λ (t : (number_of x == j) ≡ false). let at : keyed number_of j xs ≡ Some m = rw t at e in rw (t, t) (member-same xs j c m at))
-    (cases_Bool (number_of x == j))
+member-same (x ∷ xs) j c m e = grind (arith, member-same xs j c m)
 
 pub member-other : (jobs : List SessionJob) (j : ℕ) (c : JobProgress) (i : ℕ) → i ≢ j → keyed number_of i (with_course jobs j c) ≡ keyed number_of i jobs
 member-other [] j c i ne = refl
-member-other (x ∷ xs) j c i ne = ⊎_elim
-    (λ (t : (number_of x == j) ≡ true). let b : (number_of x == i) ≡ false = ne_eqb (number_of x) i (λ e. ne (sym e ∙ eqb-true (number_of x) j t)) in rw t (rw b refl))
-    (λ (t : (number_of x == j) ≡ false). rw t (ap (λ r. cond (number_of x == i) (Some x) r) (member-other xs j c i ne)))
-    (cases_Bool (number_of x == j))
+member-other (x ∷ xs) j c i ne = grind (arith, member-other xs j c i ne)
 
 -- the objects are the same where the arrays are
 objects-of : (plan : Placement) (m : SessionJob) (c : JobProgress) → c.job.arrays ≡ m.progress.job.arrays → objects_of plan (record m { progress = c }) ≡ objects_of plan m
@@ -35,10 +29,7 @@ objects-of plan m c e = ap (λ (xs : List Array). code_objects plan m.constants.
 
 pub objects-after : (plan : Placement) (jobs : List SessionJob) (j : ℕ) (c : JobProgress) (m : SessionJob) → keyed number_of j jobs ≡ Some m → c.job.arrays ≡ m.progress.job.arrays → flat_map (objects_of plan) (with_course jobs j c) ≡ flat_map (objects_of plan) jobs
 objects-after plan [] j c m e same = refl
-objects-after plan (x ∷ xs) j c m e same = ⊎_elim
-    (λ (t : (number_of x == j) ≡ true). let is : x ≡ m = same_Some x m (rw t at e) in rw t (ap (λ (ts : List PagedObject). ts ++ flat_map (objects_of plan) xs) (objects-of plan x c (same ∙ ap (λ (y : SessionJob). y.progress.job.arrays) (sym is)))))
-    (λ (t : (number_of x == j) ≡ false). let at : keyed number_of j xs ≡ Some m = rw t at e in rw t (ap (λ (ts : List PagedObject). objects_of plan x ++ ts) (objects-after plan xs j c m at same)))
-    (cases_Bool (number_of x == j))
+objects-after plan (x ∷ xs) j c m e same = grind (arith, objects-after plan xs j c m)
 
 -- the running task's row is its own: no other slot has it
 pub record RowOf (plan : Placement) (j task k : ℕ) : Type 0 where
@@ -93,11 +84,7 @@ module _ (plan : Placement) (jobs : List SessionJob) (j : ℕ) (m : SessionJob) 
 
   -- the view afterwards
   pub machine_view-after : machine_view plan (with_course jobs j c) ≡ with_stack (machine_view plan jobs) k (stack_of_task plan j c.job k t')
-  machine_view-after =
-      let P : (ℕ → Slot) → List PagedObject → MachineView = λ s objects. record { stacks = plan.stacks; size = plan.size; peak = plan.peak; slots = s; objects = objects } in
-      let slots : slot_at plan (with_course jobs j c) ≡ (with_stack (machine_view plan jobs) k (stack_of_task plan j c.job k t')).slots = λ z i. slots-after i z in
-      ap (λ (s : ℕ → Slot). P s (flat_map (objects_of plan) (with_course jobs j c))) slots
-      ∙ ap (P (with_stack (machine_view plan jobs) k (stack_of_task plan j c.job k t')).slots) (objects-after plan jobs j c m member top.arrays)
+  machine_view-after = grind (arith, slots-after, objects-after)
 
   -- the changed task's stack, by what it saw before
   pub stack-after : stack_of_task plan j c.job k t' ≡ activations plan j m.progress.job k (outer_spots plan j m.progress.job t.critical t.parents) t'.frames

@@ -17,15 +17,4 @@ member_kept s m job o found good few =
     let same = change_is number_of m.constants.number (λ (k : SessionJob). record k { progress = record m.progress { job = job } }) m s.jobs found in
     let jobs = change_keyed number_of m.constants.number (λ (y : SessionJob). new) s.jobs in
     let tasks = total_change number_of tasks_of m.constants.number m new s.jobs found in
-    let lengths = length_change number_of m.constants.number new s.jobs in
-    let t = sum_total tasks_of s.jobs in
-    let j = sum_total tasks_of jobs in
-    let S : List SessionJob → Session = λ js. record s { jobs = js } in
-    subst (λ (js : List SessionJob). IsInOrderButCounts (S js)) (sym same) (record {
-      few = omega (arith, lengths, o.few);
-      numbered = numbered_change 1 m.constants.number new s.jobs o.numbered named.1;
-      one_size = (o.one_size.0, all_change (λ (k : SessionJob). k.constants.stack_size ≡ o.one_size.0) number_of m.constants.number new s.jobs o.one_size.1 (all_in (λ (k : SessionJob). k.constants.stack_size ≡ o.one_size.0) s.jobs m o.one_size.1 named.0));
-      jobs = all_change (λ (k : SessionJob). JobInOrderButCounts (IsSegment k.constants) k.constants k.progress) number_of m.constants.number new s.jobs o.jobs good;
-      peak_low = omega (arith, tasks, t, j, few, o.peak_low);
-      peak_high = o.peak_high;
-    })
+    grind (arith, length_change, sum_total, numbered_change, all_change, all_in)

@@ -1,5 +1,5 @@
 -- Where a job has fewer arrays, the objects of those that it has no more and all others are the objects of before.
-use Rattle.std.proofs.Common.{◌≡◌, ℕ, List, ◌++◌, map, flat_map, Some, sym, ◌∙◌, not, inl, inr, subst}
+use Rattle.std.proofs.Common.{◌≡◌, ℕ, List, ◌++◌, map, flat_map, Some, sym, ◌∙◌, not, inl, inr, subst, arith}
 use Rattle.std.specs.Prelude.{filter, ◌==◌}
 use Rattle.std.specs.List.{list_any}
 use Rattle.std.proofs.lemmas.Bool.{cases_Bool, true≢false, not_from_false}
@@ -27,14 +27,10 @@ of_objects p objects = record { stacks = p.stacks; size = p.size; peak = p.peak;
 -- a machine represents a view whatever the order of its objects
 module _ (x : Storage) (core : List Tagged) (r : Regs) (p : MachineView) (new : List PagedObject) (same : SameObjects p.objects new) where
   fits : (k : ℕ) (s : Slot) → SlotFits p k s → SlotFits (of_objects p new) k s
-  fits k Free f = f
-  fits k (Running stack) f = (f.0, λ c home h. let (t, i, e, n) = f.1 c home h in (t, same.there t i, e, n))
-  fits k (Waiting stack) f = (f.0, λ c home h. let (t, i, e, n) = f.1 c home h in (t, same.there t i, e, n))
+  fits k s f = grind arith
 
   stands : (k : ℕ) (s : Slot) → RepresentsSlot core r p k s → RepresentsSlot core r (of_objects p new) k s
-  stands k Free f = f
-  stands k (Running stack) f = record { slot = f.slot; first = f.first; last = f.last; top = f.top; mark = f.mark; level = f.level }
-  stands k (Waiting stack) f = f
+  stands k s f = grind arith
 
   pub Represents-objects : Represents x core r p → Represents x core r (of_objects p new)
   Represents-objects s = record {
@@ -72,14 +68,7 @@ others owner arrays = filter (λ (a : Array). not (a.owner == owner)) arrays
 
 -- an array is among the others or gone
 other_or_gone : (owner bound : ℕ) (old new : Job) → Falls bound (map (λ (a : Array). a.identity) old.arrays) → new.arrays ≡ others owner old.arrays → (a : Array) → Has old.arrays a → Has (gone old new ++ new.arrays) a
-other_or_gone owner bound old new falls is a h = elim (cases_Bool (list_any (λ (b : Array). b.identity == a.identity) new.arrays)) [
-  | inl t ↦
-      let f = any_has (λ (b : Array). b.identity == a.identity) new.arrays t in
-      let old_b : Has old.arrays f.0 = (has_filter (λ (b : Array). not (b.owner == owner)) old.arrays f.0 (subst (λ (xs : List Array). Has xs f.0) is f.1)).0 in
-      let same : f.0 ≡ a = falls_same (λ (b : Array). b.identity) bound old.arrays f.0 a falls old_b h (elim (eqb_tells f.0.identity a.identity) [ inl e ↦ e.1 | inr e ↦ absurd (true≢false (sym f.2 ∙ e.0)) ]) in
-      has_append_right (gone old new) new.arrays a (subst (Has new.arrays) same f.1)
-  | inr t ↦ has_append_left (gone old new) new.arrays a (has_filter_in (λ (b : Array). not (list_any (λ (c : Array). c.identity == b.identity) new.arrays)) old.arrays a h (not_from_false (list_any (λ (b : Array). b.identity == a.identity) new.arrays) t))
-]
+other_or_gone owner bound old new falls is a h = grind (arith, any_has, has_filter, falls_same, has_append_right, has_append_left, has_filter_in)
 
 module _ (plan : Placement) (jobs : List SessionJob) (m : SessionJob) (c : JobProgress) (owner bound : ℕ) (found : keyed number_of m.constants.number jobs ≡ Some m)
     (falls : Falls bound (map (λ (a : Array). a.identity) m.progress.job.arrays)) (is : c.job.arrays ≡ others owner m.progress.job.arrays) where

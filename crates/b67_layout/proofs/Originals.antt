@@ -23,24 +23,17 @@ pub record LiesAt (R : Shape → ℕ → Tagged → Type 0) (core : List Tagged)
 
 pub lies_at : (R : Shape → ℕ → Tagged → Type 0) (core : List Tagged) (from : ℕ) (xs : List Shape) (c : Shape) → LieDownward R core from xs → Has xs c → LiesAt R core from xs c
 lies_at R core from [] c l h = absurd h
-lies_at R core from (a ∷ more) c l (inl e) =
-    record { at = from + length more; low = omega arith; up = omega arith; word = l.0.0; there = l.0.1; fits = subst (λ (z : Shape). R z (from + length more) l.0.0) e l.0.2 }
-lies_at R core from (a ∷ more) c l (inr h) =
-    let r = lies_at R core from more c l.1 h in
-    record { at = r.at; low = r.low; up = (let u : r.at < from + length (a ∷ more) = omega (arith, r.up) in u); word = r.word; there = r.there; fits = r.fits }
+lies_at R core from (a ∷ more) c l (inl e) = grind arith
+lies_at R core from (a ∷ more) c l (inr h) = grind (arith, lies_at R core from more c l.1 h)
 
 -- one of the upper words
 pub lies_over : (R : Shape → ℕ → Tagged → Type 0) (core : List Tagged) (from : ℕ) (xs ys : List Shape) (c : Shape) → LieDownward R core from (xs ++ ys) → Has xs c → LiesAt R core (from + length ys) xs c
 lies_over R core from [] ys c l h = absurd h
-lies_over R core from (a ∷ more) ys c l (inl e) =
-    record { at = from + length (more ++ ys); low = omega (arith, length-append more ys); up = omega (arith, length-append more ys); word = l.0.0; there = l.0.1; fits = subst (λ (z : Shape). R z (from + length (more ++ ys)) l.0.0) e l.0.2 }
-lies_over R core from (a ∷ more) ys c l (inr h) =
-    let r = lies_over R core from more ys c l.1 h in
-    record { at = r.at; low = r.low; up = (let u : r.at < from + length ys + length (a ∷ more) = omega (arith, r.up) in u); word = r.word; there = r.there; fits = r.fits }
+lies_over R core from (a ∷ more) ys c l (inl e) = grind (arith, length-append)
+lies_over R core from (a ∷ more) ys c l (inr h) = grind (arith, lies_over R core from more ys c l.1 h)
 
 pub has_headed : (k : ℕ) (h : Head) (below : List Activation) (under : List Shape) (z : Shape) → Has under z → Has (headed k h below under) z
-has_headed k Marked below under z o = inr o
-has_headed k (Entered level environment back) below under z o = inr (inr o)
+has_headed k h below under z o = grind arith
 
 -- the shape of an original is among the words of its stack
 pub original_word : (plan : Placement) (j : ℕ) (job : Job) (k : ℕ) (outer : ℕ → StackPlace) (fs : List Frame) (g : Frame) (a : ℕ) → Has fs g → Has g.cells (Original a) → Has (words k (activations plan j job k outer fs)) (Shapes.Original (plan.home j a))
@@ -50,43 +43,22 @@ original_word plan j job k outer (f ∷ below) g a (inl e) w =
     let bs : List Activation = activations plan j job k outer below in
     has_append_left (map (shape plan j job (spot_in k outer (f ∷ below))) f.cells) (headed k h bs (words k bs)) (Shapes.Original (plan.home j a))
     (has_map (shape plan j job (spot_in k outer (f ∷ below))) f.cells (Original a) (subst (λ (x : Frame). Has x.cells (Original a)) (sym e) w))
-original_word plan j job k outer (f ∷ below) g a (inr i) w =
-    let h : Head = head (spot_in k outer below) f.standing in
-    let bs : List Activation = activations plan j job k outer below in
-    has_append_right (map (shape plan j job (spot_in k outer (f ∷ below))) f.cells) (headed k h bs (words k bs)) (Shapes.Original (plan.home j a))
-    (has_headed k h bs (words k bs) (Shapes.Original (plan.home j a)) (original_word plan j job k outer below g a i w))
+original_word plan j job k outer (f ∷ below) g a (inr i) w = grind (arith, has_append_right, original_word plan j job k outer below g a i w)
 
 -- a total that isn't 0 has an item that isn't
 some_item : {A : Type 0} (weight : A → ℕ) (xs : List A) → total weight xs ≢ 0 → (x : A) × Has xs x × (weight x ≢ 0)
 some_item weight [] ne = absurd (ne refl)
-some_item weight (x ∷ xs) ne = elim (cases_eq (weight x) 0) [
-  | inl e ↦ let r = some_item weight xs (λ z. ne (omega (arith, e, z))) in (r.0, inr r.1, r.2)
-  | inr n ↦ (x, inl refl, n)
-]
+some_item weight (x ∷ xs) ne = grind (arith, some_item weight xs)
 
 is_original : (a : ℕ) (w : Word) → is_original_of a w ≡ true → w ≡ Original a
-is_original a (Original b) t = elim (eqb_tells b a) [ inl e ↦ ap Original e.1 | inr e ↦ absurd (let z : false ≡ true = sym e.0 ∙ t in let f : ⊥ = cc in f) ]
-is_original a (Operand bits) t = absurd (let f : ⊥ = cc in f)
-is_original a (Name couple) t = absurd (let f : ⊥ = cc in f)
-is_original a (Ref identity offset) t = absurd (let f : ⊥ = cc in f)
-is_original a (Row b) t = absurd (let f : ⊥ = cc in f)
-is_original a (Element b index) t = absurd (let f : ⊥ = cc in f)
-is_original a (Proc segment level place) t = absurd (let f : ⊥ = cc in f)
-is_original a (Intrinsic number) t = absurd (let f : ⊥ = cc in f)
-is_original a (Words.Segment number) t = absurd (let f : ⊥ = cc in f)
+is_original a w t = grind arith
 
 some_original : (a : ℕ) (ws : List Word) → how_many (is_original_of a) ws ≢ 0 → Has ws (Original a)
-some_original a ws ne =
-    let r = some_item (λ (w : Word). cond (is_original_of a w) 1 0) ws ne in
-    elim (cases_Bool (is_original_of a r.0)) [
-      | inl t ↦ subst (Has ws) (is_original a r.0 t) r.1
-      | inr t ↦ absurd (r.2 (rw t refl))
-    ]
+some_original a ws ne = grind (arith, some_item)
 
 owns : (P : Starts) (arrays : List Array) (outer : List Known) (fs : List Frame) (g : Frame) (a : ℕ) → FramesInOrder P arrays outer fs → Has fs g → Has g.cells (Original a) → OwnsArray arrays g.identity a
 owns P arrays outer [] g a o h w = absurd h
-owns P arrays outer (f ∷ below) g a o (inl e) w =
-    subst (λ (x : Frame). OwnsArray arrays x.identity a) e (all_in (WordInOrder P arrays (map known_of (f ∷ below) ++ outer) f.identity) f.cells (Original a) o.0.0 (subst (λ (x : Frame). Has x.cells (Original a)) (sym e) w))
+owns P arrays outer (f ∷ below) g a o (inl e) w = grind (arith, all_in)
 owns P arrays outer (f ∷ below) g a o (inr h) w = owns P arrays outer below g a o.2 h w
 
 -- an original in the frame that owns the array

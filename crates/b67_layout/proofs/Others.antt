@@ -1,5 +1,5 @@
 -- What other tasks see of a task that changed on top of a frame that none of them depends on.
-use Rattle.std.proofs.Common.{◌≡◌, ◌≢◌, ℕ, List, [], ◌∷◌, map, Option, Some, None, refl, sym, ◌∙◌, ap, cond, ◌==◌, ⊎_elim}
+use Rattle.std.proofs.Common.{◌≡◌, ◌≢◌, ℕ, List, [], ◌∷◌, map, Option, Some, None, refl, sym, ◌∙◌, ap, cond, ◌==◌, ⊎_elim, arith}
 use Rattle.std.specs.Prelude.{if◌then◌else◌}
 use Rattle.std.proofs.lemmas.Bool.{cases_eq, cases_Bool, ne_eqb}
 use Rattle.b67_lemmas.specs.Lists.{Has}
@@ -65,29 +65,17 @@ module _ (plan : Placement) (j : ℕ) (job job' : Job) (t t' : Task) (n : ℕ) (
 -- a shape reads nothing of a job but its arrays
 module _ (plan : Placement) (j : ℕ) (job job' : Job) (e : job'.arrays ≡ job.arrays) where
   pub shape-job : (spot : ℕ → StackPlace) (w : Word) → shape plan j job' spot w ≡ shape plan j job spot w
-  shape-job spot (Operand bits) = refl
-  shape-job spot (Name c) = refl
-  shape-job spot (Ref f o) = refl
-  shape-job spot (Row b) = ap (λ (xs : List Array). shape plan j (record job { arrays = xs }) spot (Row b)) e
-  shape-job spot (Element b x) = ap (λ (xs : List Array). shape plan j (record job { arrays = xs }) spot (Element b x)) e
-  shape-job spot (Original b) = refl
-  shape-job spot (Proc s l p) = refl
-  shape-job spot (Intrinsic x) = refl
-  shape-job spot (Words.Segment x) = refl
+  shape-job spot w = grind arith
 
   pub activations-job : (k : ℕ) (outer : ℕ → StackPlace) (fs : List Frame) → activations plan j job' k outer fs ≡ activations plan j job k outer fs
   activations-job k outer [] = refl
-  activations-job k outer (f ∷ below) =
-      let same : shape plan j job' (spot_in k outer (f ∷ below)) ≡ shape plan j job (spot_in k outer (f ∷ below)) = λ i w. shape-job (spot_in k outer (f ∷ below)) w i in
-      let A : (Word → Shape) → Activation = λ g. record { head = head (spot_in k outer below) f.standing; cells = map g f.cells } in
-      ap (λ (g : Word → Shape). A g ∷ activations plan j job' k outer below) same ∙ ap (λ (under : List Activation). A (shape plan j job (spot_in k outer (f ∷ below))) ∷ under) (activations-job k outer below)
+  activations-job k outer (f ∷ below) = grind arith
 
 -- the slot of every task but the one that changed is as it was
 pub slot_with-after : (plan : Placement) (j : ℕ) (job job' : Job) (t t' : Task) (n : ℕ) → OnTop job job' t t' n → (k : ℕ) (u : Task) → u.critical ≢ n → slot_with plan k j job' (Some u) ≡ slot_with plan k j job (Some u)
 slot_with-after plan j job job' t t' n top k u ne =
     let outer : outer_spots plan j job' u.critical u.parents ≡ outer_spots plan j job u.critical u.parents = λ i id. outer_spots-after plan j job job' t t' n top u.parents u.critical ne id i in
-    let S : List Activation → Slot = λ xs. if k == plan.running then Running xs else Waiting xs in
-    ap S (activations-job plan j job job' top.arrays k (outer_spots plan j job' u.critical u.parents) u.frames ∙ ap (λ o. activations plan j job k o u.frames) outer)
+    grind (arith, activations-job)
 
 -- other cells on the top frame, and a mark on it, are seen by no other task
 pub seen-cells : (f : Frame) (below : List Frame) (cells : List Word) (c s : ℕ) (outer : ℕ → StackPlace) (id : ℕ) → spot_in s outer (from_frame c (record f { cells = cells } ∷ below)) id ≡ spot_in s outer (from_frame c (f ∷ below)) id

@@ -24,18 +24,13 @@ abbrev mark_bits : ℕ
 mark_bits = 2 ^ 47 + 2 ^ 46 + 136 * 2 ^ 36 + 1 * 2 ^ 14
 
 too_high : (p : Bool) (n a : ℕ) → n < 2 ^ 16 → a < 2 ^ 20 → flag_bit p * 2 ^ 47 + n * 2 ^ 20 + a ≡ mark_bits → ⊥
-too_high true n a hn ha e = omega arith
-too_high false n a hn ha e = omega arith
+too_high p n a hn ha e = grind arith
 
 not_mark : (k : Kind) (n : ℕ) (h : Location) → n < 2 ^ 16 → address_or h.area h.chain < 2 ^ 20 → home_word_of k n h ≡ word 3 mark_bits → ⊥
-not_mark Array n h small fits e = let z : ◌≡◌ {A = ℕ} 5 3 = ap (λ (w : Tagged). w.tag) e in absurd (omega arith)
-not_mark Row n h small fits e = let z : ◌≡◌ {A = ℕ} 5 3 = ap (λ (w : Tagged). w.tag) e in absurd (omega arith)
-not_mark Code n h small fits e = too_high (is_present h.area) n (address_or h.area h.chain) small fits (ap (λ (w : Tagged). w.bits) e)
+not_mark k n h small fits e = grind arith
 
 not_operand : (k : Kind) (n b : ℕ) (h : Location) → home_word_of k n h ≡ word 0 b → ⊥
-not_operand Array n b h e = let z : ◌≡◌ {A = ℕ} 5 0 = ap (λ (w : Tagged). w.tag) e in absurd (omega arith)
-not_operand Row n b h e = let z : ◌≡◌ {A = ℕ} 5 0 = ap (λ (w : Tagged). w.tag) e in absurd (omega arith)
-not_operand Code n b h e = let z : ◌≡◌ {A = ℕ} 3 0 = ap (λ (w : Tagged). w.tag) e in absurd (omega arith)
+not_operand k n b h e = grind arith
 
 module _ (x : Storage) (core : List Tagged) (r : Regs) (p : MachineView) (s : Represents x core r p) (t : PagedObject) (int : Has p.objects t) where
   address_small : (a : Option ℕ) → (x.held t.home).area ≡ a → address_or a (x.held t.home).chain < 2 ^ 20
@@ -48,8 +43,7 @@ module _ (x : Storage) (core : List Tagged) (r : Regs) (p : MachineView) (s : Re
   short = (s.slots.laid.lengths t int).1
 
   no_mark : (i : ℕ) → slice_get core i ≡ Some (word 3 mark_bits) → t.home ≢ i
-  no_mark i get e = not_mark t.kind (length t.numbers) (x.held t.home) short (address_small (x.held t.home).area refl)
-      (same_Some _ _ (sym (s.objects t int).home ∙ ap (slice_get core) e ∙ get))
+  no_mark i get e = grind (arith, address_small)
 
   no_operand : (i b : ℕ) → slice_get core i ≡ Some (word 0 b) → t.home ≢ i
   no_operand i b get e = not_operand t.kind (length t.numbers) b (x.held t.home) (same_Some _ _ (sym (s.objects t int).home ∙ ap (slice_get core) e ∙ get))

@@ -1,5 +1,5 @@
 -- A task is replaced by one of whose frames others see the same: where all find the frames on which they depend.
-use Rattle.std.proofs.Common.{◌≡◌, ◌≢◌, ℕ, List, [], ◌∷◌, Option, Some, None, refl, sym, ◌∙◌, ap, ⊎_elim, inl, inr, ◌⊎◌}
+use Rattle.std.proofs.Common.{◌≡◌, ◌≢◌, ℕ, List, [], ◌∷◌, Option, Some, None, refl, sym, ◌∙◌, ap, ⊎_elim, inl, inr, ◌⊎◌, arith}
 use Rattle.std.proofs.lemmas.Bool.{cases_eq}
 use Rattle.b67_lemmas.specs.Lists.{Has}
 use Rattle.b67_lemmas.proofs.Members.{change_found, change_other, keyed_has}
@@ -24,8 +24,7 @@ pub record Replaces (job job' : Job) (t t' : Task) : Type 0 where
 
 module _ (plan : Placement) (j : ℕ) (job job' : Job) (t t' : Task) (by : Replaces job job' t t') where
   depended : (m : ℕ) (o : Option Task) → keyed (λ (u : Task). u.number) m job.tasks ≡ o → IsDependedOn job (critical_of o)
-  depended m None e = inl refl
-  depended m (Some u) e = inr (u, (keyed_has (λ (u : Task). u.number) m job.tasks u e).0, refl)
+  depended m o e = grind (arith, keyed_has)
 
   pub task-same : keyed (λ (u : Task). u.number) t.number job'.tasks ≡ Some t'
   task-same = ap (λ (ts : List Task). keyed (λ (u : Task). u.number) t.number ts) by.tasks ∙ change_found (λ (u : Task). u.number) t.number t t' job.tasks by.number by.there
@@ -58,11 +57,4 @@ module _ (plan : Placement) (j : ℕ) (job job' : Job) (t t' : Task) (by : Repla
 
 -- a task that changed on top of a frame that none depends on
 pub on_top_replaces : (job job' : Job) (t t' : Task) (n : ℕ) → OnTop job job' t t' n → Replaces job job' t t'
-on_top_replaces job job' t t' n top = record {
-  there = top.there;
-  number = top.number;
-  critical = top.critical;
-  parents = top.parents;
-  tasks = top.tasks;
-  seen = λ c s outer id d. top.same c s outer id (⊎_elim (λ e f. top.some (sym e ∙ f)) (λ u f. top.uncritical u.0 u.1 (u.2 ∙ f)) d);
-}
+on_top_replaces job job' t t' n top = grind arith

@@ -1,5 +1,5 @@
 -- The row and the slot of a live task.
-use Rattle.std.proofs.Common.{◌≡◌, ℕ, ◌<◌, List, [], ◌∷◌, find, Option, Some, refl, sym, ◌∙◌, ap, Bool, true, false, ◌==◌, ⊎_elim, inl, inr, subst}
+use Rattle.std.proofs.Common.{◌≡◌, ℕ, ◌<◌, List, [], ◌∷◌, find, Option, Some, refl, sym, ◌∙◌, ap, Bool, true, false, ◌==◌, ⊎_elim, inl, inr, subst, arith}
 use Rattle.std.specs.Prelude.{if◌then◌else◌, option_map, unwrap_or}
 use Rattle.std.proofs.lemmas.Bool.{cases_Bool, eq-eqb, eqb-true}
 use Rattle.b67_lemmas.specs.Lists.{Has}
@@ -31,10 +31,7 @@ pub is_row-true : (job task : ℕ) (r : Slotted) → r.job ≡ job → r.task �
 is_row-true job task r a b = rw (eq-eqb r.job job a, eq-eqb r.task task b) refl
 
 row-true : (job task : ℕ) (r : Slotted) → is_row_of job task r ≡ true → (r.job ≡ job) × (r.task ≡ task)
-row-true job task r e = ⊎_elim
-    (λ (t : (r.job == job) ≡ true). let at : (r.task == task) ≡ true = rw t at e in (eqb-true r.job job t, eqb-true r.task task at))
-    (λ (t : (r.job == job) ≡ false). absurd (let z : ⊥ = (let at : false ≡ true = rw t at e in cc) in z))
-    (cases_Bool (r.job == job))
+row-true job task r e = grind arith
 
 -- a live task's row
 pub record TaskRow (plan : Placement) (j task : ℕ) : Type 0 where
@@ -48,8 +45,7 @@ pub task_row : (plan : Placement) (jobs : List SessionJob) (m : SessionJob) (t :
 task_row plan jobs m t fit inm int =
     let (r, inr_, ej, et) = fit.slotted m t inm int in
     let f = finds (is_row_of m.constants.number t.number) plan.rows r inr_ (is_row-true m.constants.number t.number r ej et) in
-    let is = row-true m.constants.number t.number f.item f.passes in
-    record { row = f.item; among = f.among; job = is.0; number = is.1; slot = ap (λ (o : Option Slotted). unwrap_or (option_map (λ (r : Slotted). r.slot) o) 255) f.found }
+    grind (arith, row-true)
 
 -- the row of the running task
 pub row_of : (plan : Placement) (jobs : List SessionJob) (m : SessionJob) (t : Task) → RowsFit plan jobs → Has jobs m → Has m.progress.job.tasks t → plan.running ≡ slot_of plan m.constants.number t.number

@@ -21,45 +21,21 @@ use Rattle.b67_area.specs.declared.Kind.TheVariants as kind
 module _ {A : Type 0} (key : A → ℕ) (n : ℕ) (f : A → A) where
   pub change-has : (xs : List A) (x : A) → keyed key n xs ≡ Some x → (z : A) → Has (change_keyed key n f xs) z → Has xs z ⊎ (z ≡ f x)
   change-has [] x e z h = absurd h
-  change-has (y ∷ ys) x e z h = ⊎_elim
-      (λ (t : (key y == n) ≡ true).
-      let same : y ≡ x = same_Some y x (rw t at e) in
-      let k : Has (f y ∷ ys) z = rw t at h in
-      ⊎_elim (λ (q : f y ≡ z). inr (sym q ∙ ap f same)) (λ q. inl (inr q)) k)
-      (λ (t : (key y == n) ≡ false).
-      let at : keyed key n ys ≡ Some x = rw t at e in
-      let k : Has (y ∷ change_keyed key n f ys) z = rw t at h in
-      ⊎_elim (λ (q : y ≡ z). inl (inl q)) (λ q. ⊎_elim (λ r. inl (inr r)) (λ r. inr r) (change-has ys x at z q)) k)
-      (cases_Bool (key y == n))
+  change-has (y ∷ ys) x e z h = grind (arith, change-has ys x)
 
   pub change-kept : (xs : List A) (x : A) → keyed key n xs ≡ Some x → (z : A) → Has xs z → Has (change_keyed key n f xs) z ⊎ ((z ≡ x) × Has (change_keyed key n f xs) (f x))
   change-kept [] x e z h = absurd h
-  change-kept (y ∷ ys) x e z h = ⊎_elim
-      (λ (t : (key y == n) ≡ true).
-      let same : y ≡ x = same_Some y x (rw t at e) in
-      ⊎_elim (λ (q : y ≡ z). inr (sym q ∙ same, rw t (inl (ap f same)))) (λ q. inl (rw t (inr q))) h)
-      (λ (t : (key y == n) ≡ false).
-      let at : keyed key n ys ≡ Some x = rw t at e in
-      ⊎_elim (λ (q : y ≡ z). inl (rw t (inl q))) (λ q. ⊎_elim (λ r. inl (rw t (inr r))) (λ r. inr (r.0, rw t (inr r.1))) (change-kept ys x at z q)) h)
-      (cases_Bool (key y == n))
+  change-kept (y ∷ ys) x e z h = grind (arith, change-kept ys x)
 
 -- which frames are critical is the same
 pub any-change : (id n : ℕ) (t t' : Task) → t'.critical ≡ t.critical → (xs : List Task) → keyed (λ (u : Task). u.number) n xs ≡ Some t
     → list_any (λ (u : Task). u.critical == id) (change_keyed (λ (u : Task). u.number) n (λ u. t') xs) ≡ list_any (λ (u : Task). u.critical == id) xs
 any-change id n t t' c [] e = refl
-any-change id n t t' c (y ∷ ys) e = ⊎_elim
-    (λ (q : (y.number == n) ≡ true).
-    let same : y ≡ t = same_Some y t (rw q at e) in
-    rw q (ap (λ (i : ℕ). (i == id) || list_any (λ (u : Task). u.critical == id) ys) (c ∙ ap (λ (u : Task). u.critical) (sym same))))
-    (λ (q : (y.number == n) ≡ false).
-    let at : keyed (λ (u : Task). u.number) n ys ≡ Some t = rw q at e in
-    rw q (ap (λ (b : Bool). (y.critical == id) || b) (any-change id n t t' c ys at)))
-    (cases_Bool (y.number == n))
+any-change id n t t' c (y ∷ ys) e = grind (arith, any-change id n t t' c ys)
 
 pub critical_mark-same : (job job' : Job) → ((id : ℕ) → is_critical job' id ≡ is_critical job id) → (fs : List Frame) → critical_mark job' fs ≡ critical_mark job fs
 critical_mark-same job job' e [] = refl
-critical_mark-same job job' e (f ∷ below) =
-    ap (λ (b : Bool). if b then height below else critical_mark job' below) (e f.identity) ∙ ap (λ (i : ℕ). if is_critical job f.identity then height below else i) (critical_mark-same job job' e below)
+critical_mark-same job job' e (f ∷ below) = grind arith
 
 pub follow-up : (plan : Placement) (at : ℕ) (jobs : List SessionJob) → DictionariesFollow plan at jobs → at ≤ plan.stacks
 follow-up plan at [] d = omega arith
@@ -68,17 +44,12 @@ follow-up plan at (m ∷ more) d = omega (arith, follow-up plan (at + (2 + lengt
 -- a dictionary's head lies below slot 0
 pub dictionary_below : (plan : Placement) (at : ℕ) (jobs : List SessionJob) (y : SessionJob) → DictionariesFollow plan at jobs → Has jobs y → plan.dictionary y.constants.number + 2 ≤ plan.stacks
 dictionary_below plan at [] y d h = absurd h
-dictionary_below plan at (m ∷ more) y d (inl e) =
-    let P : SessionJob → Type 0 = λ z. plan.dictionary z.constants.number + 2 ≤ plan.stacks in
-    subst P e (omega (arith, d.0, follow-up plan (at + (2 + length m.constants.dictionary.cells)) more d.1))
+dictionary_below plan at (m ∷ more) y d (inl e) = grind (arith, follow-up)
 dictionary_below plan at (m ∷ more) y d (inr k) = dictionary_below plan (at + (2 + length m.constants.dictionary.cells)) more y d.1 k
 
 pub follow-course : (plan : Placement) (at j : ℕ) (c : JobProgress) (jobs : List SessionJob) → DictionariesFollow plan at jobs → DictionariesFollow plan at (with_course jobs j c)
 follow-course plan at j c [] d = d
-follow-course plan at j c (m ∷ more) d = ⊎_elim
-    (λ (q : (number_of m == j) ≡ true). rw q d)
-    (λ (q : (number_of m == j) ≡ false). rw q (d.0, follow-course plan (at + (2 + length m.constants.dictionary.cells)) j c more d.1))
-    (cases_Bool (number_of m == j))
+follow-course plan at j c (m ∷ more) d = grind (arith, follow-course plan (at + (2 + length m.constants.dictionary.cells)) j c more d.1)
 
 -- one task runs
 pub running_only : (plan : Placement) (jobs : List SessionJob) (m y : SessionJob) (t u : Task) (P : SessionJob → Task → Type 0) → RowsFit plan jobs → IsRunning plan jobs m t → IsRunning plan jobs y u → P m t → P y u
@@ -87,12 +58,7 @@ running_only plan jobs m y t u P fit a b h =
     let ra = task_row plan jobs m t fit (keyed_has number_of m.constants.number jobs m a.member).0 (keyed_has N t.number m.progress.job.tasks t a.task).0 in
     let rb = task_row plan jobs y u fit (keyed_has number_of y.constants.number jobs y b.member).0 (keyed_has N u.number y.progress.job.tasks u b.task).0 in
     let same : rb.row ≡ ra.row = fit.differ rb.row ra.row rb.among ra.among (sym rb.slot ∙ sym b.slot ∙ a.slot ∙ ra.slot) in
-    let en : y.constants.number ≡ m.constants.number = sym rb.job ∙ ap (λ (r : Slotted). r.job) same ∙ ra.job in
-    let et : u.number ≡ t.number = sym rb.number ∙ ap (λ (r : Slotted). r.task) same ∙ ra.number in
-    let ey : y ≡ m = same_Some y m (sym b.member ∙ ap (λ (q : ℕ). keyed number_of q jobs) en ∙ a.member) in
-    let eu : u ≡ t = same_Some u t (sym b.task ∙ ap (λ (q : ℕ). keyed N q y.progress.job.tasks) et ∙ ap (λ (z : SessionJob). keyed N t.number z.progress.job.tasks) ey ∙ a.task) in
-    let Q : Task → Type 0 = λ v. P y v in let R : SessionJob → Type 0 = λ z. P z t in
-    subst Q (sym eu) (subst R (sym ey) h)
+    grind (arith, same_Some)
 
 -- a task is replaced: what else the machine represents stays
 module _ (before left : List PagedObject) (x : Storage) (core new : List Tagged) (r r' : Regs) (marks : List ℕ) (plan : Placement) (s : Session) (m : SessionJob) (c : JobProgress) (t t' : Task)
@@ -114,9 +80,7 @@ module _ (before left : List PagedObject) (x : Storage) (core new : List Tagged)
   for_members P old here y in_y = ⊎_elim (λ k. old y k) (λ (e : y ≡ moved). subst P (sym e) here) (change-has number_of m.constants.number (λ (z : SessionJob). record z { progress = c }) s.jobs m runs.member y in_y)
 
   for_tasks : (P : Task → Type 0) → ((u : Task) → Has m.progress.job.tasks u → P u) → P t' → (u : Task) → Has c.job.tasks u → P u
-  for_tasks P old here u in_u =
-      let Q : List Task → Type 0 = λ ts. Has ts u in
-      ⊎_elim (λ k. old u k) (λ (e : u ≡ t'). subst P (sym e) here) (change-has (λ (v : Task). v.number) t.number (λ (v : Task). t') m.progress.job.tasks t by.there u (subst Q by.tasks in_u))
+  for_tasks P old here u in_u = grind (arith, change-has)
 
   for_both : (P : SessionJob → Task → Type 0) → ((y : SessionJob) (u : Task) → Has s.jobs y → Has y.progress.job.tasks u → P y u) → ((u : Task) → Has m.progress.job.tasks u → P moved u) → P moved t' → (y : SessionJob) (u : Task) → Has jobs' y → Has y.progress.job.tasks u → P y u
   for_both P old kept here y u in_y = for_members (λ z. Has z.progress.job.tasks u → P z u) (λ z in_z in_u. old z u in_z in_u) (λ in_u. for_tasks (P moved) kept here u in_u) y in_y
@@ -158,11 +122,7 @@ module _ (before left : List PagedObject) (x : Storage) (core new : List Tagged)
   }
 
   pub still_running : IsRunning plan jobs' moved t'
-  still_running = record {
-    member = member-same s.jobs m.constants.number c m runs.member;
-    task = ap (λ (q : ℕ). keyed (λ (u : Task). u.number) q c.job.tasks) by.number ∙ task-same plan m.constants.number m.progress.job c.job t t' by;
-    slot = runs.slot ∙ ap (slot_of plan m.constants.number) (sym by.number);
-  }
+  still_running = grind (arith, member-same, task-same)
 
   -- what is shown of the running task, is shown of the one that runs
   pub for_running : (P : SessionJob → Task → Type 0) → P moved t' → (y : SessionJob) (u : Task) → IsRunning plan jobs' y u → P y u
@@ -217,10 +177,7 @@ dictionary_above plan at (m ∷ more) y d (inr h) = omega (arith, dictionary_abo
 -- a job that is changed twice
 pub course_twice : (jobs : List SessionJob) (j : ℕ) (c d : JobProgress) → with_course (with_course jobs j c) j d ≡ with_course jobs j d
 course_twice [] j c d = refl
-course_twice (x ∷ xs) j c d = ⊎_elim
-    (λ (t : (number_of x == j) ≡ true). rw t (rw t refl))
-    (λ (t : (number_of x == j) ≡ false). rw t (rw t (ap (λ (more : List SessionJob). x ∷ more) (course_twice xs j c d))))
-    (cases_Bool (number_of x == j))
+course_twice (x ∷ xs) j c d = grind (arith, course_twice xs j c d)
 
 -- the objects of segments
 pub code_object : (plan : Placement) (j n : ℕ) (ss : List Segment) (i : ℕ) → i < length ss → (t : PagedObject) × Has (code_objects plan j n ss) t × (t.home ≡ plan.dictionary j + 1 + (n + i)) × (t.kind ≡ kind.Code)

@@ -1,5 +1,5 @@
 -- The two commonest steps: other cells in the top frame, and a mark on it.
-use Rattle.std.proofs.Common.{◌≡◌, ◌≢◌, ℕ, ◌<◌, List, [], ◌∷◌, map, refl, sym, ◌∙◌, ap, Bool, false, subst}
+use Rattle.std.proofs.Common.{◌≡◌, ◌≢◌, ℕ, ◌<◌, List, [], ◌∷◌, map, refl, sym, ◌∙◌, ap, Bool, false, subst, arith}
 use Rattle.std.specs.Prelude.{if◌then◌else◌}
 use Rattle.std.specs.List.{slice_get}
 use Rattle.b67_word.specs.Tagged.{Tagged}
@@ -20,16 +20,13 @@ use Rattle.b67_model.specs.Keyed.{change_keyed}
 
 pub activations-with : (plan : Placement) (j : ℕ) (job : Job) (k : ℕ) (outer : ℕ → StackPlace) (fs : List Frame) (cells : List Word)
     → activations plan j job k outer (with_top_cells fs cells) ≡ stack_with_cells (activations plan j job k outer fs) (map (shape plan j job (spot_in k outer fs)) cells)
-activations-with plan j job k outer [] cells = refl
-activations-with plan j job k outer (f ∷ below) cells = refl
+activations-with plan j job k h fs cells = grind arith
 
 pub seen-with : (fs : List Frame) (cells : List Word) (c s : ℕ) (outer : ℕ → StackPlace) (id : ℕ) → spot_in s outer (from_frame c (with_top_cells fs cells)) id ≡ spot_in s outer (from_frame c fs) id
-seen-with [] cells c s outer id = refl
-seen-with (f ∷ below) cells c s outer id = seen-cells f below cells c s outer id
+seen-with fs cells c s h id = grind arith
 
 pub critical-with : (job : Job) (fs : List Frame) (cells : List Word) → critical_mark job (with_top_cells fs cells) ≡ critical_mark job fs
-critical-with job [] cells = refl
-critical-with job (f ∷ below) cells = refl
+critical-with job fs cells = grind arith
 
 -- a number that no live task depends on, and that isn't the MCP's frame
 pub record IsFree (job : Job) (n : ℕ) : Type 0 where
@@ -61,9 +58,7 @@ module _ (x : Storage) (core new : List Tagged) (r r' : Regs) (marks : List ℕ)
   running_stack = stack_of_task plan m.constants.number m.progress.job plan.running t
 
   task_stands : (c : JobProgress) (fs : List Frame) → RepresentsTask r' plan (record m { progress = c }) (record t { frames = fs; place = q })
-  task_stands c fs =
-      let o = h.running m t runs in
-      record { slot = on.slot ∙ o.slot; dict = on.dict ∙ o.dict; entries = on.entries ∙ o.entries; segment = on.segment ∙ o.segment; place = on.place }
+  task_stands c fs = grind arith
 
   -- the session with a job of the running task's, which differs from the old one by that task on top of frame n
   after : (job' : Job) (fs : List Frame) (stack : List Activation) (n : ℕ) → OnTop m.progress.job job' t (record t { frames = fs; place = q }) n

@@ -1,5 +1,5 @@
 -- Other cells in the running task's top frame, over the whole machine: what rows on cells cite.
-use Rattle.std.proofs.Common.{◌≡◌, ◌≢◌, ℕ, ◌<◌, List, [], ◌∷◌, map, refl, sym, ◌∙◌, ap, subst}
+use Rattle.std.proofs.Common.{◌≡◌, ◌≢◌, ℕ, ◌<◌, List, [], ◌∷◌, map, refl, sym, ◌∙◌, ap, subst, arith}
 use Rattle.std.specs.List.{slice_get}
 use Rattle.b67_word.specs.declared.couples.Place.{Place}
 use Rattle.b67_model.specs.Common.{Word, Frame, Task, JobProgress, SessionJob, with_top_cells, with_task, Session}
@@ -15,8 +15,7 @@ use Rattle.b67_lemmas.proofs.Members.{keyed_has}
 use Rattle.b67_law_order.proofs.Looks.{known_cells}
 
 pub spots-with : (k : ℕ) (outer : ℕ → StackPlace) (fs : List Frame) (cells : List Word) (id : ℕ) → spot_in k outer (with_top_cells fs cells) id ≡ spot_in k outer fs id
-spots-with k outer [] cells id = refl
-spots-with k outer (f ∷ below) cells id = refl
+spots-with k outer fs cells id = grind arith
 
 -- the task with other cells on top that goes on at a place, and the session with it
 abbrev pub task_with : Task → List Word → Place → Task

@@ -1,8 +1,8 @@
 -- Each sector is free or in a chain, so the free ones and those of all chains are as many as there are.
-use Rattle.std.proofs.Common.{◌≡◌, ◌≢◌, ℕ, zero, suc, ◌+◌, ◌<◌, ◌≤◌, ◌==◌, true, false, List, [], ◌∷◌, length, refl, sym, arith, inl, inr, ⊎_elim, subst}
-use Rattle.std.proofs.lemmas.Bool.{cases_Bool, cases_eq, eq-eqb, ne_eqb}
+use Rattle.std.proofs.Common.{◌≡◌, ◌≢◌, ℕ, zero, suc, ◌+◌, ◌<◌, ◌≤◌, ◌==◌, List, [], ◌∷◌, length, refl, sym, arith, inl, inr, ⊎_elim, subst}
+use Rattle.std.proofs.lemmas.Bool.{cases_eq, eq-eqb, ne_eqb}
 use Rattle.b67_backing.specs.Shelf.{Table, Shelf, AreChains, IsShelf, one, times, uses, first, chain_of}
-use Rattle.b67_backing.proofs.Links.{one-same, one-other, linked_within}
+use Rattle.b67_backing.proofs.Links.{linked_within}
 use Rattle.b67_backing.proofs.News.{unused}
 use Rattle.b67_lemmas.specs.Lists.{Has, total}
 use Rattle.b67_lemmas.proofs.Sums.{total_gap}
@@ -27,12 +27,7 @@ upto-none (suc n) = omega (arith, upto-none n)
 -- a number is at most one of these
 single : (c n : ℕ) → (upto (λ i. one i c) n ≤ 1) × (n < c → upto (λ i. one i c) n ≡ 0)
 single c zero = (omega arith, λ low. refl)
-single c (suc n) =
-    let under = single c n in
-    ⊎_elim
-    (λ (e : suc n ≡ c). let is : one (suc n) c ≡ 1 = subst (λ m. one m c ≡ 1) (sym e) (one-same c) in (omega (arith, under.1 (omega (arith, e)), is), λ low. absurd (omega (arith, low, e))))
-    (λ (ne : suc n ≢ c). let is : one (suc n) c ≡ 0 = one-other (suc n) c ne in (omega (arith, under.0, is), λ low. omega (arith, under.1 (omega (arith, low)), is)))
-    (cases_eq (suc n) c)
+single c (suc n) = grind (arith, single c n)
 
 times_within : (xs : List ℕ) (n : ℕ) → upto (λ i. times i xs) n ≤ length xs
 times_within [] n = omega (arith, upto-none n)
@@ -50,21 +45,12 @@ Differ (k ∷ ks) = (chain_of (first k) ks ≡ []) × Differ ks
 differ : (links : List ℕ) (ks : List (List ℕ)) → AreChains links ks → ((i : ℕ) → i < length links → uses i ks ≤ 1) → Differ ks
 differ links [] a once = tt
 differ links ([] ∷ ks) a once = absurd a
-differ links ((c ∷ cs) ∷ ks) a once = (
-  unused links c ks a.1 (omega (arith, once c (linked_within links c cs a.0), one-same c)),
-  differ links ks a.1 (λ i low. omega (arith, once i low)),
-)
+differ links ((c ∷ cs) ∷ ks) a once = grind (arith, unused, linked_within, differ links ks a.1)
 
 starts_with : (links : List ℕ) (ks : List (List ℕ)) (k : List ℕ) → AreChains links ks → Has ks k → 0 < length (chain_of (first k) ks)
 starts_with links [] k a h = absurd h
 starts_with links ([] ∷ ks) k a h = absurd a
-starts_with links ((c ∷ cs) ∷ ks) k a h = ⊎_elim
-    (λ (q : (c == first k) ≡ true). rw q (omega arith))
-    (λ (q : (c == first k) ≡ false). rw q (elim h [
-      | inl e ↦ let here : (c == c) ≡ false = subst (λ (l : List ℕ). (c == first l) ≡ false) (sym e) q in let there : (c == c) ≡ true = eq-eqb c c refl in cc
-      | inr m ↦ starts_with links ks k a.1 m
-    ]))
-    (cases_Bool (c == first k))
+starts_with links ((c ∷ cs) ∷ ks) k a h = grind (arith, starts_with links ks k a.1)
 
 -- the sectors of all chains, by a list that names each chain
 lengths : (links : List ℕ) (ks : List (List ℕ)) (fs : List ℕ) → AreChains links ks → Differ ks → ((k : List ℕ) → Has ks k → Has fs (first k)) → total length ks ≤ total (λ f. length (chain_of f ks)) fs

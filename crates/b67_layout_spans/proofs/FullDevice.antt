@@ -1,21 +1,19 @@
 -- Where an array that keeps no chain needs more sectors than are free, a session takes more than there are.
-use Rattle.std.proofs.Common.{◌≡◌, ℕ, ◌+◌, ◌≤◌, List, [], ◌∷◌, map, flat_map, length, Option, Some, None, refl, sym, ◌∙◌, arith, inl, inr, subst}
+use Rattle.std.proofs.Common.{◌≡◌, ℕ, ◌+◌, ◌≤◌, List, [], ◌∷◌, map, flat_map, length, Option, refl, ◌∙◌, arith, subst}
 use Rattle.b67_word.specs.Tagged.{Tagged}
 use Rattle.b67_area.specs.declared.Kind.{Kind}
-use Rattle.b67_area.specs.declared.Kind.TheVariants.{Array, Row, Code}
 use Rattle.b67_area.specs.declared.Areas.{Areas}
 use Rattle.b67_backing.specs.Shelf.{Table, chain_of}
 use Rattle.b67_backing.specs.Held.{sectors_for}
 use Rattle.b67_lemmas.specs.Lists.{Has, total}
-use Rattle.b67_lemmas.proofs.Members.{has_map, total_append, total_flat, total_map, total_same}
+use Rattle.b67_lemmas.proofs.Members.{has_map, total_append, total_flat, total_map}
 use Rattle.b67_lemmas.proofs.Sums.{sum_total, total_gap, total_le}
-use Rattle.b67_model.specs.State as State
 use Rattle.b67_model.specs.Common.{Segment, SessionJob, sectors_of, sectors, Session}
 use Rattle.b67_stack.specs.declared.Cpu.{Cpu}
 use Rattle.b67_stack.specs.Common.{PagedObject, MachineView, Storage, KeptChain, Content}
 use Rattle.b67_layout_storage.specs.Machine.{MachineRepresentsView}
 use Rattle.b67_overlay.specs.AreasEvicted.{IsShortBy}
-use Rattle.b67_layout.specs.Common.{Placement, array_object, code_objects, objects_of, machine_view}
+use Rattle.b67_layout.specs.Common.{Placement, code_objects, objects_of, machine_view}
 use Rattle.b67_layout_spans.specs.Full.{ShortIsFull}
 use Rattle.b67_layout_spans.proofs.Covers.{covers}
 
@@ -25,15 +23,10 @@ sectors_of_object t = sectors_for (length t.numbers)
 
 -- the chain of an object has no more
 keeps_few : (x : Storage) (t : PagedObject) (k : Kind) (f : ℕ) → chain_of 0 x.shelf.chains ≡ [] → KeptChain x t k f → length (chain_of f x.shelf.chains) ≤ sectors_of_object t
-keeps_few x t Array f z (inl e) = rw (e, z) (omega arith)
-keeps_few x t Array f z (inr h) = omega (arith, h.sectors)
-keeps_few x t Row f z h = omega (arith, h.chain.sectors)
-keeps_few x t Code f z h = omega (arith, h.chain.sectors)
+keeps_few x t k f z h = grind arith
 
 content_few : (x : Storage) (core : List Tagged) (t : PagedObject) (a : Option ℕ) (f : ℕ) → chain_of 0 x.shelf.chains ≡ [] → Content x core t a f → length (chain_of f x.shelf.chains) ≤ sectors_of_object t
-content_few x core t (Some at) f z c = keeps_few x t t.kind f z c.1
-content_few x core t None f z (inl h) = omega (arith, h.chain.sectors)
-content_few x core t None f z (inr e) = rw (e.0, z) (omega arith)
+content_few x core t a f z c = grind arith
 
 -- the objects of a view take more sectors than there are
 pub short : (x : Storage) (cpu : Cpu) (areas : Areas) (table : Table) (told : Option (List (List ℕ))) (p : MachineView) (wants free : ℕ)
@@ -53,23 +46,11 @@ code_total plan j n [] = refl
 code_total plan j n (g ∷ more) = omega (arith, code_total plan j (n + 1) more)
 
 member_total : (plan : Placement) (m : SessionJob) → total sectors_of_object (objects_of plan m) ≡ sectors_of m
-member_total plan m =
-    let j = m.constants.number in
-    omega (
-      arith,
-      total_append sectors_of_object (code_objects plan j 1 m.constants.segments) (map (array_object plan j) m.progress.job.arrays),
-      code_total plan j 1 m.constants.segments,
-      total_map (array_object plan j) sectors_of_object m.progress.job.arrays,
-      sum_total (λ (g : Segment). sectors_for (length g.code)) m.constants.segments,
-      sum_total (λ (a : State.Array). sectors_for (length a.numbers)) m.progress.job.arrays,
-    )
+member_total plan m = grind (arith, total_append, code_total, total_map, sum_total)
 
 -- the objects of a session's view take the sectors of the session
 pub session_total : (plan : Placement) (jobs : List SessionJob) → total sectors_of_object (flat_map (objects_of plan) jobs) ≡ sectors jobs
-session_total plan jobs =
-    total_flat (objects_of plan) sectors_of_object jobs
-    ∙ total_same (λ (m : SessionJob). total sectors_of_object (objects_of plan m)) sectors_of jobs (λ m k. member_total plan m)
-    ∙ sym (sum_total sectors_of jobs)
+session_total plan jobs = grind (arith, total_flat, member_total, sum_total)
 
 -- and never more than those that are free and the session's
 pub within : (x : Storage) (cpu : Cpu) (areas : Areas) (table : Table) (told : Option (List (List ℕ))) (plan : Placement) (s : Session) → MachineRepresentsView x cpu areas table told (machine_view plan s.jobs)

@@ -12,7 +12,7 @@ use Rattle.b67_model.specs.Common.{Word, Operand, Name, Ref, Row, Element, Origi
 use Rattle.b67_law_order.proofs.Looks.{above_one}
 use Rattle.b67_law_order.proofs.Numbered.{keyed_member}
 use Rattle.b67_stack.specs.Shapes as Shapes
-use Rattle.b67_stack.specs.Common.{Shape, Fits, LieDownward, StackPlace, Head, Marked, Entered, Activation, stack_words, headed, words, MachineView, stack_of, slot_base, Storage, Represents}
+use Rattle.b67_stack.specs.Common.{Shape, Fits, LieDownward, StackPlace, Head, Activation, stack_words, headed, words, MachineView, stack_of, slot_base, Storage, Represents}
 use Rattle.b67_stack.proofs.Bases.{base-apart}
 use Rattle.b67_stack.proofs.Heights.{words-length}
 use Rattle.b67_stack.proofs.Lies.{Lie-under}
@@ -27,9 +27,7 @@ use Rattle.b67_law_order.proofs.Lines.{outer_owned, one_task, frame_is, frame_na
 
 dictionary_under : (plan : Placement) (at : ℕ) (ms : List SessionJob) (y : SessionJob) → DictionariesFollow plan at ms → Has ms y → plan.dictionary y.constants.number + (2 + length y.constants.dictionary.cells) ≤ plan.stacks
 dictionary_under plan at [] y d h = absurd h
-dictionary_under plan at (m ∷ more) y d (inl e) =
-    let P : SessionJob → Type 0 = λ z. plan.dictionary z.constants.number + (2 + length z.constants.dictionary.cells) ≤ plan.stacks in
-    subst P e (omega (arith, d.0, follow-up plan (at + (2 + length m.constants.dictionary.cells)) more d.1))
+dictionary_under plan at (m ∷ more) y d (inl e) = grind (arith, follow-up)
 dictionary_under plan at (m ∷ more) y d (inr h) = dictionary_under plan (at + (2 + length m.constants.dictionary.cells)) more y d.1 h
 
 module _ (x : Storage) (core : List Tagged) (r : Regs) (plan : Placement) (s : Session) (o : IsInOrderButCounts s) (fits : PlanFits plan s) (memory : Represents x core r (machine_view plan s.jobs)) where
@@ -220,16 +218,13 @@ module _ (x : Storage) (core : List Tagged) (r : Regs) (plan : Placement) (s : S
           (word_lies w ws g.0 under lies.1 high, cells_lie ws g.1 above.1 (under_next e w ws above.0 under) lies.1 (omega (arith, high)) c)
 
     lie_head : (h : Head) (under : List Activation) (shapes : List Shape) → LieDownward (Fits x.held) core from (headed k h under shapes) → LieDownward (Fits x.held) core from shapes
-    lie_head Marked under shapes l = l.1
-    lie_head (Entered level environment back) under shapes l = l.1.1
+    lie_head h under e l = grind arith
 
     copies_head : (h : Head) (under : List Activation) (shapes : List Shape) → CopiesInSpans span from shapes → CopiesInSpans span from (headed k h under shapes)
-    copies_head Marked under shapes c = (tt, c)
-    copies_head (Entered level environment back) under shapes c = (tt, (tt, c))
+    copies_head h under e c = grind arith
 
     head_length : (h : Head) (under : List Activation) (shapes : List Shape) → length shapes ≤ length (headed k h under shapes)
-    head_length Marked under shapes = omega arith
-    head_length (Entered level environment back) under shapes = omega arith
+    head_length h under e = grind arith
 
     frames_lie : (fs : List Frame) → ((g : Frame) → Has fs g → Has t.frames g) → FramesInOrder (IsSegment m.constants) job.arrays (outer_of job t) fs → LieDownward (Fits x.held) core from (words k (activations plan j job k outer fs))
         → from + length (words k (activations plan j job k outer fs)) ≤ top → CopiesInSpans span from (words k (activations plan j job k outer fs))

@@ -99,18 +99,14 @@ module _ (plan : Placement) (s : Session) (o : IsInOrderButCounts s) (fits : Pla
 
     pub parents_fall : (t : Task) (parents : List ℕ) → BirthInOrder m.progress.job t parents → Falls t.number parents
     parents_fall t [] b = tt
-    parents_fall t (n ∷ above) b =
-        let h = keyed_has (λ (v : Task). v.number) n m.progress.job.tasks b.parent b.found in
-        (b.older, subst (λ (i : ℕ). Falls i above) h.1 (parents_fall b.parent above (birth_of b.parent above h.0 b.line)))
+    parents_fall t (n ∷ above) b = grind (arith, keyed_has, birth_of, parents_fall b.parent above)
 
     parents_live : (t : Task) (parents : List ℕ) → BirthInOrder m.progress.job t parents → (n : ℕ) → Has parents n → Has (map (λ (v : Task). v.number) m.progress.job.tasks) n
     parents_live t [] b n h = absurd h
     parents_live t (k ∷ above) b n (inl e) =
         let h = keyed_has (λ (v : Task). v.number) k m.progress.job.tasks b.parent b.found in
         subst (Has (map (λ (v : Task). v.number) m.progress.job.tasks)) (h.1 ∙ e) (has_map (λ (v : Task). v.number) m.progress.job.tasks b.parent h.0)
-    parents_live t (k ∷ above) b n (inr i) =
-        let h = keyed_has (λ (v : Task). v.number) k m.progress.job.tasks b.parent b.found in
-        parents_live b.parent above (birth_of b.parent above h.0 b.line) n i
+    parents_live t (k ∷ above) b n (inr i) = grind (arith, keyed_has, birth_of, parents_live b.parent above)
 
     pub few_parents : (t : Task) → Has m.progress.job.tasks t → length t.parents ≤ 15
     few_parents t h =
@@ -133,14 +129,12 @@ number_high n (y ∷ more) m o (inl e) = omega (arith, o.0, ap (λ (z : SessionJ
 number_high n (y ∷ more) m o (inr h) = omega (arith, number_high (n + 1) more m o.1 h)
 
 vector_is : (plan : Placement) (j : ℕ) (parents : List ℕ) → vector_word plan j parents ≡ kin_word (Some (record { job = j; parents = map (slot_of plan j) parents }))
-vector_is plan j [] = refl
-vector_is plan j (n ∷ more) = refl
+vector_is plan j parents = grind arith
 
 dictionaries_lie : (core : List Tagged) (plan : Placement) (at : ℕ) (jobs : List SessionJob) → DictionariesFollow plan at jobs → ((m : SessionJob) → Has jobs m → RepresentsDictionary core plan m)
     → DictionariesLie core plan.stacks at (map (λ (m : SessionJob). length m.constants.dictionary.cells) jobs)
 dictionaries_lie core plan at [] d r = d
-dictionaries_lie core plan at (m ∷ more) d r =
-    (ap (λ (i : ℕ). slice_get core (i + 1)) (sym d.0) ∙ (r m (inl refl)).entries, dictionaries_lie core plan (at + (2 + length m.constants.dictionary.cells)) more d.1 (λ y h. r y (inr h)))
+dictionaries_lie core plan at (m ∷ more) d r = grind (arith, dictionaries_lie core plan (at + (2 + length m.constants.dictionary.cells)) more d.1)
 
 -- the number of the job in whose dictionary an address lies
 pub job_found : (plan : Placement) (at n i : ℕ) (jobs : List SessionJob) (m : SessionJob) → DictionariesFollow plan at jobs → NumberedFrom (n + 1) jobs → Has jobs m → plan.dictionary m.constants.number ≤ i

@@ -1,10 +1,10 @@
 -- Chains among others, and chains that are taken one after the other.
 use Rattle.std.proofs.Common.{◌≡◌, ℕ, zero, suc, ◌+◌, ◌<◌, ◌≤◌, ◌^◌, List, [], ◌∷◌, ◌++◌, length, take, drop, refl, sym, ◌∙◌, ap, subst, arith, inl, inr, ⊎_elim, if◌then◌else◌, ◌==◌}
-use Rattle.std.proofs.lemmas.Bool.{cond-true, cond-false, eq-eqb, ne_eqb, cases_eq, cases_lt}
+use Rattle.std.proofs.lemmas.Bool.{cond-true, cond-false, eq-eqb, ne_eqb, cases_lt}
 use Rattle.std.proofs.lemmas.List.{take-append-drop}
 use Rattle.b67_backing.specs.Shelf.{Table, Shelf, HasChain, IsShelf, Linked, AreChains, one, times, uses, first, chain_of, taken}
 use Rattle.b67_backing.specs.Held.{Fills, SameBut}
-use Rattle.b67_backing.proofs.Links.{Chain, chain_there, linked_within, rest, one-same, one-other, times-append, uses-split}
+use Rattle.b67_backing.proofs.Links.{Chain, chain_there, linked_within, rest, one-same, times-append, uses-split}
 use Rattle.b67_backing.proofs.News.{first_take}
 use Rattle.b67_lemmas.specs.Lists.{Has}
 use Rattle.b67_stack.specs.MachineView.{PagedObject}
@@ -15,8 +15,7 @@ use Rattle.b67_load.specs.StoredObjects.{StoredObject, placed, stocked, KeepsCha
 pub first_small : (t : Table) (s : Shelf) (x n : ℕ) → HasChain t s x n → 1 ≤ n → x < 2 ^ 20
 first_small t s x n h some =
     let k = chain_there t.links x s.chains h.shelf.chains (omega (arith, h.many)) in
-    let low = linked_within t.links x (rest (chain_of x s.chains)) k.linked in
-    omega (arith, low, h.shelf.small)
+    grind (arith, linked_within)
 
 -- the chain that was taken last
 pub last_taken : (x n : ℕ) (s : Shelf) → chain_of x (taken n s).chains ≡ (if x == x then take n s.free else chain_of x s.chains) → chain_of x (taken n s).chains ≡ take n s.free
@@ -28,36 +27,21 @@ times-take_drop m n xs = sym (times-append m (take n xs) (drop n xs)) ∙ ap (ti
 
 pub has_times : (xs : List ℕ) (c : ℕ) → Has xs c → 1 ≤ times c xs
 has_times [] c h = absurd h
-has_times (x ∷ xs) c h = ⊎_elim
-    (λ (e : x ≡ c). let s : one c x ≡ 1 = rw e (one-same c) in omega (arith, s))
-    (λ (k : Has xs c). omega (arith, has_times xs c k))
-    h
+has_times (x ∷ xs) c h = grind (arith, has_times xs c)
 
 pub has_uses : (ks : List (List ℕ)) (k : List ℕ) (c : ℕ) → Has ks k → Has k c → 1 ≤ uses c ks
 has_uses [] k c h g = absurd h
-has_uses (x ∷ ks) k c h g = ⊎_elim
-    (λ (e : x ≡ k). let s : 1 ≤ times c x = has_times x c (subst (λ (l : List ℕ). Has l c) (sym e) g) in omega (arith, s))
-    (λ (i : Has ks k). omega (arith, has_uses ks k c i g))
-    h
+has_uses (x ∷ ks) k c h g = grind (arith, has_times, has_uses ks k c)
 
 linked_has : (links : List ℕ) (b : ℕ) (cs : List ℕ) (c : ℕ) → Linked links b cs → Has cs c → c < length links
 linked_has links b [] c l h = absurd h
-linked_has links b (d ∷ ds) c l h = ⊎_elim
-    (λ (e : d ≡ c). subst (λ (i : ℕ). i < length links) e (linked_within links d ds l.1))
-    (λ (k : Has ds c). linked_has links d ds c l.1 k)
-    h
+linked_has links b (d ∷ ds) c l h = grind (arith, linked_within, linked_has links d ds c l.1)
 
 -- a sector of a chain is one of the table's, and isn't free
 chain_within : (links : List ℕ) (ks : List (List ℕ)) (k : List ℕ) (c : ℕ) → AreChains links ks → Has ks k → Has k c → c < length links
 chain_within links [] k c a h g = absurd h
 chain_within links ([] ∷ ks) k c a h g = absurd a
-chain_within links ((d ∷ ds) ∷ ks) k c a h g = ⊎_elim
-    (λ (e : d ∷ ds ≡ k). ⊎_elim
-    (λ (q : d ≡ c). subst (λ (i : ℕ). i < length links) q (linked_within links d ds a.0))
-    (λ (i : Has ds c). linked_has links d ds c a.0 i)
-    (subst (λ (l : List ℕ). Has l c) (sym e) g))
-    (λ (i : Has ks k). chain_within links ks k c a.1 i g)
-    h
+chain_within links ((d ∷ ds) ∷ ks) k c a h g = grind (arith, linked_within, linked_has, chain_within links ks k c a.1)
 
 pub record Apart (t : Table) (s : Shelf) (c : ℕ) : Type 0 where
   pub low : 1 ≤ c
@@ -66,15 +50,7 @@ pub record Apart (t : Table) (s : Shelf) (c : ℕ) : Type 0 where
   pub not_free : times c s.free ≡ 0
 
 pub chain_apart : (t : Table) (s : Shelf) (k : List ℕ) (c : ℕ) → IsShelf t s → Has s.chains k → Has k c → Apart t s c
-chain_apart t s k c is h g = ⊎_elim
-    (λ (z : c < 1). let e : c ≡ 0 = omega arith in absurd (let u : 1 ≤ uses 0 s.chains = subst (λ (i : ℕ). 1 ≤ uses i s.chains) e used in omega (arith, u, is.zero)))
-    (λ (z : 1 ≤ c). record { low = z; high = high; used = used; not_free = omega (arith, used, is.once c z high) })
-    (cases_lt c 1) where
-      used : 1 ≤ uses c s.chains
-      used = has_uses s.chains k c h g
-
-      high : c < length t.links
-      high = chain_within t.links s.chains k c is.chains h g
+chain_apart t s k c is h g = grind (arith, has_uses, chain_within)
 
 -- taking leaves the chains that were there
 free_first : (t : Table) (s : Shelf) (x : ℕ) → IsShelf t s → 1 ≤ length (chain_of x s.chains) → times x s.free ≡ 0
@@ -94,8 +70,7 @@ has_drop (suc n) [] x h = absurd h
 has_drop (suc n) (y ∷ xs) x h = inr (has_drop n xs x h)
 
 first_has : (fs : List ℕ) → 1 ≤ length fs → 1 ≤ times (first fs) fs
-first_has [] h = absurd (omega arith)
-first_has (c ∷ cs) h = omega (arith, one-same c)
+first_has fs h = grind arith
 
 pub keeps_taken : (t : Table) (s : Shelf) (n : ℕ) → IsShelf t s → 1 ≤ n → n ≤ length s.free → KeepsChains s (taken n s)
 keeps_taken t s n is some fits = record {
@@ -109,10 +84,7 @@ pub keeps-refl : (s : Shelf) → KeepsChains s s
 keeps-refl s = record { chains = λ x has. refl; free = λ m h. h }
 
 pub keeps_both : (a b c : Shelf) → KeepsChains a b → KeepsChains b c → KeepsChains a c
-keeps_both a b c k l = record {
-  chains = λ x has. l.chains x (subst (λ (i : List ℕ). 0 < length i) (sym (k.chains x has)) has) ∙ k.chains x has;
-  free = λ m h. k.free m (l.free m h);
-}
+keeps_both a b c k l = grind arith
 
 -- objects one after the other
 pub stocked-append : (xs ys : List PagedObject) (s : Shelf) → stocked (xs ++ ys) s ≡ stocked ys (stocked xs s)
@@ -140,22 +112,14 @@ placed_object (x ∷ xs) free r (inr h) = inr (placed_object xs (drop (object_se
 -- what a chain holds stays under changes of other sectors
 pub holds_stay : (ns k : List ℕ) (a b : List (List ℕ)) (at : ℕ) (numbers : List ℕ) → SameBut ns a b → ((c : ℕ) → Has k c → (1 ≤ c) × (times c ns ≡ 0)) → Fills a k at numbers → Fills b k at numbers
 holds_stay ns [] a b at numbers same apart h = h
-holds_stay ns (c ∷ cs) a b at numbers same apart h =
-    let (low, out) = apart c (inl refl) in
-    ((h.0.0, same.others c low out ∙ h.0.1, h.0.2), holds_stay ns cs a b (at + 30) numbers same (λ d i. apart d (inr i)) h.1)
+holds_stay ns (c ∷ cs) a b at numbers same apart h = grind (arith, holds_stay ns cs a b (at + 30) numbers same)
 
 times_has : (xs : List ℕ) (c : ℕ) → 1 ≤ times c xs → Has xs c
 times_has [] c h = absurd (omega arith)
-times_has (x ∷ xs) c h = ⊎_elim
-    (λ (e : c ≡ x). inl (sym e))
-    (λ (e : c ≡ x → ⊥). inr (times_has xs c (omega (arith, one-other c x e))))
-    (cases_eq c x)
+times_has (x ∷ xs) c h = grind (arith, times_has xs c)
 
 pub none_more : (xs ys : List ℕ) (m : ℕ) → (Has ys m → Has xs m) → times m xs ≡ 0 → times m ys ≡ 0
-none_more xs ys m more z = ⊎_elim
-    (λ (l : times m ys < 1). omega arith)
-    (λ (l : 1 ≤ times m ys). absurd (omega (arith, z, has_times xs m (more (times_has ys m l)))))
-    (cases_lt (times m ys) 1)
+none_more xs ys m more z = grind (arith, has_times, times_has)
 
 pub stocked_has : (m : ℕ) (xs : List PagedObject) (s : Shelf) → Has (stocked xs s).free m → Has s.free m
 stocked_has m [] s h = h

@@ -60,8 +60,7 @@ total-rows_from at [] = refl
 total-rows_from at (r ∷ more) = ap (λ (n : ℕ). sectors_for (length r) + n) (total-rows_from (at + 1) more)
 
 pub sectors-objects : (base : ℕ) (p : Program) → sectors_of_objects (program_objects base p) ≡ sectors_of_program p
-sectors-objects base p =
-    omega (arith, total_append object_sectors (code_from (base + 2) p.segments) (rows_from (base + (2 + length p.segments)) p.rows), total-code_from (base + 2) p.segments, total-rows_from (base + (2 + length p.segments)) p.rows)
+sectors-objects base p = grind (arith, total_append, total-code_from, total-rows_from)
 
 -- segments lie where they begin and below their end
 pub code_low : (at : ℕ) (segments : List state.Segment) (t : PagedObject) → Has (code_from at segments) t → (at ≤ t.home) × (t.home < at + length segments)
@@ -71,8 +70,7 @@ code_low at (s ∷ more) t (inr h) = let (low, high) = code_low (at + 1) more t 
 
 pub sectors-parts : (base : ℕ) (f : Codefile) (segments : List Segment) (rows : List (List Tagged)) → segments ≡ f.segments → rows ≡ f.rows
     → sectors_of_objects (code_from (base + 2) (map segment_of segments)) + sectors_of_objects (rows_from (base + (2 + length segments)) (map contents rows)) ≡ sectors_of_objects (program_objects base (program_of f))
-sectors-parts base f segments rows e q =
-    rw (← e, ← q, length-map segments segment_of) (sym (total_append object_sectors (code_from (base + 2) (map segment_of segments)) (rows_from (base + (2 + length segments)) (map contents rows))))
+sectors-parts base f segments rows e q = grind (arith, length-map, total_append)
 
 -- segments and then rows
 pub all_written : {D : Type 0} (tell : D → Option (List (List ℕ))) (base : ℕ) (f : Codefile) (segments : List Segment) (rows : List (List Tagged)) (a b c : Parts D) → segments ≡ f.segments → rows ≡ f.rows
@@ -135,5 +133,4 @@ all_spares tell base core one m n a b k first_set one_len second_set two_len s =
 }
 
 pub entries_word : (f g : Codefile) (segments : List Segment) (rows : List (List Tagged)) → f ≡ g → segments ≡ f.segments → rows ≡ f.rows → word 0 (length segments + length rows) ≡ word 0 (entries_of (program_of g))
-entries_word f g segments rows e p q =
-    ap (word 0) (let n : length segments + length rows ≡ entries_of (program_of g) = omega (arith, ap length p, ap length q, length-map g.segments segment_of, length-map g.rows contents, ap (λ (x : Codefile). length x.segments) e, ap (λ (x : Codefile). length x.rows) e) in n)
+entries_word f g segments rows e p q = grind (arith, length-map)

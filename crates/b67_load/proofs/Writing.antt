@@ -1,19 +1,19 @@
 -- Objects written one after the other.
-use Rattle.std.proofs.Common.{◌≡◌, ℕ, ◌+◌, ◌<◌, ◌≤◌, ◌⊎◌, List, [], ◌∷◌, ◌++◌, length, take, map, Option, Some, refl, sym, ◌∙◌, ap, subst, arith, inl, inr, ⊎_elim, slice_set, length-drop}
+use Rattle.std.proofs.Common.{◌≡◌, ℕ, ◌+◌, ◌<◌, ◌≤◌, ◌⊎◌, List, [], ◌∷◌, ◌++◌, length, take, map, Option, Some, refl, sym, ◌∙◌, ap, subst, arith, inl, ⊎_elim, slice_set, length-drop}
 use Rattle.std.specs.List.{slice_get, AllByRecursion}
 use Rattle.b67_word.specs.Common.{Tagged, word, contents, number}
 use Rattle.b67_core.proofs.Writes.{slice_get-set_same, slice_get-set_other}
 use Rattle.b67_codefile.specs.Spelling.{HasTag}
 use Rattle.b67_backing.specs.Shelf.{Shelf, IsShelf, first, taken}
-use Rattle.b67_backing.specs.Held.{Changes, SameBut, Stores, Fills, sectors_for}
+use Rattle.b67_backing.specs.Held.{Changes, SameBut, Stores, sectors_for}
 use Rattle.b67_backing.proofs.News.{first_take}
 use Rattle.b67_lemmas.specs.Lists.{Has}
 use Rattle.b67_lemmas.proofs.Members.{has_append_cases, total_append}
 use Rattle.b67_stack.specs.Common.{PagedObject, object_words, home_word, at_rest}
 use Rattle.b67_load.specs.Objects.{object_sectors, sectors_of_objects}
-use Rattle.b67_load.specs.StoredObjects.{StoredObject, placed, stocked, descriptor, DescriptorsStand, WordsRest, WritesFreeSectors, SameOutside}
+use Rattle.b67_load.specs.StoredObjects.{placed, stocked, descriptor, DescriptorsStand, WordsRest, WritesFreeSectors, SameOutside}
 use Rattle.b67_load.specs.Writing.{Parts, Spares, Writes}
-use Rattle.b67_load.proofs.Shelves.{keeps_taken, keeps-refl, keeps_both, stocked-append, placed-append, stocked_has, placed_chain, placed_object, holds_stay, chain_apart, times-take_drop, none_more}
+use Rattle.b67_load.proofs.Shelves.{keeps_taken, keeps_both, stocked-append, placed-append, stocked_has, placed_chain, placed_object, holds_stay, chain_apart, times-take_drop, none_more}
 
 same_but_both : (ms ns : List ℕ) (a b c : List (List ℕ)) → ((m : ℕ) → Has ns m → Has ms m) → SameBut ms a b → SameBut ns b c → SameBut ms a c
 same_but_both ms ns a b c more s t = record { count = t.count ∙ s.count; others = λ m low out. t.others m low (none_more ms ns m (more m) out) ∙ s.others m low out }
@@ -21,9 +21,7 @@ same_but_both ms ns a b c more s t = record { count = t.count ∙ s.count; other
 -- the words of a list with one tag are those of their bits
 pub words_back : (tag : ℕ) (ws : List Tagged) → AllByRecursion (HasTag tag) ws → map (word tag) (contents ws) ≡ ws
 words_back tag [] h = refl
-words_back tag (w ∷ ws) h = cc2 (ap (λ (n : ℕ). word n w.bits) (sym h.0.tagged)) (words_back tag ws h.1) where
-  cc2 : word tag w.bits ≡ w → map (word tag) (contents ws) ≡ ws → word tag w.bits ∷ map (word tag) (contents ws) ≡ w ∷ ws
-  cc2 e f = cc
+words_back tag (w ∷ ws) h = grind (arith, words_back tag ws h.1)
 
 -- a word that was written to core
 pub word_set : (core new : List Tagged) (at : ℕ) (w v : Tagged) → at < length core → new ≡ slice_set core at w → w ≡ v → slice_get new at ≡ Some v
@@ -34,13 +32,7 @@ outside_set core new at w e i h = ap (λ (c : List Tagged). slice_get c i) e ∙
 
 module _ {D : Type 0} (tell : D → Option (List (List ℕ))) where
   pub spares-refl : (at n : ℕ) (a : Parts D) → Spares tell at n a a
-  spares-refl at n a = record {
-    outside = λ i h. refl;
-    len = refl;
-    links = refl;
-    chains = λ s is. (s, is, keeps-refl s);
-    others = λ s is. record { told = λ x e. (x, e, record { count = refl; others = λ m low out. refl }) };
-  }
+  spares-refl at n a = grind arith
 
   pub spares_both : (at n : ℕ) (a b c : Parts D) → Spares tell at n a b → Spares tell at n b c → Spares tell at n a c
   spares_both at n a b c s t = record {
@@ -61,13 +53,7 @@ module _ {D : Type 0} (tell : D → Option (List (List ℕ))) where
   }
 
   pub spares_wider : (at n from upto : ℕ) (a b : Parts D) → from ≤ at → at + n ≤ from + upto → Spares tell at n a b → Spares tell from upto a b
-  spares_wider at n from upto a b low high s = record {
-    outside = λ i h. s.outside i (⊎_elim (λ (l : i < from). inl (omega arith)) (λ (l : from + upto ≤ i). inr (omega arith)) h);
-    len = s.len;
-    links = s.links;
-    chains = s.chains;
-    others = s.others;
-  }
+  spares_wider at n from upto a b low high s = grind arith
 
   -- one object's chain is taken, and maybe a word of core written
   pub spares_taken : (at n : ℕ) (a b : Parts D) → SameOutside at (at + 1) a.core b.core → length b.core ≡ length a.core → length b.table.links ≡ length a.table.links
@@ -75,25 +61,10 @@ module _ {D : Type 0} (tell : D → Option (List (List ℕ))) where
       → ((s : Shelf) → IsShelf a.table s → IsShelf b.table (taken n s))
       → ((s : Shelf) → IsShelf a.table s → Changes tell a.device b.device (SameBut (take n s.free)))
       → Spares tell at 1 a b
-  spares_taken at n a b out len links some fits shelf others = record {
-    outside = out;
-    len = len;
-    links = links;
-    chains = λ s is. (taken n s, shelf s is, keeps_taken a.table s n is some (omega (arith, is.count)));
-    others = λ s is. record {
-      told = λ x e.
-          let (y, told, one) = (others s is).told x e in
-          (y, told, record { count = one.count; others = λ m low out. one.others m low (omega (arith, out, times-take_drop m n s.free)) });
-    };
-  }
+  spares_taken at n a b out len links some fits shelf others = grind (arith, keeps_taken, times-take_drop)
 
   pub writes_none : (a : Parts D) → Writes tell [] a a
-  writes_none a = record {
-    shelf = λ s is. is;
-    descriptors = λ s is r h. absurd h;
-    stocks = λ s is. record { told = λ x e. (x, e, record { same = record { count = refl; others = λ m low out. refl }; rest = λ r h. absurd h }) };
-    left = omega arith;
-  }
+  writes_none a = grind arith
 
   -- one object is written
   pub writes_one : (t : PagedObject) (a b : Parts D)
@@ -102,22 +73,7 @@ module _ {D : Type 0} (tell : D → Option (List (List ℕ))) where
       → ((s : Shelf) → IsShelf a.table s → Changes tell a.device b.device (Stores (take (object_sectors t) s.free) (map number (object_words t))))
       → b.table.free + object_sectors t ≡ a.table.free
       → Writes tell (t ∷ []) a b
-  writes_one t a b shelf desc stores left = record {
-    shelf = shelf;
-    descriptors = λ s is r h. ⊎_elim (λ e. subst (λ (q : StoredObject). slice_get b.core q.object.home ≡ Some (descriptor q)) e (desc s is)) (λ k. absurd k) h;
-    stocks = λ s is. record {
-      told = λ x e.
-          let (y, told, one) = (stores s is).told x e in (
-            y,
-            told,
-            record {
-              same = record { count = one.same.count; others = λ m low out. one.same.others m low (omega (arith, out, times-take_drop m (object_sectors t) s.free)) };
-              rest = λ r h. ⊎_elim (λ e. subst (λ (q : StoredObject). Fills y q.chain 0 (map number (object_words q.object))) e one.holds) (λ k. absurd k) h;
-            },
-          );
-    };
-    left = omega (arith, left);
-  }
+  writes_one t a b shelf desc stores left = grind (arith, times-take_drop)
 
   -- an object whose words were put on a shelf, and its descriptor into core
   pub written : (t : PagedObject) (ws : List Tagged) (x : ℕ) (a b : Parts D) → (s : Shelf) × IsShelf a.table s

@@ -28,13 +28,7 @@ refusal number place rule = record { segment = number; place = place; rule = rul
 
 pub first_refused : (number : ℕ) (place : Place) (rules : List (ℕ × Bool)) → slice_get (refused number place rules) 0 ≡ option_map (refusal number place) (first_broken rules)
 first_refused number place [] = refl
-first_refused number place (r ∷ rules) = at_test r.1 (first_refused number place rules)
-  where
-    at_test : (b : Bool) → slice_get (refused number place rules) 0 ≡ option_map (refusal number place) (first_broken rules)
-        → slice_get (map (λ t. refusal number place t.0) (cond b (r ∷ filter (λ t. t.1) rules) (filter (λ t. t.1) rules))) 0
-        ≡ option_map (refusal number place) (option_map (λ t. t.0) (cond b (Some r) (find (λ t. t.1) rules)))
-    at_test true h = refl
-    at_test false h = h
+first_refused number place (r ∷ rules) = grind (arith, first_refused number place rules)
 
 nothing_first : {X : Type 0} (xs : List X) → slice_get xs 0 ≡ None → xs ≡ []
 nothing_first [] e = refl
@@ -61,10 +55,7 @@ rules_at-level l e none first =
 -- the refusals of a listing, one entry later
 refusals-step : (l : Listed) (entries : List Entry) (i : ℕ) (d : Entry) → i < length entries
     → refusals_of l (map seen (drop i entries)) ≡ refused l.number (get_or entries i d).place (rules_at l (seen (get_or entries i d))) ++ refusals_of l (map seen (drop (i + 1) entries))
-refusals-step l entries i d lt =
-    let e : Entry = get_or entries i d in
-    let one : drop i entries ≡ e ∷ drop (i + 1) entries = drop_more entries i d lt in
-    rw one (ap (λ (p : Place). refused l.number p (rules_at l (seen e)) ++ refusals_of l (map seen (drop (i + 1) entries))) (place_of-seen e))
+refusals-step l entries i d lt = grind (arith, drop_more)
 
 -- what is refused of the entries from here on is what is refused of all
 pub record Remains (l : Listed) (entries rest : List loader.Entry) : Type 0 where
@@ -140,9 +131,7 @@ refusals_at f n s = refusals_of (listed_at f n s) (listing (contents s.code)) ++
 
 segments-step : (f : Codefile) (n i : ℕ) (segments : List Segment) (s : Segment) → i < length segments → s ≡ get_or segments i s
     → refusals_from (program_of f) n (map segment_of (drop i segments)) ≡ refusals_at f n s ++ refusals_from (program_of f) (n + 1) (map segment_of (drop (i + 1) segments))
-segments-step f n i segments s lt is =
-    let one : drop i segments ≡ s ∷ drop (i + 1) segments = rw (drop_more segments i s lt, ← is) refl in
-    rw one refl
+segments-step f n i segments s lt is = grind (arith, drop_more)
 
 pub segments-go_on : (f : Codefile) (n i : ℕ) (segments : List Segment) (s : Segment) → i < length segments → s ≡ get_or segments i s → refusals_at f n s ≡ []
     → Segments (program_of f) n (drop i segments) → Segments (program_of f) (n + 1) (drop (i + 1) segments)
@@ -152,11 +141,7 @@ segments-go_on f n i segments s lt is none h =
 -- what is first of a segment is first of it and of the segments after it
 first_finds : (X Y : Type 0) (e : LoadFault) (p : Program) (l : Listed) (more : List state.Segment) → FindsFirst {X = X} (Err e) (refusals_of l l.entries ++ wrong_entries l l.segment.entries)
     → FindsFirst {X = Y} (Err e) ((refusals_of l l.entries ++ wrong_entries l l.segment.entries) ++ refusals_from p (l.number + 1) more)
-first_finds X Y (Refused segment place reason) p l more h =
-    let r : Refusal = record { segment = segment; place = place; rule = reason } in
-    let own : segment ≡ l.number = has_all (InSegment l.number) _ r (own-segment l) h.among in
-    first_before _ _ r h (all_by (λ b. l.number + 1 ≤ b.segment) (ComesBefore r) (λ b le. inl (omega (arith, le, own))) _ (segments-later p (l.number + 1) more))
-first_finds X Y Memory p l more h = tt
+first_finds X Y e p l more h = grind (arith, has_all, own-segment, first_before, all_by, segments-later)
 
 pub segments-refuse : (X Y : Type 0) (f : Codefile) (n i : ℕ) (segments : List Segment) (s : Segment) (e : LoadFault) → i < length segments → s ≡ get_or segments i s → FindsFirst {X = X} (Err e) (refusals_at f n s)
     → Segments (program_of f) n (drop i segments) → FindsFirst {X = Y} (Err e) (refusals (program_of f))

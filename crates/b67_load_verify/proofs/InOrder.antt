@@ -36,20 +36,11 @@ pub record IsOf (number : ℕ) (place : Place) (r : Refusal) : Type 0 where
 
 refused-of : (number : ℕ) (place : Place) (rules : List (ℕ × Bool)) → AllByRecursion (IsOf number place) (refused number place rules)
 refused-of number place [] = tt
-refused-of number place (t ∷ ts) = at_test t.1 (refused-of number place ts)
-  where
-    at_test : (b : Bool) → AllByRecursion (IsOf number place) (refused number place ts) → AllByRecursion (IsOf number place) (map (λ u. record { segment = number; place = place; rule = u.0 }) (cond b (t ∷ filter (λ u. u.1) ts) (filter (λ u. u.1) ts)))
-    at_test true h = (record { in_segment = refl; at_place = refl }, h)
-    at_test false h = h
+refused-of number place (t ∷ ts) = grind (arith, refused-of number place ts)
 
 refused-above : (number : ℕ) (place : Place) (rule : ℕ) (rules : List (ℕ × Bool)) → AllByRecursion (λ t. rule < t.0) rules → AllByRecursion (ComesBefore (record { segment = number; place = place; rule = rule })) (refused number place rules)
 refused-above number place rule [] h = tt
-refused-above number place rule (t ∷ ts) h = at_test t.1 h.0 (refused-above number place rule ts h.1)
-  where
-    at_test : (b : Bool) → rule < t.0 → AllByRecursion (ComesBefore (record { segment = number; place = place; rule = rule })) (refused number place ts)
-        → AllByRecursion (ComesBefore (record { segment = number; place = place; rule = rule })) (map (λ u. record { segment = number; place = place; rule = u.0 }) (cond b (t ∷ filter (λ u. u.1) ts) (filter (λ u. u.1) ts)))
-    at_test true lt h = (inr (refl, inr (refl, lt)), h)
-    at_test false lt h = h
+refused-above number place rule (t ∷ ts) h = grind (arith, refused-above number place rule ts h.1)
 
 refused-in_order : (number : ℕ) (place : Place) (rules : List (ℕ × Bool)) → Rising rules → InOrder (refused number place rules)
 refused-in_order number place [] h = tt
@@ -61,14 +52,10 @@ refused-in_order number place (t ∷ ts) h = at_test t.1 (refused-above number p
     at_test false above h = h
 
 first_or_not : (b : Bool) (xs ys : List (ℕ × Bool)) → Rising xs → Rising ys → Rising (cond b xs ys)
-first_or_not true xs ys x y = x
-first_or_not false xs ys x y = y
+first_or_not b xs ys x y = grind arith
 
 rules_at-rising : (l : Listed) (e : Entry) → Rising (rules_at l e)
-rules_at-rising l (Break place NotAdmitted) = first_or_not (same_place place origin) _ _ ((lit< tt, (lit< tt, tt)), ((lit< tt, tt), (tt, tt))) (tt, tt)
-rules_at-rising l (Break place PastEnd) = first_or_not (same_place place origin) _ _ ((lit< tt, (lit< tt, tt)), ((lit< tt, tt), (tt, tt))) (tt, tt)
-rules_at-rising l (Break place BadPlace) = first_or_not (same_place place origin) _ _ ((lit< tt, tt), (tt, tt)) tt
-rules_at-rising l (At place op) = first_or_not (same_place place origin) _ _ ((lit< tt, (lit< tt, (lit< tt, (lit< tt, (lit< tt, (lit< tt, (lit< tt, tt))))))), ((lit< tt, (lit< tt, (lit< tt, (lit< tt, (lit< tt, (lit< tt, tt)))))), ((lit< tt, (lit< tt, (lit< tt, (lit< tt, (lit< tt, tt))))), ((lit< tt, (lit< tt, (lit< tt, (lit< tt, tt)))), ((lit< tt, (lit< tt, (lit< tt, tt))), ((lit< tt, (lit< tt, tt)), ((lit< tt, tt), (tt, tt)))))))) ((lit< tt, (lit< tt, (lit< tt, (lit< tt, (lit< tt, tt))))), ((lit< tt, (lit< tt, (lit< tt, (lit< tt, tt)))), ((lit< tt, (lit< tt, (lit< tt, tt))), ((lit< tt, (lit< tt, tt)), ((lit< tt, tt), (tt, tt))))))
+rules_at-rising l e = grind arith
 
 -- ---- the places of a segment
 
@@ -99,10 +86,7 @@ abbrev IsSound : Entry → Type 0
 IsSound e = (place_of_entry e).syllable < 6
 
 before-count : (a b : Place) → a.syllable < 6 → b.syllable < 6 → count_at a < count_at b → StandsBefore a b
-before-count a b sa sb lt = elim (cases_lt a.word b.word) [
-  | inl less ↦ inl less
-  | inr le ↦ inr (omega arith, omega arith)
-]
+before-count a b sa sb lt = grind arith
 
 of-from : (number : ℕ) (place : Place) → place.syllable < 6 → (r : Refusal) → IsOf number place r → IsFrom number (count_at place) r
 of-from number place sound r h = record { segment = h.in_segment; count = rw h.at_place (le_refl (count_at place)); syllable = rw h.at_place sound }
@@ -119,10 +103,7 @@ refusals_of-from l n (e ∷ more) h sound =
     all_append (IsFrom l.number n) _ _ here (all_by (IsFrom l.number (suc at)) (IsFrom l.number n) (λ r o. from-lower l.number n (suc at) (omega (arith, h.0)) r o) _ there)
 
 of-before : (number : ℕ) (place : Place) → place.syllable < 6 → (a b : Refusal) → IsOf number place a → IsFrom number (suc (count_at place)) b → ComesBefore a b
-of-before number place sound a b p q =
-    let at : a.place ≡ place = p.at_place in
-    let lt : count_at a.place < count_at b.place = rw at (omega (arith, q.count)) in
-    inr (p.in_segment ∙ sym q.segment, inl (before-count a.place b.place (rw at sound) q.syllable lt))
+of-before number place sound a b p q = grind arith
 
 refusals_of-in_order : (l : Listed) (n : ℕ) (entries : List Entry) → Climb n entries → AllByRecursion IsSound entries → InOrder (refusals_of l entries)
 refusals_of-in_order l n [] h sound = tt
@@ -148,10 +129,7 @@ rule_11 l bits = (11, not (is_start l.entries (place_of_bits bits))) ∷ []
 
 wrong-from : (l : Listed) (before : ℕ) (entries : List ℕ) → EntriesRise before entries → AllByRecursion (IsFrom l.number (suc before)) (wrong_entries l entries)
 wrong-from l before [] rise = tt
-wrong-from l before (bits ∷ more) rise =
-    let here = all_by (IsOf l.number (place_of_bits bits)) (IsFrom l.number (suc before)) (λ r o. from-lower l.number (suc before) (entry_count bits) (omega (arith, rise.0.later)) r (of-from l.number (place_of_bits bits) rise.0.syllable r o)) _ (refused-of l.number (place_of_bits bits) (rule_11 l bits)) in
-    let there = wrong-from l (entry_count bits) more rise.1 in
-    all_append (IsFrom l.number (suc before)) _ _ here (all_by (IsFrom l.number (suc (entry_count bits))) (IsFrom l.number (suc before)) (λ r o. from-lower l.number (suc before) (suc (entry_count bits)) (omega (arith, rise.0.later)) r o) _ there)
+wrong-from l before (bits ∷ more) rise = grind (arith, all_by, wrong-from l (entry_count bits) more rise.1)
 
 pub wrong-in_order : (l : Listed) (before : ℕ) (entries : List ℕ) → EntriesRise before entries → InOrder (wrong_entries l entries)
 wrong-in_order l before [] rise = tt
@@ -170,21 +148,13 @@ AreLow rules = AllByRecursion (λ (t : ℕ × Bool). t.0 < 11) rules
 
 refused-low : (number : ℕ) (place : Place) (rules : List (ℕ × Bool)) → AreLow rules → AllByRecursion IsLow (refused number place rules)
 refused-low number place [] h = tt
-refused-low number place (t ∷ ts) h = at_test t.1 h.0 (refused-low number place ts h.1)
-  where
-    at_test : (b : Bool) → t.0 < 11 → AllByRecursion IsLow (refused number place ts) → AllByRecursion IsLow (map (λ u. record { segment = number; place = place; rule = u.0 }) (cond b (t ∷ filter (λ u. u.1) ts) (filter (λ u. u.1) ts)))
-    at_test true lt h = (lt, h)
-    at_test false lt h = h
+refused-low number place (t ∷ ts) h = grind (arith, refused-low number place ts h.1)
 
 either_low : (b : Bool) (xs ys : List (ℕ × Bool)) → AreLow xs → AreLow ys → AreLow (cond b xs ys)
-either_low true xs ys x y = x
-either_low false xs ys x y = y
+either_low b xs ys x y = grind arith
 
 rules_at-low : (l : Listed) (e : Entry) → AreLow (rules_at l e)
-rules_at-low l (Break place NotAdmitted) = either_low (same_place place origin) _ _ (lit< tt, (lit< tt, (lit< tt, tt))) (lit< tt, tt)
-rules_at-low l (Break place PastEnd) = either_low (same_place place origin) _ _ (lit< tt, (lit< tt, (lit< tt, tt))) (lit< tt, tt)
-rules_at-low l (Break place BadPlace) = either_low (same_place place origin) _ _ (lit< tt, (lit< tt, tt)) tt
-rules_at-low l (At place op) = either_low (same_place place origin) _ _ (lit< tt, (lit< tt, (lit< tt, (lit< tt, (lit< tt, (lit< tt, (lit< tt, (lit< tt, tt)))))))) (lit< tt, (lit< tt, (lit< tt, (lit< tt, (lit< tt, (lit< tt, tt))))))
+rules_at-low l e = grind arith
 
 pub listing-low : (l : Listed) (entries : List Entry) → AllByRecursion IsLow (refusals_of l entries)
 listing-low l [] = tt
@@ -200,8 +170,7 @@ listing-segment l (e ∷ more) =
 
 wrong-segment : (l : Listed) (entries : List ℕ) → AllByRecursion (InSegment l.number) (wrong_entries l entries)
 wrong-segment l [] = tt
-wrong-segment l (bits ∷ more) =
-    all_append (InSegment l.number) _ _ (all_by (IsOf l.number (place_of_bits bits)) (InSegment l.number) (λ r o. o.in_segment) _ (refused-of l.number (place_of_bits bits) (rule_11 l bits))) (wrong-segment l more)
+wrong-segment l (bits ∷ more) = grind (arith, wrong-segment l more)
 
 pub own-segment : (l : Listed) → AllByRecursion (InSegment l.number) (refusals_of l l.entries ++ wrong_entries l l.segment.entries)
 own-segment l = all_append (InSegment l.number) (refusals_of l l.entries) (wrong_entries l l.segment.entries) (listing-segment l l.entries) (wrong-segment l l.segment.entries)

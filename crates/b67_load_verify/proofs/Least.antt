@@ -28,114 +28,32 @@ place_is a b w s = λ i. record { word = w i; syllable = s i }
 
 -- one place stands before another, or is it, or stands after it
 places : (a b : Place) → ((stands_before a b ≡ true) × StandsBefore a b) ⊎ ((stands_before a b ≡ false) × ((a ≡ b) ⊎ StandsBefore b a))
-places a b = elim (cases_lt a.word b.word) [
-  | inl lt ↦ inl (rw (lt-ltb a.word b.word lt) refl, inl lt)
-  | inr le ↦ elim (eqb_tells a.word b.word) [
-    | inl w ↦ elim (cases_lt a.syllable b.syllable) [
-      | inl s ↦ inl (rw (le-ltb a.word b.word le, w.0, lt-ltb a.syllable b.syllable s) refl, inr (w.1, s))
-      | inr s ↦ inr (rw (le-ltb a.word b.word le, w.0, le-ltb a.syllable b.syllable s) refl, equal w.1 (eqb_tells a.syllable b.syllable) s)
-    ]
-    | inr w ↦ inr (rw (le-ltb a.word b.word le, w.0) refl, inr (inl (more w.1 le)))
-  ]
-]
-  where
-    more : (a.word ≡ b.word → ⊥) → b.word ≤ a.word → b.word < a.word
-    more ne le = omega (arith, ne, le)
-
-    equal : a.word ≡ b.word → ((eqb a.syllable b.syllable ≡ true) × (a.syllable ≡ b.syllable)) ⊎ ((eqb a.syllable b.syllable ≡ false) × (a.syllable ≡ b.syllable → ⊥)) → b.syllable ≤ a.syllable → (a ≡ b) ⊎ StandsBefore b a
-    equal w (inl s) le = inl (place_is a b w s.1)
-    equal w (inr s) le = inr (inr (sym w, later s.1 le))
-      where
-        later : (a.syllable ≡ b.syllable → ⊥) → b.syllable ≤ a.syllable → b.syllable < a.syllable
-        later ne le = omega (arith, ne, le)
+places a b = grind arith
 
 stands_true : (a b : Place) → StandsBefore a b → stands_before a b ≡ true
-stands_true a b (inl lt) = rw (lt-ltb a.word b.word lt) refl
-stands_true a b (inr (w, s)) = rw (eq-eqb a.word b.word w, lt-ltb a.syllable b.syllable s) (or_true (ltb a.word b.word))
-  where
-    or_true : (b : Bool) → (b || true) ≡ true
-    or_true true = refl
-    or_true false = refl
+stands_true a b h = grind arith
 
 stands_then : (a b c : Place) → StandsBefore a b → StandsBefore b c → StandsBefore a c
-stands_then a b c (inl p) (inl q) = inl (omega (arith, p, q))
-stands_then a b c (inl p) (inr q) = inl (omega (arith, p, q.0))
-stands_then a b c (inr p) (inl q) = inl (omega (arith, p.0, q))
-stands_then a b c (inr p) (inr q) = inr (p.0 ∙ q.0, omega (arith, p.1, q.1))
+stands_then a b c h e = grind arith
 
 stands_not : (a : Place) → StandsBefore a a → ⊥
-stands_not a (inl p) = omega (arith, p)
-stands_not a (inr p) = omega (arith, p.1)
+stands_not a h = grind arith
 
 pub comes_then : (a b c : Refusal) → ComesBefore a b → ComesBefore b c → ComesBefore a c
-comes_then a b c (inl p) (inl q) = inl (omega (arith, p, q))
-comes_then a b c (inl p) (inr q) = inl (omega (arith, p, q.0))
-comes_then a b c (inr p) (inl q) = inl (omega (arith, p.0, q))
-comes_then a b c (inr p) (inr q) = inr (p.0 ∙ q.0, inner p.1 q.1)
-  where
-    inner : StandsBefore a.place b.place ⊎ ((a.place ≡ b.place) × (a.rule < b.rule)) → StandsBefore b.place c.place ⊎ ((b.place ≡ c.place) × (b.rule < c.rule))
-        → StandsBefore a.place c.place ⊎ ((a.place ≡ c.place) × (a.rule < c.rule))
-    inner (inl x) (inl y) = inl (stands_then a.place b.place c.place x y)
-    inner (inl x) (inr y) = inl (subst (StandsBefore a.place) y.0 x)
-    inner (inr x) (inl y) = inl (subst (λ (q : Place). StandsBefore q c.place) (sym x.0) y)
-    inner (inr x) (inr y) = inr (x.0 ∙ y.0, omega (arith, x.1, y.1))
+comes_then a b c h e = grind arith
 
 comes_not : (a : Refusal) → ComesBefore a a → ⊥
-comes_not a (inl p) = omega (arith, p)
-comes_not a (inr (e, inl p)) = stands_not a.place p
-comes_not a (inr (e, inr p)) = omega (arith, p.1)
+comes_not a h = grind arith
 
 comes_true : (a b : Refusal) → ComesBefore a b → comes_before a b ≡ true
-comes_true a b (inl lt) = rw (lt-ltb a.segment b.segment lt) refl
-comes_true a b (inr (e, rest)) = rw (eq-eqb a.segment b.segment e, inner rest) (or_true (ltb a.segment b.segment))
-  where
-    or_true : (b : Bool) → (b || true) ≡ true
-    or_true true = refl
-    or_true false = refl
-
-    same : (p q : Place) → p ≡ q → same_place p q ≡ true
-    same p q e = rw (eq-eqb p.word q.word (ap (λ (x : Place). x.word) e), eq-eqb p.syllable q.syllable (ap (λ (x : Place). x.syllable) e)) refl
-
-    inner : StandsBefore a.place b.place ⊎ ((a.place ≡ b.place) × (a.rule < b.rule)) → (stands_before a.place b.place || (same_place a.place b.place && ltb a.rule b.rule)) ≡ true
-    inner (inl p) = rw (stands_true a.place b.place p) refl
-    inner (inr p) = rw (same a.place b.place p.0, lt-ltb a.rule b.rule p.1) (or_true (stands_before a.place b.place))
+comes_true a b h = grind (arith, lt-ltb, eq-eqb)
 
 -- what the test says is so
 stands_so : (a b : Place) → stands_before a b ≡ true → StandsBefore a b
-stands_so a b e = elim (places a b) [ inl p ↦ p.1 | inr p ↦ absurd (no (sym e ∙ p.0)) ]
-  where
-    no : true ≡ false → ⊥
-    no e = cc
+stands_so a b e = grind arith
 
 comes_so : (a b : Refusal) → comes_before a b ≡ true → ComesBefore a b
-comes_so a b e = elim (cases_Bool (ltb a.segment b.segment)) [
-  | inl t ↦ inl (ltb-true a.segment b.segment t)
-  | inr t ↦ elim (eqb_tells a.segment b.segment) [
-    | inl s ↦ inr (s.1, inner (rw (t, s.0) at e))
-    | inr s ↦ absurd (no (rw (t, s.0) at e))
-  ]
-]
-  where
-    no : false ≡ true → ⊥
-    no e = cc
-
-    same : (p q : Place) → same_place p q ≡ true → p ≡ q
-    same p q e = elim (eqb_tells p.word q.word) [
-      | inl w ↦ elim (eqb_tells p.syllable q.syllable) [
-        | inl s ↦ place_is p q w.1 s.1
-        | inr s ↦ absurd (no (rw (w.0, s.0) at e))
-      ]
-      | inr w ↦ absurd (no (rw w.0 at e))
-    ]
-
-    inner : (stands_before a.place b.place || (same_place a.place b.place && ltb a.rule b.rule)) ≡ true → StandsBefore a.place b.place ⊎ ((a.place ≡ b.place) × (a.rule < b.rule))
-    inner f = elim (cases_Bool (stands_before a.place b.place)) [
-      | inl t ↦ inl (stands_so a.place b.place t)
-      | inr t ↦ elim (cases_Bool (same_place a.place b.place)) [
-        | inl s ↦ inr (same a.place b.place s, ltb-true a.rule b.rule (rw (t, s) at f))
-        | inr s ↦ absurd (no (rw (t, s) at f))
-      ]
-    ]
+comes_so a b e = grind (arith, ltb-true, eqb_tells)
 
 -- where a comes before b or is it, b doesn't come before a
 comes_false : (a b : Refusal) → (b ≡ a) ⊎ ComesBefore a b → comes_before b a ≡ false
@@ -163,11 +81,7 @@ some_is : (a b : Refusal) → Some a ≡ Some b → a ≡ b
 some_is a b e = cc
 
 sooner_has : (x r : Refusal) (rs : List Refusal) (o : Option Refusal) → ((s : Refusal) → o ≡ Some s → Has rs s) → sooner x o ≡ r → Has (x ∷ rs) r
-sooner_has x r rs None more e = inl e
-sooner_has x r rs (Some s) more e = elim (cases_Bool (comes_before s x)) [
-  | inl t ↦ let is : s ≡ r = rw t at e in inr (more r (ap Some is))
-  | inr t ↦ inl (rw t at e)
-]
+sooner_has x r rs o more e = grind arith
 
 first_has : (rs : List Refusal) (r : Refusal) → first_of rs ≡ Some r → Has rs r
 first_has [] r e = cc
@@ -175,12 +89,10 @@ first_has (x ∷ rs) r e = sooner_has x r rs (first_of rs) (λ s is. first_has r
 
 -- x is the first, and comes before the first of the rest
 sooner_here : (x r : Refusal) (o : Option Refusal) → x ≡ r → ((s : Refusal) → o ≡ Some s → (s ≡ r) ⊎ ComesBefore r s) → sooner x o ≡ r
-sooner_here x r None e later = e
-sooner_here x r (Some s) e later = rw (subst (λ (y : Refusal). comes_before s y ≡ false) (sym e) (comes_false r s (later s refl))) e
+sooner_here x r o e later = grind (arith, comes_false)
 
 sooner_there : (x r : Refusal) → (x ≡ r) ⊎ ComesBefore r x → cond (comes_before r x) r x ≡ r
-sooner_there x r (inl e) = elim (cases_Bool (comes_before r x)) [ inl t ↦ rw t refl | inr t ↦ rw t e ]
-sooner_there x r (inr c) = rw (comes_true r x c) refl
+sooner_there x r h = grind (arith, comes_true)
 
 -- the least refusal of a list is the one that is reported
 pub first_unique : (rs : List Refusal) (r : Refusal) → IsFirst rs r → first_of rs ≡ Some r
@@ -193,9 +105,7 @@ first_unique (x ∷ rs) r h = elim h.among [
 -- the head of a list in order
 pub head_first : (rs : List Refusal) (r : Refusal) → InOrder rs → slice_get rs 0 ≡ Some r → IsFirst rs r
 head_first [] r h e = absurd cc
-head_first (x ∷ rs) r h e =
-    let same : x ≡ r = cc in
-    record { among = inl same; least = (inl same, all_by (ComesBefore x) (λ b. (b ≡ r) ⊎ ComesBefore r b) (λ b k. inr (subst (λ (a : Refusal). ComesBefore a b) same k)) rs h.0) }
+head_first (x ∷ rs) r h e = grind (arith, all_by)
 
 nothing_first : {X : Type 0} (xs : List X) → slice_get xs 0 ≡ None → xs ≡ []
 nothing_first [] e = refl
@@ -256,19 +166,12 @@ pub told : (f : Codefile) (number : ℕ) (s : Segment) (entries : List loader.En
     → slice_get (wrong_entries (listed f number s entries) s.entries) 0 ≡ option_map (λ place. refusal_at number (wrong_at place)) wrong
     → first ≡ earlier at_places wrong
     → Tells number first (refusals_of (listed f number s (listing (contents s.code))) (listing (contents s.code)) ++ wrong_entries (listed f number s (listing (contents s.code))) s.entries)
-told f number s entries at_places wrong first is rise p q e =
-    let l : Listed = listed f number s (listing (contents s.code)) in
-    subst (λ (o : Option Broken). Tells number o (refusals_of l l.entries ++ wrong_entries l s.entries)) (sym e)
-    (merged number (refusals_of l l.entries) (wrong_entries l s.entries) at_places wrong (listing-in_order l (contents s.code)) (wrong-in_order l 0 s.entries rise) (listing-low l l.entries)
-    (subst (λ (x : List loader.Entry). slice_get (refusals_of (listed f number s x) x) 0 ≡ option_map (refusal_at number) at_places) is p)
-    (subst (λ (x : List loader.Entry). slice_get (wrong_entries (listed f number s x) s.entries) 0 ≡ option_map (λ place. refusal_at number (wrong_at place)) wrong) is q))
+told f number s entries at_places wrong first is rise p q e = grind (arith, merged, listing-in_order, wrong-in_order, listing-low)
 
 -- ---- the whole
 
 pub finds : (X Y : Type 0) (fault : LoadFault) (refusals : List Refusal) → FindsFirst {X = X} (Err fault) refusals → Finds {X = Y} (Err fault) refusals
-finds X Y (Refused segment place reason) refusals h = first_unique refusals (record { segment = segment; place = place; rule = reason }) h
-finds X Y Memory refusals h = tt
+finds X Y fault refusals h = grind (arith, first_unique)
 
 pub tells_least : (X : Type 0) (fault : LoadFault) (refusals : List Refusal) → FindsFirst {X = X} (Err fault) refusals → TellsLeast fault refusals
-tells_least X (Refused segment place reason) refusals h = h.least
-tells_least X Memory refusals h = tt
+tells_least X fault refusals h = grind arith

@@ -63,8 +63,7 @@ pub record IsRead (code : List ℕ) (e : Entry) : Type 0 where
   pub couples : CouplesFit e
 
 is_read : (code : List ℕ) (at : Place) (read : Result Op Undecodable) → IsPlaceIn code at → CouplesFit (entry_of_read at read) → IsRead code (entry_of_read at read)
-is_read code at (Ok op) inside couples = record { inside = record { word = inside.word; syllable = inside.syllable }; couples = couples }
-is_read code at (Err why) inside couples = record { inside = record { word = inside.word; syllable = inside.syllable }; couples = couples }
+is_read code at read inside couples = grind arith
 
 entries_from-read : (n : ℕ) (code : List ℕ) (at : Place) (read : Reading) → operator_at code at ≡ read → AllByRecursion (IsRead code) (entries_from n code at read)
 entries_from-read zero code at read e = tt
@@ -89,8 +88,7 @@ pub words-smaller : (code : List Tagged) (at : Place) (op : Op) (next : Place) �
 words-smaller code at op next e =
     let is = operator_at-is (contents code) at (op, next) e in
     let inside = inside-count (contents code) at (operator_at-inside (contents code) at (Ok (op, next)) (λ x. absurd cc) e) in
-    let len : length (contents code) ≡ length code = length-map code (λ w. w.bits) in
-    omega (arith, is.after, inside, len)
+    grind (arith, length-map)
 
 pub words-inside : (code : List Tagged) (entries : List Entry) → entries ≡ listing (contents code) → AllByRecursion (IsInside (length code)) entries
 words-inside code entries e = subst (λ (n : ℕ). AllByRecursion (IsInside n) entries) (length-map code (λ w. w.bits)) (listing-inside (contents code) entries e)

@@ -14,8 +14,7 @@ use Rattle.b67_load_verify.specs.Listing.{CoupleFits}
 
 -- a value behind a test that did not fail
 test_ok : {A : Type 0} (b : Bool) (d : Undecodable) (r : Result A Undecodable) (y : A) → cond b r (Err d) ≡ Ok y → (b ≡ true) × (r ≡ Ok y)
-test_ok true d r y e = (refl, e)
-test_ok false d r y e = absurd cc
+test_ok b d r y e = grind arith
 
 abbrev done : Op × Place → Reading
 done x = Ok x
@@ -33,10 +32,7 @@ pub record Ends (code : List ℕ) (n : ℕ) (op : Op) (read : Op × Place) : Typ
   pub syllable : read.1.syllable < 6
 
 ends_at-is : (code : List ℕ) (n end : ℕ) (op : Op) (read : Op × Place) → n < end → ends_at code end op ≡ Ok read → Ends code n op read
-ends_at-is code n end op read lt e =
-    let t = test_ok (leb end (6 * length code)) PastEnd (done (op, place_at end)) read e in
-    let same : (op, place_at end) ≡ read = ok_is (op, place_at end) read t.1 in
-    subst (λ (r : Op × Place). Ends code n op r) same (record { is = refl; after = rw (count_at-place_at end) lt; syllable = omega arith })
+ends_at-is code n end op read lt e = grind arith
 
 -- ---- couples have 14 bits
 
@@ -53,11 +49,7 @@ AnyFits (Some form) = FormFits form
 
 form_in-fits : (rows : List (ℕ × Form)) (first : ℕ) → AllByRecursion (λ row. FormFits row.1) rows → AnyFits (form_in rows first)
 form_in-fits [] first h = tt
-form_in-fits (row ∷ rows) first h = at_test (eqb row.0 first) h.0 (form_in-fits rows first h.1)
-  where
-    at_test : (b : Bool) → FormFits row.1 → AnyFits (form_in rows first) → AnyFits (cond b (Some row.1) (form_in rows first))
-    at_test true here there = here
-    at_test false here there = there
+form_in-fits (row ∷ rows) first h = grind (arith, form_in-fits rows first h.1)
 
 operators_fit : AllByRecursion (λ row. FormFits row.1) operators
 operators_fit = (tt, (tt, (tt, (tt, (tt, (tt, (tt, (tt, (tt, (tt, (tt, (tt, (tt, (tt, (tt, (tt, (tt, ((λ n lt. tt), ((λ a b. tt), ((λ a b. tt), ((λ n lt. tt), ((λ a b. tt), ((λ a b. tt), ((λ a b. tt), (tt, (tt, (tt, (tt, (tt, (tt, (tt, (tt, (tt, ((λ n lt. tt), ((λ a b. tt), (tt, (tt, (tt, (tt, (tt, (tt, (tt, ((λ n. tt), ((λ n. tt), (tt, (tt, tt))))))))))))))))))))))))))))))))))))))))))))))
@@ -85,11 +77,7 @@ fits : (code : List ℕ) (n : ℕ) (op : Op) (read : Op × Place) → CoupleFits
 fits code n op read h e = record { after = e.after; syllable = e.syllable; couple = subst CoupleFits (sym e.is) h }
 
 reads-is : (code : List ℕ) (n : ℕ) (form : Option Form) (read : Op × Place) → AnyFits form → reads code n form ≡ Ok read → IsOperator n read
-reads-is code n None read h e = absurd cc
-reads-is code n (Some (Alone op)) read h e = fits code n _ read tt (ends_at-is code n (n + 1) _ read (omega arith) e)
-reads-is code n (Some (OneMore op)) read h e = fits code n _ read (h (syllable code (n + 1)) (omega arith)) (ends_at-is code n (n + 2) _ read (omega arith) e)
-reads-is code n (Some (TwoMore op)) read h e = fits code n _ read (h (syllable code (n + 1)) (syllable code (n + 2))) (ends_at-is code n (n + 3) _ read (omega arith) e)
-reads-is code n (Some (Literal op)) read h e = fits code n _ read (h _) (ends_at-is code n (6 * (n / 6 + 2)) _ read (omega arith) e)
+reads-is code n form read h e = grind arith
 
 -- a place inside the code
 pub record IsPlaceIn (code : List ℕ) (at : Place) : Type 0 where
@@ -98,11 +86,7 @@ pub record IsPlaceIn (code : List ℕ) (at : Place) : Type 0 where
 
 -- anything but a bad place is read inside the code
 pub operator_at-inside : (code : List ℕ) (at : Place) (read : Reading) → (read ≡ Err BadPlace → ⊥) → operator_at code at ≡ read → IsPlaceIn code at
-operator_at-inside code at read other e = at_test (ltb at.syllable 6 && ltb at.word (length code)) refl e
-  where
-    at_test : (b : Bool) → (ltb at.syllable 6 && ltb at.word (length code)) ≡ b → cond b (reads code (count_at at) (form_of (syllable code (count_at at)))) (Err BadPlace) ≡ read → IsPlaceIn code at
-    at_test true t e = let both = and_parts _ _ t in record { word = ltb-true _ _ both.1; syllable = ltb-true _ _ both.0 }
-    at_test false t e = absurd (other (sym e))
+operator_at-inside code at read other e = grind (arith, ltb-true)
 
 pub operator_at-is : (code : List ℕ) (at : Place) (read : Op × Place) → operator_at code at ≡ Ok read → IsOperator (count_at at) read
 operator_at-is code at read e =
@@ -111,31 +95,13 @@ operator_at-is code at read e =
 
 -- inside the code something is read, or else an operator is not admitted or runs past the end
 ends_at-reads : (code : List ℕ) (end : ℕ) (op : Op) → ends_at code end op ≡ Err BadPlace → ⊥
-ends_at-reads code end op e = at_test (leb end (6 * length code)) e
-  where
-    at_test : (b : Bool) → cond b (done (op, place_at end)) (Err PastEnd) ≡ Err BadPlace → ⊥
-    at_test true e = cc
-    at_test false e = cc
+ends_at-reads code end op e = grind arith
 
 reads-inside : (code : List ℕ) (n : ℕ) (form : Option Form) → reads code n form ≡ Err BadPlace → ⊥
-reads-inside code n None e = cc
-reads-inside code n (Some (Alone op)) e = ends_at-reads code _ _ e
-reads-inside code n (Some (OneMore op)) e = ends_at-reads code _ _ e
-reads-inside code n (Some (TwoMore op)) e = ends_at-reads code _ _ e
-reads-inside code n (Some (Literal op)) e = ends_at-reads code _ _ e
+reads-inside code n form e = grind arith
 
 pub operator_at-reads : (code : List ℕ) (at : Place) (why : Undecodable) → IsPlaceIn code at → operator_at code at ≡ Err why → why ≡ BadPlace → ⊥
-operator_at-reads code at why inside e bad =
-    let w : ltb at.word (length code) ≡ true = lt-ltb _ _ inside.word in
-    let s : ltb at.syllable 6 ≡ true = lt-ltb _ _ inside.syllable in
-    reads-inside code (count_at at) (form_of (syllable code (count_at at))) (sym (rw (s, w) refl) ∙ e ∙ ap (λ (x : Undecodable). nothing x) bad)
-  where
-    nothing : Undecodable → Reading
-    nothing x = Err x
+operator_at-reads code at why inside e bad = grind (arith, lt-ltb, reads-inside)
 
 pub operator_at-outside : (code : List ℕ) (at : Place) → length code ≤ at.word → operator_at code at ≡ Err BadPlace
-operator_at-outside code at le = rw (le-ltb at.word (length code) le, and_false (ltb at.syllable 6)) refl
-  where
-    and_false : (b : Bool) → (b && false) ≡ false
-    and_false true = refl
-    and_false false = refl
+operator_at-outside code at le = grind (arith, le-ltb)

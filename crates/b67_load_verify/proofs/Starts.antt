@@ -15,8 +15,7 @@ use Rattle.b67_load_verify.specs.declared.entry.Entry.{Entry}
 use Rattle.b67_load_verify.specs.Listing.{entry_of_read, seen, IsInside, Marks}
 
 place_of-entry_at : (place : Place) (read : Result Op Undecodable) → place_of_entry (entry_of_read place read) ≡ place
-place_of-entry_at place (Ok op) = refl
-place_of-entry_at place (Err why) = refl
+place_of-entry_at place read = grind arith
 
 pub place_of-seen : (e : Entry) → place_of_entry (seen e) ≡ e.place
 place_of-seen e = place_of-entry_at e.place e.read
@@ -30,47 +29,14 @@ at_index P (x ∷ xs) (suc i) d lt h = at_index P xs i d (omega arith) h.1
 -- ---- marks
 
 same_place-count : (a b : Place) → a.syllable < 6 → b.syllable < 6 → same_place a b ≡ eqb (count_at a) (count_at b)
-same_place-count a b sa sb = elim (cases_eq (count_at a) (count_at b)) [
-  | inl e ↦
-      let w : a.word ≡ b.word = omega arith in
-      let s : a.syllable ≡ b.syllable = omega arith in
-      rw (eq-eqb (count_at a) (count_at b) e, eq-eqb a.word b.word w, eq-eqb a.syllable b.syllable s) refl
-  | inr ne ↦ rw (ne_eqb (count_at a) (count_at b) ne) (differ (cases_eq a.word b.word) (cases_eq a.syllable b.syllable) ne)
-]
-  where
-    differ : (a.word ≡ b.word) ⊎ (a.word ≡ b.word → ⊥) → (a.syllable ≡ b.syllable) ⊎ (a.syllable ≡ b.syllable → ⊥) → (count_at a ≡ count_at b → ⊥) → (eqb a.word b.word && eqb a.syllable b.syllable) ≡ false
-    differ (inr w) s ne = rw (ne_eqb a.word b.word w) refl
-    differ (inl w) (inr s) ne = rw (eq-eqb a.word b.word w, ne_eqb a.syllable b.syllable s) refl
-    differ (inl w) (inl s) ne = absurd (ne (omega arith))
+same_place-count a b sa sb = grind arith
 
 -- one mark more
 set-any : (starts : List Bool) (k j : ℕ) → k < length starts → get_or (set starts k true) j false ≡ (get_or starts j false || (eqb k j || false))
-set-any starts k j lt = elim (cases_eq j k) [
-  | inl e ↦
-      let t : eqb k j ≡ true = eq-eqb k j (sym e) in
-      rw (t, e, get_or-set_same starts k true false lt) (sym (or_true (get_or starts k false)))
-  | inr ne ↦
-      let f : eqb k j ≡ false = ne_eqb k j (λ e. ne (sym e)) in
-      rw (f, get_or-set_other starts k j true false ne) (sym (or_false (get_or starts j false)))
-]
-  where
-    or_true : (b : Bool) → (b || true) ≡ true
-    or_true true = refl
-    or_true false = refl
-
-    or_false : (b : Bool) → (b || false) ≡ b
-    or_false true = refl
-    or_false false = refl
+set-any starts k j lt = grind (arith, get_or-set_same, get_or-set_other)
 
 marks-push : (words : ℕ) (starts : List Bool) (entries : List loader.Entry) (e : loader.Entry) → length starts ≡ 6 * words → IsInside words e → Marks starts entries → Marks (set starts (count_at (place_of_entry e)) true) (entries ++ e ∷ [])
-marks-push words starts entries e len inside m = record {
-  at = λ place small.
-      let k : ℕ = count_at (place_of_entry e) in
-      let lt : count_at (place_of_entry e) < length starts = omega (arith, inside.word, inside.syllable) in
-      let before : get_or starts (count_at place) false ≡ is_start entries place = m.at place small in
-      let same : same_place (place_of_entry e) place ≡ eqb (count_at (place_of_entry e)) (count_at place) = same_place-count (place_of_entry e) place inside.syllable small in
-      set-any starts (count_at (place_of_entry e)) (count_at place) lt ∙ rw (list_any-append (λ x. same_place (place_of_entry x) place) entries (e ∷ []), before, ← same) refl;
-}
+marks-push words starts entries e len inside m = grind (arith, set-any, list_any-append)
 
 -- the marks of a loop over the entries
 pub record Marked (words : ℕ) (starts : List Bool) (entries : List loader.Entry) : Type 0 where
@@ -92,8 +58,7 @@ marked-more words starts entries i d lt all m =
 pub mark-within : (words : ℕ) (entries : List Entry) (i : ℕ) (d : Entry) (k room : ℕ) → i < length entries → AllByRecursion (IsInside words) (map seen entries) → room ≡ 6 * words → k ≡ count_at (get_or entries i d).place → k < room
 mark-within words entries i d k room lt all len is =
     let inside : IsInside words (seen (get_or entries i d)) = at_index (IsInside words) entries i d lt all in
-    let at : count_at (place_of_entry (seen (get_or entries i d))) ≡ count_at (get_or entries i d).place = ap count_at (place_of-seen (get_or entries i d)) in
-    omega (arith, inside.word, inside.syllable, at, len, is)
+    grind arith
 
 -- ---- the last entry
 
@@ -105,5 +70,4 @@ is_last-map (x ∷ y ∷ more) place =
     rw k (is_last-map (y ∷ more) place)
 
 pub last_found : (entries : List Entry) (listing : List loader.Entry) (place : Place) (e : Entry) → map seen entries ≡ listing → Some e ≡ slice_get entries (length entries - 1) → same_place e.place place ≡ is_last listing place
-last_found entries listing place e seen_is found =
-    ap (λ (o : Option Entry). option_map_or (λ x. same_place x.place place) o false) found ∙ sym (is_last-map entries place) ∙ ap (λ (x : List loader.Entry). is_last x place) seen_is
+last_found entries listing place e seen_is found = grind (arith, is_last-map)

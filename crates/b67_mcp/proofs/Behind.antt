@@ -1,21 +1,18 @@
 -- The place behind an operator that was read, and behind one of a single syllable.
-use Rattle.std.proofs.Common.{◌≡◌, ℕ, ◌+◌, ◌*◌, ◌/◌, ◌<◌, eqb, ltb, leb, ◌&&◌, Bool, true, false, cond, List, [], ◌∷◌, length, Option, Some, None, Ok, Err, inl, inr, refl, sym, ap, subst, arith}
-use Rattle.std.specs.List.{AllByRecursion, slice_index}
+use Rattle.std.proofs.Common.{◌≡◌, ℕ, ◌+◌, ◌*◌, ◌/◌, ◌<◌, ltb, ◌&&◌, Bool, true, false, cond, List, [], ◌∷◌, length, Option, Some, None, Ok, Err, inl, inr, refl, ap, subst, arith}
+use Rattle.std.specs.List.{AllByRecursion}
 use Rattle.std.proofs.lemmas.Bool.{cases_Bool, ltb-true, and_parts}
 use Rattle.b67_word.specs.declared.couples.Place.{Place}
 use Rattle.b67_ctl.specs.Layout.{IsPlace}
 use Rattle.b67_model.specs.declared.operators.Op.{Op}
 use Rattle.b67_model.specs.declared.operators.Op.TheVariants.{Plain}
 use Rattle.b67_model.specs.declared.operators.Code.{Code}
-use Rattle.b67_model.specs.declared.operators.Undecodable.TheVariants.{BadPlace, PastEnd}
+use Rattle.b67_model.specs.declared.operators.Undecodable.TheVariants.{BadPlace}
 use Rattle.b67_model.specs.Common.{Reading, Form, Alone, OneMore, TwoMore, Literal, operators, form_in, form_of, syllable, place_at, count_at, ends_at, reads, operator_at, reading_of, Task, JobConstants, SettingInOrder}
-use Rattle.b67_law_order.proofs.Readings.{ReadFits}
 use Rattle.b67_law_order.proofs.Segments.{reading_fits}
 
 pub behind_fits : (constants : JobConstants) (t : Task) (op : Op) (next : Place) → SettingInOrder constants → ◌≡◌ {A = Reading} (Ok (op, next)) (reading_of constants t) → IsPlace next
-behind_fits constants t op next g is =
-    let r : ReadFits (Ok (op, next)) = subst ReadFits (sym is) (reading_fits constants t g) in
-    record { syllable = r.1.1; word = r.1.0 }
+behind_fits constants t op next g is = grind (arith, reading_fits)
 
 -- an operator with parameters
 abbrev HasMore : Op → Type 0
@@ -37,10 +34,7 @@ SomeHasMore (Some form) = FormHasMore form
 
 rows_have_more : (rows : List (ℕ × Form)) (first : ℕ) → AllByRecursion (λ (row : ℕ × Form). FormHasMore row.1) rows → SomeHasMore (form_in rows first)
 rows_have_more [] first all = tt
-rows_have_more (row ∷ rows) first all = elim (cases_Bool (eqb row.0 first)) [
-  | inl t ↦ rw t all.0
-  | inr t ↦ rw t (rows_have_more rows first all.1)
-]
+rows_have_more (row ∷ rows) first all = grind (arith, rows_have_more rows first all.1)
 
 has_more : (first : ℕ) → SomeHasMore (form_of first)
 has_more first = elim (cases_Bool (ltb first 64)) [
@@ -62,21 +56,13 @@ same_parts a b e = cc
 
 -- a reading that ends at a syllable
 ends_there : (code : List ℕ) (end : ℕ) (made : Op) (read : Op × Place) → ends_at code end made ≡ Ok read → (made, place_at end) ≡ read
-ends_there code end made read = by_test (leb end (6 * length code))
-  where
-    by_test : (b : Bool) → ◌≡◌ {A = Reading} (cond b (Ok (made, place_at end)) (Err PastEnd)) (Ok read) → (made, place_at end) ≡ read
-    by_test true e = same_parts (made, place_at end) read e
-    by_test false e = absurd cc
+ends_there code end made read = grind arith
 
 longer : (code : List ℕ) (end : ℕ) (made : Op) (c : Code) (next : Place) → HasMore made → ends_at code end made ≡ Ok (Plain c, next) → ⊥
 longer code end made c next more e = subst HasMore (ap (λ (r : Op × Place). r.0) (ends_there code end made (Plain c, next) e)) more
 
 by_form : (code : List ℕ) (n : ℕ) (form : Option Form) → SomeHasMore form → (c : Code) (next : Place) → reads code n form ≡ Ok (Plain c, next) → place_at (n + 1) ≡ next
-by_form code n None more c next e = absurd cc
-by_form code n (Some (Alone op)) more c next e = ap (λ (r : Op × Place). r.1) (ends_there code (n + 1) (Plain op) (Plain c, next) e)
-by_form code n (Some (OneMore make)) more c next e = absurd (longer code (n + 2) (make (syllable code (n + 1))) c next (more (syllable code (n + 1))) e)
-by_form code n (Some (TwoMore make)) more c next e = absurd (longer code (n + 3) (make (syllable code (n + 1)) (syllable code (n + 2))) c next (more (syllable code (n + 1)) (syllable code (n + 2))) e)
-by_form code n (Some (Literal make)) more c next e = absurd (longer code (6 * (n / 6 + 2)) (make (slice_index code (n / 6 + 1))) c next (more (slice_index code (n / 6 + 1))) e)
+by_form code n form more c next e = grind arith
 
 -- an operator without parameters takes one syllable
 pub one_on : (code : List ℕ) (at : Place) (c : Code) (next : Place) → operator_at code at ≡ Ok (Plain c, next) → IsOneOn at next

@@ -1,12 +1,11 @@
 -- The operator that calls an intrinsic: its call on the stack, and the row that it makes.
-use Rattle.std.proofs.Common.{◌≡◌, ℕ, List, [], ◌∷◌, reverse, Some, Ok, Err, refl, ◌∙◌, ap, false}
+use Rattle.std.proofs.Common.{◌≡◌, ℕ, List, [], ◌∷◌, reverse, Some, Ok, Err, refl, ◌∙◌, false, arith}
 use Rattle.b67_word.specs.declared.couples.Place.{Place}
 use Rattle.b67_model.specs.declared.operators.Op.{Op}
 use Rattle.b67_model.specs.declared.operators.Op.TheVariants.{Plain}
 use Rattle.b67_model.specs.declared.operators.Code.{Code}
 use Rattle.b67_model.specs.declared.operators.Code.TheVariants.{Entr}
-use Rattle.b67_model.specs.Common.{Answer, ◌>>=◌, Reading, Word, Operand, Name, Ref, Row, Element, Original, Proc, Intrinsic, Standing, Marked, Entered, Task, SessionJob, OperatorContext, top, End, AtCell, AtElement, AtArray, AtProc, AtIntrinsic, follow_reference, is_original, intrinsic, entr_at, entr_with, entr, step_by, reading_of, step, Done, called_at, called_by, called_on, called}
-use Rattle.b67_model.specs.Words as Words
+use Rattle.b67_model.specs.Common.{Answer, ◌>>=◌, Reading, Word, Standing, Marked, Entered, Task, SessionJob, OperatorContext, top, End, AtIntrinsic, follow_reference, is_original, intrinsic, reading_of, step, called_at, called_by, called_on, called}
 use Rattle.b67_exec_cells.specs.Called as operators
 use Rattle.b67_exec_cells.specs.Called.{called_in}
 use Rattle.b67_layout.specs.Meets.{here}
@@ -27,23 +26,10 @@ pub record Calling (m : SessionJob) (t : Task) (n : ℕ) : Type 0 where
 
 -- a reference that is followed is no original
 plain_of : (h : OperatorContext) (w : Word) (end : End) → follow_reference h w ≡ Ok end → is_original w ≡ false
-plain_of h (Operand bits) end e = refl
-plain_of h (Name couple) end e = refl
-plain_of h (Ref f offset) end e = refl
-plain_of h (Row a) end e = refl
-plain_of h (Element a i) end e = refl
-plain_of h (Original a) end e = absurd cc
-plain_of h (Proc segment level place) end e = refl
-plain_of h (Intrinsic n) end e = refl
-plain_of h (Words.Segment n) end e = refl
+plain_of h w end e = grind arith
 
 ends_at : (e : Answer End) (n : ℕ) → called_at e ≡ Some n → e ≡ Ok (AtIntrinsic n)
-ends_at (Ok (AtIntrinsic k)) n e = cc
-ends_at (Ok (AtCell f offset bits)) n e = absurd cc
-ends_at (Ok (AtElement a i)) n e = absurd cc
-ends_at (Ok (AtArray a)) n e = absurd cc
-ends_at (Ok (AtProc f segment level place)) n e = absurd cc
-ends_at (Err fault) n e = absurd cc
+ends_at h n e = grind arith
 
 module _ (m : SessionJob) (t : Task) (n : ℕ) (next : Place) (reading : reading_of m.constants t ≡ Ok (Plain Entr, next)) where
   with_cells : (cs : List Word) → reverse (top t.frames).cells ≡ cs → (top t.frames).standing ≡ Marked → called_by (here m t next) cs ≡ Some n → Calling m t n
@@ -52,19 +38,7 @@ module _ (m : SessionJob) (t : Task) (n : ℕ) (next : Place) (reading : reading
   with_cells (r ∷ arguments) e marked c =
       let h = here m t next in
       let end = ends_at (follow_reference h r) n c in
-      let by_reading : Reading → Answer Done = λ q. step_by m.constants m.progress.job t q in
-      let by_standing : Standing → Answer Done = λ st. entr h st in
-      let by_cells : List Word → Answer Done = λ cs. entr_with h cs in
-      let by_end : Answer End → Answer Done = λ q. q >>= entr_at h arguments in
-      record {
-        next = next;
-        reading = reading;
-        reference = r;
-        arguments = arguments;
-        call = record { marked = marked; plain = plain_of h r (AtIntrinsic n) end; cells = e };
-        ends = end;
-        is = ap by_reading reading ∙ ap by_standing marked ∙ ap by_cells e ∙ ap by_end end;
-      }
+      grind (arith, plain_of)
 
   standing_in : (st : Standing) → (top t.frames).standing ≡ st → called_on (here m t next) st ≡ Some n → Calling m t n
   standing_in Marked e c = with_cells (reverse (top t.frames).cells) refl e c

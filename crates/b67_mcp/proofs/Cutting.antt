@@ -1,5 +1,5 @@
 -- A call whose array was changed first: its machine represents the session with that array, and then for what its row makes.
-use Rattle.std.proofs.Common.{◌≡◌, ℕ, zero, suc, ◌^◌, ◌<◌, ◌-◌, List, [], ◌∷◌, ◌++◌, length, take, replicate, Option, refl, subst}
+use Rattle.std.proofs.Common.{◌≡◌, ℕ, zero, suc, ◌^◌, ◌<◌, ◌-◌, List, [], ◌∷◌, ◌++◌, take, Option, refl, subst, arith}
 use Rattle.std.specs.List.{AllByRecursion}
 use Rattle.b67_word.specs.declared.couples.Place.{Place}
 use Rattle.b67_model.specs.Common.{Array, Task, SessionJob, with_task, with_array, all_zero, resized, answered, ArrayInOrder, Session}
@@ -19,12 +19,7 @@ use Rattle.b67_mcp.proofs.SectorSums.{length_resized}
 
 -- such arrays are in order
 pub zeros_fit : (a : Array) → ArrayInOrder a → ArrayInOrder (all_zero a)
-zeros_fit a g = record {
-  length_low = rw (length_replicate (length a.numbers)) g.length_low;
-  length_high = rw (length_replicate (length a.numbers)) g.length_high;
-  words = zeros_low (length a.numbers);
-  writes = g.writes;
-}
+zeros_fit a g = grind (arith, length_replicate, zeros_low)
 
 first_low : (n : ℕ) (xs ys : List ℕ) → AllByRecursion (λ (m : ℕ). m < 2 ^ 48) xs → AllByRecursion (λ (m : ℕ). m < 2 ^ 48) ys → AllByRecursion (λ (m : ℕ). m < 2 ^ 48) (take n xs ++ ys)
 first_low zero [] ys all more = more
@@ -33,12 +28,7 @@ first_low (suc n) [] ys all more = more
 first_low (suc n) (x ∷ xs) ys all more = (all.0, first_low n xs ys all.1 more)
 
 pub resized_fit : (n : ℕ) → 0 < n → n < 2 ^ 16 → (a : Array) → ArrayInOrder a → ArrayInOrder (resized n a)
-resized_fit n low high a g = record {
-  length_low = rw (length_resized n a.numbers) low;
-  length_high = rw (length_resized n a.numbers) high;
-  words = first_low n a.numbers (replicate (n - length a.numbers) 0) g.words (zeros_low (n - length a.numbers));
-  writes = g.writes;
-}
+resized_fit n low high a g = grind (arith, length_resized, first_low, zeros_low)
 
 module _ (plan : Placement) (s : Session) (m : SessionJob) (t : Task) (o : IsInOrderButCounts s) (runs : IsRunning plan s.jobs m t) (id : ℕ) (f : Array → Array) (keeps : Renumbers f) (fits : (x : Array) → ArrayInOrder x → ArrayInOrder (f x)) (may : MayCut m t)
     (y : Storage) (told : Option (List (List ℕ))) (mid : Machine) (stands : MachineRepresents y told mid plan (with_job s m (with_array m.progress.job id f))) where

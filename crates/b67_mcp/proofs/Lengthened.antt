@@ -11,7 +11,7 @@ use Rattle.b67_backing.specs.declared.refusals.SpaceFault.TheVariants as space
 use Rattle.b67_lemmas.specs.Lists.{Has}
 use Rattle.b67_lemmas.proofs.Keyed.{change_same}
 use Rattle.b67_lemmas.proofs.Members.{keyed_has}
-use Rattle.b67_model.specs.Common.{Array, Task, Job, SessionJob, with_array, all_zero, resized, number_of, sectors, Session}
+use Rattle.b67_model.specs.Common.{Array, Task, SessionJob, with_array, all_zero, resized, number_of, sectors, Session}
 use Rattle.b67_stack.specs.declared.Cpu.{Cpu}
 use Rattle.b67_stack.specs.Common.{PagedObject, Storage, LowWordsStayed, TakesPlace}
 use Rattle.b67_stack.proofs.Helds.{held-other}
@@ -41,8 +41,7 @@ pub resized_renumbers : (n : ℕ) → Renumbers (resized n)
 resized_renumbers n = record { identity = λ a. refl; owner = λ a. refl; writable = λ a. refl }
 
 pub area_of : (o : Option ℕ) → o ≢ None → (at : ℕ) × (o ≡ Some at)
-area_of None n = absurd (n refl)
-area_of (Some at) n = (at, refl)
+area_of o n = grind arith
 
 -- what paging keeps of a machine
 pub kept_by : (k : Machine) (cpu : Cpu) (areas : Areas) (table : Table) → PagingKeeps k.cpu cpu k.areas areas k.sectors table → Keeps k (record { cpu = cpu; areas = areas; sectors = table; tasks = k.tasks })
@@ -50,14 +49,10 @@ kept_by k cpu areas table kept = record { core = kept.len; sectors = kept.count;
 
 -- a stop for a want of space is one of two
 pub stop_faults : (k : Machine) (before after : ℕ) (fault : SpaceFault) (stop : Stop) → StopsAt k before after fault stop → stop ≡ stops.BackingFault → fault ≡ space.BackingFault
-stop_faults k before after (space.BackingFull wants free) stop (sum, count, is, sums, size) e = absurd (let z : ⊥ = (let both = sym is ∙ e in cc) in z)
-stop_faults k before after space.BackingFault stop is e = refl
-stop_faults k before after (space.NoCore words size) stop is e = absurd is
+stop_faults k before after fault stop is e = grind arith
 
 pub stop_silent : (k : Machine) (before after : ℕ) (fault : SpaceFault) (stop : Stop) → StopsAt k before after fault stop → stop ≢ stops.PrintFault
-stop_silent k before after (space.BackingFull wants free) stop (sum, count, is, sums, size) e = let both = sym is ∙ e in cc
-stop_silent k before after space.BackingFault stop is e = let both = sym is ∙ e in cc
-stop_silent k before after (space.NoCore words size) stop is e = is
+stop_silent k before after fault stop is e = grind arith
 
 module _ (x : Storage) (told : Option (List (List ℕ))) (k : Machine) (plan : Placement) (s : Session) (m : SessionJob) (t : Task) (o : IsInOrderButCounts s) (h : MachineRepresents x told k plan s) (runs : IsRunning plan s.jobs m t)
     (a : Array) (among : Has m.progress.job.arrays a) where
@@ -150,18 +145,10 @@ module _ (x : Storage) (told : Option (List (List ℕ))) (k : Machine) (plan : P
         let key : Array → ℕ = λ z. z.identity in
         let arrays : (with_array m.progress.job a.identity (resized words)).arrays ≡ m.progress.job.arrays =
         change_same key a.identity (resized words) m.progress.job.arrays a (found x told k plan s h m t o runs a among (resized words) (resized_renumbers words)) numbers in
-        let job : with_array m.progress.job a.identity (resized words) ≡ m.progress.job = ap (λ (l : List Array). let j : Job = record m.progress.job { arrays = l } in j) arrays in
-        ap (with_job s m) job
-        ∙ ap (λ (jobs : List SessionJob). let z : Session = record s { jobs = jobs } in z) (change_same number_of m.constants.number (λ (y : SessionJob). record y { progress = record m.progress { job = m.progress.job } }) s.jobs m runs.member refl)
+        grind (arith, change_same)
 
     pub set_same : (count : ℕ) (now : Option (List (List ℕ))) → length a.numbers ≡ words → Says told now → LengthSet (content_after told now) count x plan s m a words (Ok tt) k k
-    set_same count now e says =
-        record {
-          storage = x;
-          stands = subst (λ (z : Session). MachineRepresents x (content_after told now) k plan z) (sym (same_session e)) (subst (λ (d : Option (List (List ℕ))). MachineRepresents x d k plan s) (sym (told_is told now says)) h);
-          others = λ q other. refl;
-          tables = refl;
-        }
+    set_same count now e says = grind (arith, same_session)
 
     module _ (count : ℕ) (now : Option (List (List ℕ))) (cpu : Cpu) (areas : Areas) (table : Table) (kept : PagingKeeps k.cpu cpu k.areas areas k.sectors table) (stayed : LowWordsStayed (machine_view plan s.jobs) k.cpu.core cpu.core) where
       abbrev new : Machine
@@ -233,14 +220,11 @@ module _ (x : Storage) (told : Option (List (List ℕ))) (k : Machine) (plan : P
             size_is = omega (arith, size, size_is);
             exceeds = above;
           })
-      set_refused before space.BackingFault stop e up size (y, others, view) is writable =
-          let S : Stop → Type 0 = λ z. LengthSet (content_after told now) count x plan s m a words (Err z) k new in
-          subst S (sym is) (record { storage = y; stands = left y others view; others = others.others; tables = refl })
+      set_refused before space.BackingFault stop e up size (y, others, view) is writable = grind (arith, left)
       set_refused before (space.NoCore need core) stop e up size l is writable = absurd is
 
       -- the machine represents some session then
       pub stands_after : (fault : SpaceFault) → LengthenMeets x (machine_view plan s.jobs) (array_object plan m.constants.number a) words (Err fault) cpu areas table now → StandsOrdered (record { cpu = cpu; areas = areas; sectors = table; tasks = k.tasks })
-      stands_after (space.BackingFull wants free) (y, others, view, lacking, room) =
-          record { storage = y; told = content_after told now; plan = plan; session = s; ordered = o; stands = left y others view }
+      stands_after (space.BackingFull wants free) (y, others, view, lacking, room) = grind (arith, left)
       stands_after space.BackingFault (y, others, view) = record { storage = y; told = content_after told now; plan = plan; session = s; ordered = o; stands = left y others view }
       stands_after (space.NoCore need core) l = absurd l

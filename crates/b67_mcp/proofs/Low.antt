@@ -1,7 +1,7 @@
 -- The intrinsics that the MCP's cells hold have numbers from 8 to 18.
-use Rattle.std.proofs.Common.{◌≡◌, ℕ, zero, suc, ◌≤◌, ltb, cond, Bool, true, false, length, List, [], ◌∷◌, flat_map, Option, Some, None, unwrap_or, Ok, Err, refl, sym, ◌∙◌, ap, subst, inl, inr, arith}
+use Rattle.std.proofs.Common.{◌≡◌, ℕ, zero, suc, ◌≤◌, cond, Bool, length, List, [], ◌∷◌, flat_map, Option, Some, unwrap_or, Ok, Err, refl, sym, ◌∙◌, ap, subst, inl, inr, arith}
 use Rattle.b67_word.specs.declared.faults.Fault.TheVariants.{InvalidIndex}
-use Rattle.b67_model.specs.Common.{Answer, array, Word, Operand, Name, Ref, Row, Element, Original, Proc, Intrinsic, Frame, Array, Task, JobConstants, SessionJob, OperatorContext, mcp, no_frame, all_frames, frame, cell, place_of, End, AtElement, AtIntrinsic, Link, Stops, Leads, link_at, link_in, link_from, link, chase_on, follow_reference, Session, Starts, IsSegment, Known, outer_of, WordInOrder, EntryInOrder, FramesInOrder, TaskInOrder, TasksInOrder}
+use Rattle.b67_model.specs.Common.{Answer, Word, Operand, Name, Ref, Row, Element, Original, Proc, Intrinsic, Frame, Array, Task, JobConstants, SessionJob, OperatorContext, mcp, no_frame, all_frames, cell, place_of, End, AtElement, AtIntrinsic, Link, Stops, Leads, link_at, link_in, link_from, link, chase_on, follow_reference, Session, Starts, IsSegment, Known, outer_of, WordInOrder, EntryInOrder, FramesInOrder, TaskInOrder, TasksInOrder}
 use Rattle.b67_model.specs.Keyed.{keyed}
 use Rattle.b67_lemmas.specs.Lists.{Has}
 use Rattle.b67_lemmas.proofs.Members.{all_in, has_append_cases, has_flat_back, keyed_has}
@@ -26,32 +26,14 @@ LinkLow (Stops end) = EndLow end
 LinkLow (Leads w) = Unit {0}
 
 of_task : (P : Starts) (arrays : List Array) (reach : List Known) (owner : ℕ) (w : Word) → WordInOrder P arrays reach owner w → IsLow w
-of_task P arrays reach owner (Operand bits) g = tt
-of_task P arrays reach owner (Name c) g = tt
-of_task P arrays reach owner (Ref f o) g = tt
-of_task P arrays reach owner (Row a) g = tt
-of_task P arrays reach owner (Element a i) g = tt
-of_task P arrays reach owner (Original a) g = tt
-of_task P arrays reach owner (Proc s l p) g = tt
-of_task P arrays reach owner (Intrinsic n) g = absurd g
-of_task P arrays reach owner (Words.Segment n) g = tt
+of_task P arrays reach owner w g = grind arith
 
 of_entry : (arrays : List Array) (w : Word) → EntryInOrder arrays w → IsLow w
-of_entry arrays (Operand bits) g = tt
-of_entry arrays (Name c) g = tt
-of_entry arrays (Ref f o) g = tt
-of_entry arrays (Row a) g = tt
-of_entry arrays (Element a i) g = tt
-of_entry arrays (Original a) g = tt
-of_entry arrays (Proc s l p) g = tt
-of_entry arrays (Intrinsic n) g = absurd g
-of_entry arrays (Words.Segment n) g = tt
+of_entry arrays w g = grind arith
 
 of_frames : (P : Starts) (arrays : List Array) (outer : List Known) (fs : List Frame) (f : Frame) (w : Word) → FramesInOrder P arrays outer fs → Has fs f → Has f.cells w → IsLow w
 of_frames P arrays outer [] f w g h k = absurd h
-of_frames P arrays outer (y ∷ ys) f w g (inl e) k =
-    let there : Has y.cells w = subst (λ (z : Frame). Has z.cells w) (sym e) k in
-    of_task P arrays _ y.identity w (all_in (WordInOrder P arrays _ y.identity) y.cells w g.0.0 there)
+of_frames P arrays outer (y ∷ ys) f w g (inl e) k = grind (arith, all_in)
 of_frames P arrays outer (y ∷ ys) f w g (inr h) k = of_frames P arrays outer ys f w g.2 h k
 
 module _ (constants : JobConstants) (h : OperatorContext) (same : h.constants ≡ constants) (o : TasksInOrder (IsSegment constants) constants h.job) where
@@ -71,32 +53,20 @@ module _ (constants : JobConstants) (h : OperatorContext) (same : h.constants �
   ]
 
   in_frame : (id : ℕ) (q : Option Frame) → keyed (λ (f : Frame). f.identity) id (all_frames h) ≡ q → (w : Word) → Has (unwrap_or q no_frame).cells w → IsLow w
-  in_frame id None e w c = absurd c
-  in_frame id (Some f) e w c = in_frames f w (keyed_has (λ (f : Frame). f.identity) id (all_frames h) f e).0 c
+  in_frame id q e w c = grind (arith, in_frames, keyed_has)
 
   -- an element is no intrinsic, whether its index is below the length or not
   at_item : (test : Bool) (a i : ℕ) → EndLow (cond test (Ok (AtElement a i)) (Err InvalidIndex))
-  at_item true a i = tt
-  at_item false a i = tt
+  at_item test a i = grind arith
 
   at_word : (f offset : ℕ) (w : Word) → IsLow w → LinkLow (link_at h f offset w)
-  at_word f offset (Operand bits) g = tt
-  at_word f offset (Name c) g = tt
-  at_word f offset (Ref i k) g = tt
-  at_word f offset (Row a) g = tt
-  at_word f offset (Element a i) g = at_item (ltb i (length (array h.job a).numbers)) a i
-  at_word f offset (Original a) g = tt
-  at_word f offset (Proc s l p) g = tt
-  at_word f offset (Intrinsic n) g = g
-  at_word f offset (Words.Segment n) g = tt
+  at_word f offset w g = grind arith
 
   at_cell : (f offset : ℕ) (a : Answer Word) → cell h f offset ≡ a → LinkLow (link_in h f offset a)
-  at_cell f offset (Err fault) e = tt
-  at_cell f offset (Ok w) e = at_word f offset w (in_frame f (keyed (λ (g : Frame). g.identity) f (all_frames h)) refl w (cell_has (frame h f) offset w e))
+  at_cell f offset a e = grind (arith, at_word, in_frame, cell_has)
 
   at_place : (a : Answer (ℕ × ℕ)) → LinkLow (link_from h a)
-  at_place (Err fault) = tt
-  at_place (Ok at) = at_cell at.0 at.1 (cell h at.0 at.1) refl
+  at_place a = grind (arith, at_cell)
 
   chased : (links : ℕ) (l : Link) → LinkLow l → EndLow (chase_on h links l)
   chased links (Stops end) g = g

@@ -1,5 +1,5 @@
 -- The rows of jobs where READ took a number.
-use Rattle.std.proofs.Common.{◌≡◌, ℕ, ◌-◌, ◌≤◌, List, [], ◌∷◌, map, Some, Result, Ok, Err, refl, sym, ◌∙◌, ap, arith, subst, slice_set}
+use Rattle.std.proofs.Common.{◌≡◌, ℕ, ◌-◌, ◌≤◌, List, [], ◌∷◌, map, Some, Result, refl, ◌∙◌, arith, slice_set}
 use Rattle.std.specs.List.{slice_get}
 use Rattle.b67_word.specs.Tagged.{Tagged}
 use Rattle.b67_word.specs.declared.faults.Fault.{Fault}
@@ -27,18 +27,14 @@ pub record JobIn (tasks : Tasks) (plan : Placement) (m : SessionJob) : Type 0 wh
 pub job_in : (tasks : Tasks) (plan : Placement) (s : Session) (m : SessionJob) (t : Task) → IsInOrderButCounts s → TasksShow plan s tasks → IsRunning plan s.jobs m t → JobIn tasks plan m
 job_in tasks plan s m t o h runs =
     let inm = (keyed_has number_of m.constants.number s.jobs m runs.member).0 in
-    let b = job_at plan 1 s.jobs (map job_row tasks.jobs) m o.numbered h.jobs inm in
-    let (row, at, same) = mapped_at job_row tasks.jobs (m.constants.number - 1) b.row b.at in
-    record { row = row; at = at; shows = subst (λ (r : rows.JobRow). JobShows plan m r) (sym same) b.shows; from_one = numbered_low 1 s.jobs m o.numbered inm }
+    grind (arith, job_at, mapped_at, numbered_low)
 
 pub tasks_same : (tasks tasks' : Tasks) (i : ℕ) (row new : JobRow) → slice_get tasks.jobs i ≡ Some row → tasks'.jobs ≡ slice_set tasks.jobs i new → new ≡ row → tasks' ≡ record tasks { jobs = tasks'.jobs } → tasks' ≡ tasks
-tasks_same tasks tasks' i row new at is same rest =
-    rest ∙ ap (λ (l : List JobRow). record tasks { jobs = l }) (is ∙ ap (λ (r : JobRow). slice_set tasks.jobs i r) same ∙ put_back tasks.jobs i row at)
+tasks_same tasks tasks' i row new at is same rest = grind (arith, put_back)
 
 -- READ changes nothing that was given
 pub same_given : (plan : Placement) (m : SessionJob) (t : Task) (arguments : List Word) (old new : JobRow) (answer : Result Tagged Fault) → ReadMeets plan m t arguments old new answer → job_given new ≡ job_given old
-same_given plan m t arguments old new (Ok w) h = ap job_given h.same
-same_given plan m t arguments old new (Err fault) h = ap job_given h.1
+same_given plan m t arguments old new answer h = grind arith
 
 module _ (plan : Placement) (s : Session) (m : SessionJob) (t : Task) (o : IsInOrderButCounts s) (runs : IsRunning plan s.jobs m t) (q : Place) (arguments : List Word) (tasks tasks' : Tasks) (h : TasksShow plan s tasks) (old new : JobRow) (w : Tagged)
     (at : slice_get tasks.jobs (m.constants.number - 1) ≡ Some old) (is : tasks'.jobs ≡ slice_set tasks.jobs (m.constants.number - 1) new) (rest : tasks' ≡ record tasks { jobs = tasks'.jobs }) (did : NumberIsRead plan m t arguments old new w) where
@@ -51,6 +47,4 @@ module _ (plan : Placement) (s : Session) (m : SessionJob) (t : Task) (o : IsInO
       let shown : TablesShow plan (with_job s m (job_read m t q)) (map task_row tasks.rows.items) (slice_set (map job_row tasks.jobs) (m.constants.number - 1) (job_row new)) (counts_of tasks) =
       tables_after plan s m t (answered (here m t q) (word ∷ [])) (job_read m t q) o runs (replaces_answered plan s m t o runs did.may q word (job_read m t q) refl) refl (waits_answered plan s m t o runs did.may (word ∷ (top (below_top t.frames)).cells))
       (map task_row tasks.rows.items) (map job_row tasks.jobs) (slice_set (map job_row tasks.jobs) (m.constants.number - 1) (job_row new)) (counts_of tasks) h jobs in
-      let made : map job_row tasks'.jobs ≡ slice_set (map job_row tasks.jobs) (m.constants.number - 1) (job_row new) = ap (map job_row) is ∙ map-slice_set job_row tasks.jobs (m.constants.number - 1) new in
-      subst (λ (z : Tasks). TasksShow plan (with_job s m (job_read m t q)) z) (sym rest)
-      (subst (λ (l : List rows.JobRow). TablesShow plan (with_job s m (job_read m t q)) (map task_row tasks.rows.items) l (counts_of tasks)) (sym made) shown)
+      grind (arith, map-slice_set)

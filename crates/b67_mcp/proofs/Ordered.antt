@@ -5,7 +5,7 @@ use Rattle.b67_lemmas.proofs.Members.{all_in, all_from, keyed_has, length_change
 use Rattle.b67_lemmas.proofs.Keyed.{change_is, all_change}
 use Rattle.b67_lemmas.proofs.Sums.{sum_total}
 use Rattle.b67_model.specs.Keyed.{keyed, change_keyed}
-use Rattle.b67_model.specs.Common.{Array, SessionJob, with_array, number_of, Session, Starts, IsSegment, Known, NamesArray, OwnsArray, NamesEntered, ArrayInOrder, EntryInOrder, TaskInOrder, TasksInOrder, NumberedFrom, originals_of}
+use Rattle.b67_model.specs.Common.{Array, SessionJob, with_array, number_of, Session, Starts, IsSegment, Known, NamesArray, OwnsArray, ArrayInOrder, EntryInOrder, TaskInOrder, TasksInOrder, NumberedFrom, originals_of}
 use Rattle.b67_law_order.proofs.Reaches.{Stays}
 use Rattle.b67_law_order.proofs.Replaced.{entry_kept}
 use Rattle.b67_law_order.proofs.Stores.{change_has, arrays_changed, names_changed, by_names}
@@ -22,10 +22,7 @@ module _ (m : SessionJob) (id : ℕ) (f : Array → Array) (keeps : Renumbers f)
   stay x k = change_has id f m.progress.job.arrays x k (λ y. record { item = f y; live = inl refl; named = keeps.identity y; owned = keeps.owner y })
 
   still_named : (reach : List Known) (n : ℕ) → NamesArray m.progress.job.arrays reach n → NamesArray arrays' reach n
-  still_named reach n h =
-      let s = stay h.item h.live in
-      let P : ℕ → Type 0 = λ o. NamesEntered reach o in
-      record { item = s.item; live = s.live; named = s.named ∙ h.named; owner = subst P (sym s.owned) h.owner }
+  still_named reach n h = grind (arith, stay)
 
   still_owned : (owner n : ℕ) → OwnsArray m.progress.job.arrays owner n → OwnsArray arrays' owner n
   still_owned owner n h = let s = stay h.item h.live in record { item = s.item; live = s.live; named = s.named ∙ h.named; owned = s.owned ∙ h.owned }

@@ -1,10 +1,8 @@
 -- What the call of an intrinsic touches is present: PRINTROW alone touches an array.
-use Rattle.std.proofs.Common.{◌≡◌, ◌≢◌, ℕ, ◌==◌, List, [], ◌∷◌, reverse, Option, Some, None, Result, Ok, Err, inl, inr, refl, sym, ◌∙◌, ap, subst}
-use Rattle.std.proofs.lemmas.Bool.{cases_Bool, eqb-true}
+use Rattle.std.proofs.Common.{◌≡◌, ◌≢◌, ℕ, ◌==◌, List, [], ◌∷◌, Option, Some, None, Result, Ok, Err, sym, ◌∙◌, ap, subst, arith}
 use Rattle.std.proofs.lemmas.Option.{same_Some, none-some}
 use Rattle.b67_word.specs.declared.faults.Fault.{Fault}
-use Rattle.b67_model.specs.Common.{Answer, End, AtCell, AtElement, AtArray, AtProc, AtIntrinsic, printrow, touched_of, touched_by_call, touched_at_mark, touched_before_fault, Reading, reading_of, step, Standing, Marked, Task, Job, SessionJob, OperatorContext, top, Line, Done, Goes, Word, Operand, Name, Ref, Row, Element, Original, Proc, Intrinsic, Session}
-use Rattle.b67_model.specs.Words as Words
+use Rattle.b67_model.specs.Common.{Answer, End, AtIntrinsic, printrow, touched_of, touched_by_call, touched_before_fault, reading_of, step, Task, Job, SessionJob, OperatorContext, Line, Done, Goes, Word, Row, Session}
 use Rattle.b67_stack.specs.Represents.{Storage}
 use Rattle.b67_layout.specs.Placement.{Placement}
 use Rattle.b67_layout.specs.Meets.{here}
@@ -13,19 +11,11 @@ use Rattle.b67_task_tables.specs.declared.tables.Machine.{Machine}
 use Rattle.b67_mcp.specs.Called.{ArrayIsThere, TouchesPresent, CallTouches}
 use Rattle.b67_mcp.specs.Answers.{AnswerMeets, call_end_of}
 use Rattle.b67_mcp.proofs.Callings.{Calling}
-use Rattle.b67_mcp.proofs.Touched.{reference_same, touched_by_row}
+use Rattle.b67_mcp.proofs.Touched.{touched_by_row}
 
 -- two arguments are no array
 many : (r v w : Word) (more : List Word) (e : Answer End) → touched_by_call (r ∷ v ∷ w ∷ more) e ≡ None
-many r (Row b) w more e = refl
-many r (Operand bits) w more e = refl
-many r (Name c) w more e = refl
-many r (Ref f o) w more e = refl
-many r (Element b i) w more e = refl
-many r (Original b) w more e = refl
-many r (Proc s l p) w more e = refl
-many r (Intrinsic i) w more e = refl
-many r (Words.Segment i) w more e = refl
+many r v w more e = grind arith
 
 -- the one call that touches an array before a fault
 pub record TouchesRow (arguments : List Word) (e : Answer End) (a : ℕ) : Type 0 where
@@ -33,39 +23,11 @@ pub record TouchesRow (arguments : List Word) (e : Answer End) (a : ℕ) : Type 
   pub are : arguments ≡ Row a ∷ []
 
 pub row_only : (r : Word) (arguments : List Word) (e : Answer End) (a : ℕ) → touched_by_call (r ∷ arguments) e ≡ Some a → TouchesRow arguments e a
-row_only r [] e a q = absurd (none-some a q)
-row_only r (Row b ∷ []) (Ok (AtIntrinsic n)) a q = elim (cases_Bool (n == 10)) [
-  | inl y ↦ record { called = ap (λ (i : ℕ). Ok (AtIntrinsic i)) (eqb-true n 10 y); are = ap (λ (i : ℕ). Row i ∷ []) (same_Some b a (rw y at q)) }
-  | inr z ↦ absurd (none-some a (rw z at q))
-]
-row_only r (Row b ∷ []) (Ok (AtCell f o bits)) a q = absurd (none-some a q)
-row_only r (Row b ∷ []) (Ok (AtElement c i)) a q = absurd (none-some a q)
-row_only r (Row b ∷ []) (Ok (AtArray c)) a q = absurd (none-some a q)
-row_only r (Row b ∷ []) (Ok (AtProc f s l p)) a q = absurd (none-some a q)
-row_only r (Row b ∷ []) (Err fault) a q = absurd (none-some a q)
-row_only r (Operand bits ∷ []) e a q = absurd (none-some a q)
-row_only r (Name c ∷ []) e a q = absurd (none-some a q)
-row_only r (Ref f o ∷ []) e a q = absurd (none-some a q)
-row_only r (Element b i ∷ []) e a q = absurd (none-some a q)
-row_only r (Original b ∷ []) e a q = absurd (none-some a q)
-row_only r (Proc s l p ∷ []) e a q = absurd (none-some a q)
-row_only r (Intrinsic i ∷ []) e a q = absurd (none-some a q)
-row_only r (Words.Segment i ∷ []) e a q = absurd (none-some a q)
-row_only r (v ∷ w ∷ more) e a q = absurd (none-some a (sym (many r v w more e) ∙ q))
+row_only r arguments e a q = grind arith
 
 -- PRINTROW is made with a whole copy alone
 made_row : (h : OperatorContext) (arguments : List Word) (done : Done) → printrow h arguments ≡ Ok done → (a : ℕ) × (arguments ≡ Row a ∷ [])
-made_row h [] done e = absurd cc
-made_row h (Row a ∷ []) done e = (a, refl)
-made_row h (Operand bits ∷ []) done e = absurd cc
-made_row h (Name c ∷ []) done e = absurd cc
-made_row h (Ref f o ∷ []) done e = absurd cc
-made_row h (Element b i ∷ []) done e = absurd cc
-made_row h (Original b ∷ []) done e = absurd cc
-made_row h (Proc s l p ∷ []) done e = absurd cc
-made_row h (Intrinsic i ∷ []) done e = absurd cc
-made_row h (Words.Segment i ∷ []) done e = absurd cc
-made_row h (v ∷ w ∷ more) done e = absurd cc
+made_row h arguments done e = grind arith
 
 module _ (m : SessionJob) (t : Task) where
   abbrev touched : Answer Done → Option ℕ
@@ -76,13 +38,7 @@ module _ (m : SessionJob) (t : Task) where
     at_call = record { constants = m.constants; job = m.progress.job; task = t; at = t.place }
 
     before : touched_before_fault m.constants m.progress.job t (reading_of m.constants t) ≡ touched_by_call (k.reference ∷ k.arguments) (Ok (AtIntrinsic n))
-    before =
-        let by_reading : Reading → Option ℕ = λ r. touched_before_fault m.constants m.progress.job t r in
-        let by_mark : Standing → Option ℕ = λ st. touched_at_mark at_call st (reverse (top t.frames).cells) in
-        let by_cells : List Word → Option ℕ = λ cs. touched_at_mark at_call Marked cs in
-        let by_end : Answer End → Option ℕ = λ e. touched_by_call (k.reference ∷ k.arguments) e in
-        ap by_reading k.reading ∙ ap by_mark k.call.marked ∙ ap by_cells k.call.cells
-        ∙ ap by_end (reference_same at_call (here m t k.next) refl refl refl k.reference ∙ k.ends)
+    before = grind arith
 
     -- a call that faults
     fault_touches : (fault : Fault) → step m.constants m.progress.job t ≡ Err fault → (a : ℕ) → touched (step m.constants m.progress.job t) ≡ Some a → (n ≡ 10) × (k.arguments ≡ Row a ∷ [])

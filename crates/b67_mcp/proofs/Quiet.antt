@@ -1,5 +1,5 @@
 -- A call that prints nothing, as a call with a printer.
-use Rattle.std.proofs.Common.{◌≡◌, ℕ, zero, suc, ◌≤◌, inl, inr, List, [], length, Option, Some, None, Result, Ok, Err, refl}
+use Rattle.std.proofs.Common.{◌≡◌, ℕ, zero, suc, ◌≤◌, inl, inr, List, [], length, Option, Some, None, Result, Ok, Err, refl, arith}
 use Rattle.b67_io.proofs.Joined.{Took-none}
 use Rattle.b67_session_lines.specs.Parts.{TookRest}
 use Rattle.b67_word.specs.declared.faults.Fault.{Fault}
@@ -82,11 +82,4 @@ module _ {K : Type 0} (taken : K → Option (List ℕ)) (paper : K) (x : Storage
 
 -- a call that starts no task
 pub fits_never : (core : ℕ) (s : Session) (m : SessionJob) (t : Task) → (StartsTask m t → ⊥) → (answered : Result CallEnd Stop) → CallFits core s m t answered
-fits_never core s m t never (Ok ends.Done) = λ a. absurd (never a)
-fits_never core s m t never (Ok (ends.Absent found)) = tt
-fits_never core s m t never (Ok (ends.Fault fault)) = tt
-fits_never core s m t never (Ok (ends.Waits state)) = tt
-fits_never core s m t never (Err (stops.BackingFull sum size)) = λ a. absurd (never a)
-fits_never core s m t never (Err stops.BackingFault) = λ a. absurd (never a)
-fits_never core s m t never (Err stops.PrintFault) = tt
-fits_never core s m t never (Err (stops.NoCore need core')) = tt
+fits_never core s m t never answered = grind arith

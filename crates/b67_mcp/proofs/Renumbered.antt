@@ -1,7 +1,5 @@
 -- The machine represents the session of which an array has other numbers, and for the same session with pages moved.
-use Rattle.std.proofs.Common.{◌≡◌, ℕ, ◌<◌, ◌^◌, List, [], ◌∷◌, map, flat_map, length, Option, Some, None, refl, sym, ◌∙◌, ap, arith, inl, inr, subst, ⊎_elim}
-use Rattle.std.proofs.lemmas.Bool.Decides.{eqb_tells}
-use Rattle.std.proofs.lemmas.Option.{same_Some}
+use Rattle.std.proofs.Common.{◌≡◌, ℕ, ◌<◌, ◌^◌, List, [], ◌∷◌, map, flat_map, length, Option, Some, None, refl, sym, ◌∙◌, ap, arith, subst, ⊎_elim}
 use Rattle.b67_area.specs.declared.Areas.{Areas}
 use Rattle.b67_backing.specs.Shelf.{Table}
 use Rattle.b67_ctl.specs.declared.registers.Regs.{Regs}
@@ -9,7 +7,7 @@ use Rattle.b67_lemmas.specs.Lists.{Has}
 use Rattle.b67_lemmas.proofs.Keyed.{change_same}
 use Rattle.b67_lemmas.proofs.Members.{keyed_falls}
 use Rattle.b67_model.specs.Keyed.{keyed, change_keyed}
-use Rattle.b67_model.specs.Common.{Frame, Array, Condition, Ready, Awaits, WaitsAt, Task, Job, SessionJob, with_array, number_of, Session}
+use Rattle.b67_model.specs.Common.{Frame, Array, Condition, Task, Job, SessionJob, with_array, number_of, Session}
 use Rattle.b67_stack.specs.declared.Cpu.{Cpu}
 use Rattle.b67_stack.specs.Common.{PagedObject, Slot, MachineView, NoOriginalAboveTop, Storage, Represents, LowWordsStayed, TakesPlace}
 use Rattle.b67_layout.specs.Common.{IsInOrderButCounts, Placement, array_object, objects_of, machine_view, IsRunning, with_job}
@@ -18,7 +16,7 @@ use Rattle.b67_layout_storage.specs.Machine.{PagingKeeps}
 use Rattle.b67_overlay.specs.Spans.{MachineCanPage}
 use Rattle.b67_mcp_process.proofs.Passed.{copies_of}
 use Rattle.b67_layout_storage.proofs.Devices.{says_of}
-use Rattle.b67_layout_storage.proofs.Untold.{untold, Represents-untold}
+use Rattle.b67_layout_storage.proofs.Untold.{untold}
 use Rattle.b67_layout_step.proofs.Arrays.{Renumbers, slots_same}
 use Rattle.b67_layout_step.proofs.Objects.{old_object, replaces}
 use Rattle.b67_task_tables.specs.declared.tables.Machine.{Machine}
@@ -34,17 +32,10 @@ seen x told k plan s o h = record { stands = h.session.holds.memory; low = h.sto
 alike_changed : (n : ℕ) (m : SessionJob) (job : Job) (ms : List SessionJob) → keyed number_of n ms ≡ Some m → job.tasks ≡ m.progress.job.tasks
     → AllAlike ms (change_keyed number_of n (λ (y : SessionJob). record y { progress = record m.progress { job = job } }) ms)
 alike_changed n m job [] e same = tt
-alike_changed n m job (y ∷ ms) e same = elim (eqb_tells (number_of y) n) [
-  | inl t ↦
-      let is : y ≡ m = same_Some y m (rw t.0 at e) in
-      rw t.0 (record { number = refl; stack_size = refl; dictionary = refl; count = refl; tasks = same ∙ ap (λ (z : SessionJob). z.progress.job.tasks) (sym is) }, same_jobs ms)
-  | inr t ↦ rw t.0 (record { number = refl; stack_size = refl; dictionary = refl; count = refl; tasks = refl }, alike_changed n m job ms (rw t.0 at e) same)
-]
+alike_changed n m job (y ∷ ms) e same = grind (arith, same_jobs, alike_changed n m job ms)
 
 waits_same : (d : Condition) (fs : List Frame) → WaitsThere d fs fs
-waits_same Ready fs = tt
-waits_same (Awaits n) fs = tt
-waits_same (WaitsAt f offset) fs = λ k o. refl
+waits_same d fs = grind arith
 
 module _ (x : Storage) (told : Option (List (List ℕ))) (k : Machine) (plan : Placement) (s : Session) (h : MachineRepresents x told k plan s) (m : SessionJob) (t : Task) (o : IsInOrderButCounts s) (runs : IsRunning plan s.jobs m t)
     (a : Array) (among : Has m.progress.job.arrays a) (f : Array → Array) (keeps : Renumbers f) where
@@ -121,13 +112,7 @@ stands_moved x told k plan s h y now cpu areas table kept stayed view =
 
 -- the same machine over a storage that says nothing of the device
 pub stands_silent : (x : Storage) (told : Option (List (List ℕ))) (k : Machine) (plan : Placement) (s : Session) → MachineRepresents x told k plan s → MachineRepresents (untold x) None k plan s
-stands_silent x told k plan s h =
-    record {
-      session = RepresentsSession-over [] [] x (untold x) k.cpu k.cpu plan s s h.session (same_jobs s.jobs) refl refl refl refl
-          (Represents-untold x k.cpu.core k.cpu.regs (machine_view plan s.jobs) h.session.holds.memory) h.session.holds.settled (λ i low out homes. refl);
-      storage = record { low = h.storage.low; size = h.storage.size; shelf = h.storage.shelf; device = refl };
-      tables = h.tables;
-    }
+stands_silent x told k plan s h = grind arith
 
 -- the task runs in that session too
 pub still_runs : (plan : Placement) (s : Session) (m : SessionJob) (t : Task) (job : Job) → IsRunning plan s.jobs m t → job.tasks ≡ m.progress.job.tasks → IsRunning plan (with_job s m job).jobs (record m { progress = record m.progress { job = job } }) t

@@ -1,10 +1,9 @@
 -- A call of RESIZE that found its array present: what it makes, touches and leaves.
-use Rattle.std.proofs.Common.{◌≡◌, ◌≢◌, ℕ, ◌+◌, ◌-◌, ◌<◌, List, [], ◌++◌, length, take, replicate, Option, Some, None, Ok, Err, refl, sym, ◌∙◌, ap, arith, subst, inl, inr, ⊎_elim}
-use Rattle.std.proofs.lemmas.Option.{same_Some}
+use Rattle.std.proofs.Common.{◌≡◌, ◌≢◌, ℕ, ◌+◌, ◌-◌, ◌<◌, List, [], ◌++◌, length, take, replicate, Option, Some, None, Ok, Err, refl, sym, ◌∙◌, ap, arith, inl, inr, ⊎_elim}
 use Rattle.b67_backing.specs.Held.{sectors_for}
 use Rattle.b67_lemmas.specs.Lists.{Has}
 use Rattle.b67_lemmas.proofs.Keyed.{changed_there}
-use Rattle.b67_model.specs.Common.{Answer, Array, Task, SessionJob, with_array, resized, Done, Goes, step, touched_of, Session}
+use Rattle.b67_model.specs.Common.{Array, Task, SessionJob, with_array, resized, Done, Goes, step, Session}
 use Rattle.b67_stack.specs.Common.{Location, Storage}
 use Rattle.b67_exec_cells.specs.Running.{code_area}
 use Rattle.b67_layout.specs.Common.{IsInOrderButCounts, Placement, IsRunning}
@@ -15,7 +14,7 @@ use Rattle.b67_task_tables.specs.Tables.{MachineRepresents}
 use Rattle.b67_mcp.specs.declared.ends.CallEnd.TheVariants as ends
 use Rattle.b67_mcp.specs.declared.ends.Stop.{Stop}
 use Rattle.b67_mcp.specs.declared.ends.Stop.TheVariants as stops
-use Rattle.b67_mcp.specs.Called.{ArrayIsThere, TouchesPresent, CallTouches, CallWrites, Lengthens}
+use Rattle.b67_mcp.specs.Called.{TouchesPresent, CallTouches, CallWrites, Lengthens}
 use Rattle.b67_mcp.specs.Resizing.{LengthSet, ResizeAnswers}
 use Rattle.b67_mcp.proofs.Callings.{Calling}
 use Rattle.b67_mcp.proofs.Space.{code_elsewhere}
@@ -52,17 +51,10 @@ module _ (x : Storage) (told : Option (List (List ℕ))) (old : Machine) (plan :
   }
 
   pub touches : TouchesPresent x plan m t
-  touches n e =
-      let id : ℕ = q.0.which.array.identity in
-      let is = ap (λ (answer : Answer Done). touched_of m.constants m.progress.job t answer) makes in
-      let same : id ≡ n = same_Some id n (sym is ∙ e) in
-      subst (ArrayIsThere x plan m) same (record { array = q.0.which.array; among = q.0.which.among; named = refl; there = q.2 })
+  touches n e = grind arith
 
   pub touches_stopped : (stop : Stop) → CallTouches x plan m t (Err stop)
-  touches_stopped (stops.NoCore need core) = tt
-  touches_stopped (stops.BackingFull sum size) = touches
-  touches_stopped stops.BackingFault = touches
-  touches_stopped stops.PrintFault = touches
+  touches_stopped stop = grind arith
 
   -- a stop
   pub refused : (d : Option (List (List ℕ))) (count : ℕ) (new : Machine) (stop : Stop) → code_area x plan m t ≢ None → before < after → LengthSet d count x plan s m q.0.which.array after (Err stop) old new → ResizeAnswers d count x plan s m t (Err stop) old new

@@ -1,10 +1,9 @@
 -- An array of another length: its numbers, and the sectors that its session takes. These are few.
-use Rattle.std.proofs.Common.{◌≡◌, ℕ, zero, suc, ◌+◌, ◌-◌, ◌*◌, ◌^◌, ◌<◌, ◌≤◌, List, ◌++◌, length, take, replicate, Option, Some, None, sym, ◌∙◌, ap, arith, Bool, true, false, subst, ⊎_elim}
+use Rattle.std.proofs.Common.{◌≡◌, ℕ, zero, suc, ◌+◌, ◌-◌, ◌*◌, ◌^◌, ◌<◌, ◌≤◌, List, ◌++◌, length, take, replicate, Option, Some, sym, ◌∙◌, ap, arith, Bool, true, subst, ⊎_elim}
 use Rattle.std.specs.Prelude.{if◌then◌else◌, sum_by}
 use Rattle.std.specs.List.{slice_get}
-use Rattle.std.proofs.lemmas.Bool.{cases_lt}
 use Rattle.std.proofs.lemmas.List.{length-take-le, length-append, length-replicate, append-nil, take_all}
-use Rattle.b67_word.specs.Tagged.{Tagged, bits_at}
+use Rattle.b67_word.specs.Tagged.{Tagged}
 use Rattle.b67_lemmas.proofs.Keyed.{change_is}
 use Rattle.b67_lemmas.proofs.Members.{total_change}
 use Rattle.b67_lemmas.proofs.Sums.{sum_total}
@@ -12,10 +11,9 @@ use Rattle.b67_model.specs.Keyed.{keyed, change_keyed}
 use Rattle.b67_model.specs.Common.{Array, Segment, Job, SessionJob, with_array, number_of, sectors_for, sectors_of, sectors, Session}
 use Rattle.b67_stack.specs.declared.Cpu.{Cpu}
 use Rattle.b67_stack.specs.Common.{stack_words, MachineView, slot_base, stack_of, Storage}
-use Rattle.b67_stack.proofs.Bases.{base-step}
 use Rattle.b67_layout.specs.Common.{IsInOrderButCounts, Placement, machine_view, RepresentsSession, with_job}
 use Rattle.b67_overlay.proofs.Turning.{slot_high}
-use Rattle.b67_task_need.specs.Sums.{is_home, sectors_of_word, sectors_at, core_sectors_from, sectors_of_slots}
+use Rattle.b67_task_need.specs.Sums.{sectors_of_word, sectors_at, core_sectors_from, sectors_of_slots}
 use Rattle.b67_task_need.proofs.Sessions.{session_kept}
 
 -- its first numbers; its numbers, with zeros behind them; and so many
@@ -29,10 +27,7 @@ pub resized_same : (n : ℕ) (xs : List ℕ) → length xs ≡ n → take n xs +
 resized_same n xs e = resized_cut n xs (omega (arith, e)) ∙ take_all n xs (omega (arith, e))
 
 pub length_resized : (n : ℕ) (xs : List ℕ) → length (take n xs ++ replicate (n - length xs) 0) ≡ n
-length_resized n xs = ⊎_elim
-    (λ (low : n < length xs). ap length (resized_cut n xs (omega (arith, low))) ∙ length-take-le n xs (omega (arith, low)))
-    (λ (up : length xs ≤ n). (let count = length-append xs (replicate (n - length xs) 0) in let zeros = length-replicate {A = ℕ} (n - length xs) 0 in ap length (resized_grown n xs up) ∙ omega (arith, count, zeros, up)))
-    (cases_lt n (length xs))
+length_resized n xs = grind (arith, length-take-le, length-append, length-replicate, resized_grown)
 
 -- another job in a session
 pub job_sectors : (s : Session) (m : SessionJob) (job : Job) → keyed number_of m.constants.number s.jobs ≡ Some m
@@ -64,23 +59,14 @@ session_sectors s m a f member found = omega (arith, job_sectors s m (with_array
 
 -- a job with the same arrays takes as many
 pub same_sectors : (s : Session) (m : SessionJob) (job job' : Job) → keyed number_of m.constants.number s.jobs ≡ Some m → job'.arrays ≡ job.arrays → sectors (with_job s m job').jobs ≡ sectors (with_job s m job).jobs
-same_sectors s m job job' member e =
-    let weight : Array → ℕ = λ z. sectors_for (length z.numbers) in
-    let code : ℕ = sum_by (λ (g : Segment). sectors_for (length g.code)) m.constants.segments in
-    let both : code + sum_by weight job'.arrays ≡ code + sum_by weight job.arrays = ap (λ (arrays : List Array). code + sum_by weight arrays) e in
-    omega (arith, both, job_sectors s m job member, job_sectors s m job' member)
+same_sectors s m job job' member e = grind (arith, job_sectors)
 
 -- a word of core says how long one object is
 word_few : (code : Bool) (w : Tagged) → sectors_of_word code w ≤ 2185
-word_few code w = by (is_home code w)
-  where
-    by : (b : Bool) → (if b then sectors_for (bits_at w 20 16) else 0) ≤ 2185
-    by true = omega arith
-    by false = omega arith
+word_few code w = grind arith
 
 at_few : (code : Bool) (o : Option Tagged) → sectors_at code o ≤ 2185
-at_few code None = omega arith
-at_few code (Some w) = word_few code w
+at_few code o = grind arith
 
 from_few : (code : Bool) (core : List Tagged) (from n : ℕ) → core_sectors_from code core from n ≤ 2185 * n
 from_few code core from zero = omega arith
@@ -88,9 +74,7 @@ from_few code core from (suc n) = omega (arith, from_few code core from n, at_fe
 
 slots_few : (core : List Tagged) (p : MachineView) (n : ℕ) → ((k : ℕ) → k < n → stack_words (stack_of (p.slots k)) ≤ p.size) → sectors_of_slots core p n + 2185 * p.stacks ≤ 2185 * slot_base p n
 slots_few core p zero f = let none : slot_base p 0 ≡ p.stacks = grind arith in omega (arith, none)
-slots_few core p (suc k) f =
-    let next : slot_base p (suc k) ≡ slot_base p k + p.size = ap (slot_base p) (let e : suc k ≡ k + 1 = omega arith in e) ∙ base-step p k in
-    omega (arith, next, slots_few core p k (λ i low. f i (omega (arith, low))), f k (omega arith), from_few false core (slot_base p k + 1) (stack_words (stack_of (p.slots k))))
+slots_few core p (suc k) f = grind (arith, from_few, slots_few core p k)
 
 pub sectors_few : (x : Storage) (cpu : Cpu) (plan : Placement) (s : Session) → IsInOrderButCounts s → RepresentsSession x cpu plan s → sectors s.jobs < 2185 * 2 ^ 20
 sectors_few x cpu plan s o h =

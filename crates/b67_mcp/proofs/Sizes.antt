@@ -1,6 +1,5 @@
 -- What stays of the machine where core keeps its areas, and where nothing has changed.
-use Rattle.std.proofs.Common.{◌≡◌, ℕ, List, length, refl, sym, ◌∙◌, ap, subst}
-use Rattle.b67_area.specs.Spans.{Span, end}
+use Rattle.std.proofs.Common.{◌≡◌, ℕ, length, refl, sym, ◌∙◌, subst, arith}
 use Rattle.b67_model.specs.Schedule.{Session}
 use Rattle.b67_stack.specs.declared.Cpu.{Cpu}
 use Rattle.b67_stack.specs.Represents.{Storage}
@@ -12,8 +11,7 @@ use Rattle.b67_task_tables.proofs.Keeping.{keeps_same}
 
 -- core has the size that the spans of its directory have
 pub same_size : (x y : Storage) (old new : Cpu) (plan there : Placement) (s z : Session) → RepresentsSession x old plan s → RepresentsSession y new there z → y.low ≡ x.low → y.spans ≡ x.spans → length new.core ≡ length old.core
-same_size x y old new plan there s z a b low spans =
-    sym b.holds.memory.directory.all ∙ ap (λ (i : ℕ). end i y.spans) low ∙ ap (λ (ss : List Span). end x.low ss) spans ∙ a.holds.memory.directory.all
+same_size x y old new plan there s z a b low spans = grind arith
 
 pub kept_is : (old new : Machine) → new ≡ old → Keeps old new
 kept_is old new e = subst (λ (k : Machine). Keeps old k) (sym e) (keeps_same old)

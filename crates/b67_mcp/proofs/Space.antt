@@ -1,15 +1,14 @@
 -- What is present lies in areas that are apart, above the stacks and within core.
-use Rattle.std.proofs.Common.{◌≡◌, ◌≢◌, ℕ, ◌+◌, ◌-◌, ◌*◌, Bool, true, false, length, map, flat_map, Some, refl, sym, ◌∙◌, ap, arith}
-use Rattle.std.specs.Prelude.{max, if◌then◌else◌}
+use Rattle.std.proofs.Common.{◌≡◌, ◌≢◌, ℕ, ◌+◌, ◌-◌, ◌*◌, Bool, length, map, flat_map, Some, refl, ◌∙◌, ap, arith}
+use Rattle.std.specs.Prelude.{if◌then◌else◌}
 use Rattle.std.proofs.lemmas.Bool.{ne_eqb}
-use Rattle.std.proofs.lemmas.Option.{same_Some}
 use Rattle.b67_area.specs.declared.kinds.Info.{Info}
 use Rattle.b67_area.specs.declared.kinds.Kind.TheVariants as kind
 use Rattle.b67_area.specs.Spans.{area_at}
 use Rattle.b67_lemmas.specs.Lists.{Has}
 use Rattle.b67_lemmas.proofs.Members.{all_in, keyed_has}
 use Rattle.b67_lemmas.proofs.Places.{get_within}
-use Rattle.b67_model.specs.Common.{Array, Task, SessionJob, code_of, fixed, live_tasks, number_of, Session, ArrayInOrder}
+use Rattle.b67_model.specs.Common.{Array, Task, SessionJob, code_of, fixed, number_of, Session, ArrayInOrder}
 use Rattle.b67_layout.specs.Common.{IsInOrderButCounts, Placement, code_objects, objects_of, array_object, IsRunning, RepresentsSession, area_held}
 use Rattle.b67_stack.specs.declared.Cpu.{Cpu}
 use Rattle.b67_stack.specs.Common.{PagedObject, Storage, info_of}
@@ -24,8 +23,7 @@ use Rattle.b67_mcp.proofs.Areas.{one_fits, two_fit}
 
 -- an array is no segment
 not_code : (b : Bool) → kind.Code ≡ (if b then kind.Array else kind.Row) → ⊥
-not_code true e = cc
-not_code false e = cc
+not_code b e = grind arith
 
 module _ (x : Storage) (cpu : Cpu) (plan : Placement) (s : Session) (m : SessionJob) (t : Task) (o : IsInOrderButCounts s) (h : RepresentsSession x cpu plan s) (runs : IsRunning plan s.jobs m t) where
   has_m : Has s.jobs m
@@ -33,18 +31,10 @@ module _ (x : Storage) (cpu : Cpu) (plan : Placement) (s : Session) (m : Session
 
   -- the need is what lies below the areas, the running segment's area and the array's
   low_is : x.low ≡ fixed s.jobs + s.peak * m.constants.stack_size
-  low_is =
-      let holds = h.holds in
-      holds.memory.slots.laid.low
-      ∙ ap (λ (n : ℕ). n + plan.peak * plan.size) (sym (follow_all plan 160 s.jobs holds.fits.dictionaries))
-      ∙ ap (λ (n : ℕ). fixed s.jobs + n * plan.size) holds.fits.peak
-      ∙ ap (λ (n : ℕ). fixed s.jobs + s.peak * n) (sym (holds.fits.sizes m has_m))
+  low_is = grind (arith, follow_all, has_m)
 
   need_is : (words : ℕ) → need_with s m t 0 words ≡ x.low + (length (code_of m.constants t.segment) + 2) + array_area words
-  need_is words =
-      let peak : max s.peak (live_tasks s.jobs + 0) ≡ s.peak = omega (arith, o.peak_low) in
-      ap (λ (n : ℕ). fixed s.jobs + n * m.constants.stack_size + (length (code_of m.constants t.segment) + 2) + array_area words) peak
-      ∙ ap (λ (n : ℕ). n + (length (code_of m.constants t.segment) + 2) + array_area words) (sym low_is)
+  need_is words = grind (arith, low_is)
 
   -- the area of an object that is present
   area_is : (z : PagedObject) (at : ℕ) → Has (flat_map (objects_of plan) s.jobs) z → (x.held z.home).area ≡ Some at → area_at x.low x.spans at ≡ Some (info_of x z)
@@ -87,10 +77,7 @@ module _ (x : Storage) (cpu : Cpu) (plan : Placement) (s : Session) (m : Session
       rw (ne_eqb (length a.numbers) 0 (λ e. omega (arith, e, some))) refl
 
   apart : (a : Array) (at there : ℕ) (i : Info) → area_at x.low x.spans at ≡ Some i → i.kind ≡ kind.Code → area_at x.low x.spans there ≡ Some (info_of x (array_object plan m.constants.number a)) → at ≢ there
-  apart a at there i e k f same =
-      let z = info_of x (array_object plan m.constants.number a) in
-      let both : i ≡ z = same_Some i z (sym e ∙ ap (area_at x.low x.spans) same ∙ f) in
-      not_code a.writable (sym k ∙ ap (λ (y : Info). y.kind) both)
+  apart a at there i e k f same = grind arith
 
   pub has_space : (at : ℕ) → code_area x plan m t ≡ Some at → HasSpace x plan s m t (length cpu.core)
   has_space at present =

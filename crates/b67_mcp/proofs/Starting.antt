@@ -1,22 +1,20 @@
 -- What the step of a task that starts another needs of core, and the stops of such a step.
-use Rattle.std.proofs.Common.{◌≡◌, ◌≢◌, ℕ, ◌+◌, ◌≤◌, ◌<◌, inr, List, [], length, Option, Some, None, Result, Ok, Err, refl, sym, ◌∙◌, ap, arith, subst}
+use Rattle.std.proofs.Common.{◌≡◌, ◌≢◌, ℕ, ◌+◌, ◌≤◌, ◌<◌, inr, List, [], length, Option, Some, None, Result, Ok, Err, sym, ◌∙◌, arith, subst}
 use Rattle.std.specs.Prelude.{if◌then◌else◌}
-use Rattle.std.proofs.lemmas.Bool.{le-ltb}
 use Rattle.b67_word.specs.declared.couples.Place.{Place}
 use Rattle.b67_word.specs.declared.faults.Fault.{Fault}
 use Rattle.b67_area.specs.declared.kinds.Kind.{Kind}
 use Rattle.b67_area.specs.declared.kinds.Kind.TheVariants as kind
 use Rattle.b67_backing.specs.declared.refusals.SpaceFault.{SpaceFault}
 use Rattle.b67_backing.specs.declared.refusals.SpaceFault.TheVariants as space
-use Rattle.b67_model.specs.Common.{Answer, Word, Task, SessionJob, Done, touched_of, started_by, need, step, sectors, Session}
+use Rattle.b67_model.specs.Common.{Word, Task, SessionJob, need, step, sectors, Session}
 use Rattle.b67_layout_storage.specs.Machine.{MachineRepresentsView}
 use Rattle.b67_layout_storage.proofs.Devices.{says_of}
 use Rattle.b67_layout.specs.Common.{IsInOrderButCounts, array_object, machine_view, Placement, IsRunning, area_held}
 use Rattle.b67_stack.specs.Common.{PagedObject, Storage, Content, KeptChain}
 use Rattle.b67_exec_cells.proofs.Replaced.{array_object-has}
 use Rattle.b67_exec_cells.specs.Running.{code_area}
-use Rattle.b67_task_need.specs.Needing.{need_with, touched_words, HasWords, StandsOrdered}
-use Rattle.b67_task_need.proofs.Needs.{need_whole}
+use Rattle.b67_task_need.specs.Needing.{need_with, StandsOrdered}
 use Rattle.b67_task_tables.specs.declared.tables.Machine.{Machine}
 use Rattle.b67_task_tables.specs.Tables.{MachineRepresents}
 use Rattle.b67_task_tables.specs.Shortage.{IsShortOf}
@@ -35,9 +33,7 @@ use Rattle.b67_mcp.proofs.Space.{has_space}
 
 -- a present object without a chain is an array that may be written
 unkept_kind : (y : Storage) (t : PagedObject) (k : Kind) (first : ℕ) → KeptChain y t k first → first ≡ 0 → k ≡ kind.Array
-unkept_kind y t kind.Array first c e = refl
-unkept_kind y t kind.Row first c e = absurd (omega (arith, c.chain.some, e))
-unkept_kind y t kind.Code first c e = absurd (omega (arith, c.chain.some, e))
+unkept_kind y t k first c e = grind arith
 
 -- a machine that is short of sectors for such an array represents a session that takes more than the device has
 short_of : (y : Storage) (told : Option (List (List ℕ))) (k : Machine) (plan : Placement) (s : Session) (wants free count : ℕ) → MachineRepresents y told k plan s → IsShortOf y plan s.jobs wants free → count + 1 ≡ length k.sectors.links → count < sectors s.jobs
@@ -60,26 +56,10 @@ short_of y told k plan s wants free count h w links =
 -- a step that starts a task: it needs room for one stack more, and touches nothing
 module _ (x : Storage) (told : Option (List (List ℕ))) (k : Machine) (plan : Placement) (s : Session) (m : SessionJob) (t : Task) (o : IsInOrderButCounts s) (h : MachineRepresents x told k plan s) (runs : IsRunning plan s.jobs m t) where
   base_fits : code_area x plan m t ≢ None → need_with s m t 0 0 ≤ length k.cpu.core
-  base_fits code = by (code_area x plan m t) refl code where
-    by : (area : Option ℕ) → code_area x plan m t ≡ area → area ≢ None → need_with s m t 0 0 ≤ length k.cpu.core
-    by None is some = absurd (some refl)
-    by (Some at) is some = (has_space x k.cpu plan s m t o h.session runs at is).code
+  base_fits code = grind (arith, has_space)
 
   pub need_started : code_area x plan m t ≢ None → StartsTask m t → need (length k.cpu.core) s m t ≡ need_with s m t 1 0
-  need_started code a =
-      let core = length k.cpu.core in
-      let made : Answer Done = step m.constants m.progress.job t in
-      let touched : Option ℕ = touched_of m.constants m.progress.job t made in
-      let none : touched ≡ None = ap (touched_of m.constants m.progress.job t) a.is in
-      let one : started_by m.progress.job made ≡ 1 = (let is = ap (started_by m.progress.job) a.is in omega (arith, is, a.more)) in
-      let some : HasWords m.progress.job touched = subst (HasWords m.progress.job) (sym none) tt in
-      let base = need_with s m t 0 0 in
-      let full = need_with s m t (started_by m.progress.job made) (touched_words m.progress.job touched) in
-      let C : _ → ℕ = λ b. if b then base else full in
-      need_whole core s m t o.peak_low made refl some
-      ∙ ap C (le-ltb core base (base_fits code))
-      ∙ ap (λ (n : ℕ). need_with s m t n (touched_words m.progress.job touched)) one
-      ∙ ap (λ (q : Option ℕ). need_with s m t 1 (touched_words m.progress.job q)) none
+  need_started code a = grind (arith, base_fits)
 
   -- the machine represents some session where the task wasn't started
   pub process_stands : (next : Place) (arguments : List Word) (after : Option (List (List ℕ))) (new : Machine) (fault : SpaceFault) → ProcessMeets after plan s m t next arguments (Err fault) k new → StandsOrdered new
@@ -116,20 +96,14 @@ module _ (x : Storage) (told : Option (List (List ℕ))) (k : Machine) (plan : P
           size_is = omega (arith, size_is, links);
           exceeds = (let above = short_of w.storage after new plan s wants free count w.stands g.short links in omega (arith, above, total));
         })
-    process_stops after count new space.BackingFault stop code links is g =
-        let S : Stop → Type 0 = λ z. SilentMeets x after count plan s m t (Err z) k new in
-        subst S (sym is) (record { starts = starts g.starts; storage = g.storage; stands = g.stands; tables = g.tables })
+    process_stops after count new space.BackingFault stop code links is g = grind arith
 
     pub process_touches : (after : Option (List (List ℕ))) (new : Machine) (done : Result (Unit {0}) Fault) → ProcessMeets after plan s m t c.next c.arguments (Ok done) k new → CallTouches x plan m t (Ok (call_end_of done))
     process_touches after new (Ok done) g = made_untouched m t x plan g.job [] (c.is ∙ g.is)
     process_touches after new (Err fault) g = faults_untouched m t x plan 12 (λ e. absurd cc) c fault (c.is ∙ g.0)
 
     pub stops_touch : (after : Option (List (List ℕ))) (new : Machine) (fault : SpaceFault) (stop : Stop) → StopsFor new fault stop → ProcessMeets after plan s m t c.next c.arguments (Err fault) k new → CallTouches x plan m t (Err stop)
-    stops_touch after new (space.NoCore words size) stop is g = let S : Stop → Type 0 = λ z. CallTouches x plan m t (Err z) in subst S (sym is) tt
-    stops_touch after new (space.BackingFull wants free) stop (sum, size, is, sums, size_is) g =
-        let S : Stop → Type 0 = λ z. CallTouches x plan m t (Err z) in
-        subst S (sym is) (made_untouched m t x plan g.stopped.starts.job [] (c.is ∙ g.stopped.starts.is))
-    stops_touch after new space.BackingFault stop is g = let S : Stop → Type 0 = λ z. CallTouches x plan m t (Err z) in subst S (sym is) (made_untouched m t x plan g.starts.job [] (c.is ∙ g.starts.is))
+    stops_touch after new fault stop is g = grind arith
 
     -- where a task is started, core has room
     pub process_fits : (done : Result (Unit {0}) Fault) → code_area x plan m t ≢ None → ProcessFits (length k.cpu.core) s m t c.next c.arguments (Ok done) → CallFits (length k.cpu.core) s m t (Ok (call_end_of done))
@@ -141,12 +115,8 @@ module _ (x : Storage) (told : Option (List (List ℕ))) (k : Machine) (plan : P
 
     pub stops_fit : (new : Machine) (fault : SpaceFault) (stop : Stop) → code_area x plan m t ≢ None → StopsFor new fault stop → ProcessFits (length k.cpu.core) s m t c.next c.arguments (Err fault) → CallFits (length k.cpu.core) s m t (Err stop)
     stops_fit new (space.NoCore words size) stop code is fits = let S : Stop → Type 0 = λ z. CallFits (length k.cpu.core) s m t (Err z) in subst S (sym is) tt
-    stops_fit new (space.BackingFull wants free) stop code (sum, size, is, sums, size_is) fits =
-        let S : Stop → Type 0 = λ z. CallFits (length k.cpu.core) s m t (Err z) in
-        subst S (sym is) (λ a. (let need_is = need_started code a in omega (arith, need_is, fits)))
-    stops_fit new space.BackingFault stop code is fits =
-        let S : Stop → Type 0 = λ z. CallFits (length k.cpu.core) s m t (Err z) in
-        subst S (sym is) (λ a. (let need_is = need_started code a in omega (arith, need_is, fits)))
+    stops_fit new (space.BackingFull wants free) stop code (sum, size, is, sums, size_is) fits = grind (arith, need_started)
+    stops_fit new space.BackingFault stop code is fits = grind (arith, need_started)
 
     -- the device may have been written only then
     pub process_writes : (done : Result (Unit {0}) Fault) → ProcessWrites m t c.next c.arguments (Ok done) → CallWrites x plan m t (Ok (call_end_of done))
@@ -159,11 +129,7 @@ module _ (x : Storage) (told : Option (List (List ℕ))) (k : Machine) (plan : P
     stops_write new space.BackingFault stop is w = let S : Stop → Type 0 = λ z. CallWrites x plan m t (Err z) in subst S (sym is) (inr (starts w))
 
 pub stop_faults : (k : Machine) (fault : SpaceFault) (stop : Stop) → StopsFor k fault stop → stop ≡ stops.BackingFault → fault ≡ space.BackingFault
-stop_faults k (space.NoCore words size) stop is e = let z : stops.NoCore words size ≡ stops.BackingFault = sym is ∙ e in absurd cc
-stop_faults k (space.BackingFull wants free) stop (sum, size, is, sums, size_is) e = let z : stops.BackingFull sum size ≡ stops.BackingFault = sym is ∙ e in absurd cc
-stop_faults k space.BackingFault stop is e = refl
+stop_faults k fault stop is e = grind arith
 
 pub stop_silent : (k : Machine) (fault : SpaceFault) (stop : Stop) → StopsFor k fault stop → stop ≢ stops.PrintFault
-stop_silent k (space.NoCore words size) stop is e = let both = sym is ∙ e in cc
-stop_silent k (space.BackingFull wants free) stop (sum, size, is, sums, size_is) e = let both = sym is ∙ e in cc
-stop_silent k space.BackingFault stop is e = let both = sym is ∙ e in cc
+stop_silent k fault stop is e = grind arith

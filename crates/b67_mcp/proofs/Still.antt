@@ -1,10 +1,9 @@
 -- A call of an intrinsic but 12 to 16 starts no task; and the session where none is started.
-use Rattle.std.proofs.Common.{◌≡◌, ℕ, ◌+◌, ◌-◌, ◌≤◌, List, [], ◌∷◌, replicate, length, Option, None, Ok, Err, refl, sym, ◌∙◌, ap, arith, subst, true, Some}
-use Rattle.std.specs.Prelude.{max}
-use Rattle.b67_model.specs.Common.{Answer, Word, Operand, Original, Array, Task, Job, SessionJob, OperatorContext, top, below_top, array, with_array, all_zero, resized, Line, Value, Values, Done, Goes, Leaves, Waits, answered, answers, array_length, arraydec, print, numbers_of, row_copy, printrow, read_from, read, needs_writable, deallocate, resize, intrinsic, started_by, step, live_tasks, Session}
+use Rattle.std.proofs.Common.{◌≡◌, ℕ, ◌+◌, ◌-◌, ◌≤◌, List, [], ◌∷◌, replicate, length, Option, None, Ok, refl, sym, ◌∙◌, ap, arith, subst, true, Some}
+use Rattle.b67_model.specs.Common.{Answer, Word, Operand, Original, Array, Task, Job, SessionJob, OperatorContext, top, below_top, array, with_array, all_zero, resized, Line, Value, Values, Done, Goes, Leaves, Waits, answers, array_length, arraydec, print, numbers_of, row_copy, printrow, read_from, read, needs_writable, deallocate, resize, intrinsic, started_by, step, live_tasks, Session}
 use Rattle.b67_model.specs.Words.{whole}
-use Rattle.b67_law_order.proofs.Posts.{Post, post_ok, post_err, post_any, post_then, post_at}
-use Rattle.b67_layout.specs.Common.{Placement, here, with_job, peak_with, session_moved}
+use Rattle.b67_law_order.proofs.Posts.{Post, post_err, post_any, post_then, post_at}
+use Rattle.b67_layout.specs.Common.{Placement, here, with_job, session_moved}
 use Rattle.b67_stack.specs.Represents.{Storage}
 use Rattle.b67_task_tables.specs.declared.tables.Machine.{Machine}
 use Rattle.b67_task_tables.specs.Tables.{MachineRepresents}
@@ -21,8 +20,7 @@ Still n (Waits condition) = Unit {0}
 
 module _ (n : ℕ) where
   still : (h : OperatorContext) (job : Job) (words : List Word) (printed : List Line) (touched : Option ℕ) → length job.tasks ≡ n → Post (Still n) (answers h job words printed touched)
-  still h job words printed touched e =
-      post_then (Still n) _ _ (post_then (Still n) _ _ (post_ok (Still n) _ (length_change (λ (u : Task). u.number) (answered h words).number (answered h words) job.tasks ∙ e)))
+  still h job words printed touched e = grind (arith, length_change)
 
   arraydec_still : (h : OperatorContext) (arguments : List Word) → length h.job.tasks ≡ n → Post (Still n) (arraydec h arguments)
   arraydec_still h [] e = post_err (Still n) _
@@ -62,10 +60,7 @@ module _ (n : ℕ) where
       apart_row (Still n) k h arguments apart (arraydec_still h arguments e) (print_still h arguments e) (printrow_still h arguments e) (read_still h arguments e) (deallocate_still h arguments e) (resize_still h arguments e)
 
 pub starts_none : (job : Job) (made : Answer Done) → Post (Still (length job.tasks)) made → started_by job made ≡ 0
-starts_none job (Ok (Goes after printed touched)) quiet = let same = quiet.by in omega (arith, same)
-starts_none job (Ok Leaves) quiet = refl
-starts_none job (Ok (Waits condition)) quiet = refl
-starts_none job (Err fault) quiet = refl
+starts_none job made quiet = grind arith
 
 module _ (m : SessionJob) (t : Task) (n : ℕ) (k : Calling m t n) (apart : IsApart n) where
   as_many_by : Post (Still (length m.progress.job.tasks)) (step m.constants m.progress.job t)
@@ -85,9 +80,4 @@ never_starts m t none a = let one = ap (started_by m.progress.job) a.is in omega
 -- the machine represents the session whose peak counts the tasks
 pub stands_peak : (x : Storage) (told : Option (List (List ℕ))) (k : Machine) (plan : Placement) (s : Session) (m : SessionJob) (job : Job) → live_tasks s.jobs ≤ s.peak → length job.tasks ≡ length m.progress.job.tasks
     → MachineRepresents x told k plan (with_job s m job) → MachineRepresents x told k plan (session_moved s m job (length job.tasks - length m.progress.job.tasks))
-stands_peak x told k plan s m job low same h =
-    let none : length job.tasks - length m.progress.job.tasks ≡ 0 = omega (arith, same) in
-    let kept : max s.peak (live_tasks s.jobs + 0) ≡ s.peak = omega (arith, low) in
-    let peak : peak_with s (length job.tasks - length m.progress.job.tasks) ≡ s.peak = ap (λ (n : ℕ). max s.peak (live_tasks s.jobs + n)) none ∙ kept in
-    let P : ℕ → Type 0 = λ n. MachineRepresents x told k plan (record (with_job s m job) { peak = n }) in
-    subst P (sym peak) h
+stands_peak x told k plan s m job low same h = grind arith

@@ -16,10 +16,7 @@ use Rattle.b67_mcp.specs.Called.{printed_text}
 use Rattle.b67_mcp.specs.Running.{ForRuns}
 
 pub value_printed : (m : SessionJob) (t : Task) (j n : ℕ) (v : ℤ) (line : List ℕ) → j ≡ m.constants.number → n ≡ t.number → line ≡ task_name j n ++ value_text v → ended line ≡ printed_text m t (Value v ∷ [])
-value_printed m t j n v line ej en e =
-    let named : line ≡ task_name m.constants.number t.number ++ value_text v = e ∙ ap (λ (i : ℕ). task_name i n ++ value_text v) ej ∙ ap (λ (i : ℕ). task_name m.constants.number i ++ value_text v) en in
-    ap (λ (l : List ℕ). l ++ 10 ∷ []) named
-    ∙ sym (append-nil ((task_name m.constants.number t.number ++ value_text v) ++ 10 ∷ []))
+value_printed m t j n v line ej en e = grind (arith, append-nil)
 
 row_printed : (m : SessionJob) (t : Task) (j n : ℕ) (vs : List ℤ) → j ≡ m.constants.number → n ≡ t.number → line_text j (n, Values vs) ≡ printed_text m t (Values vs ∷ [])
 row_printed m t j n vs ej en = ap (λ (i : ℕ). line_text i (n, Values vs)) ej ∙ ap (λ (i : ℕ). line_text m.constants.number (i, Values vs)) en ∙ sym (append-nil (line_text m.constants.number (t.number, Values vs)))

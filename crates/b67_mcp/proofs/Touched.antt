@@ -1,8 +1,7 @@
 -- The array that PRINTROW touches, be it a fault afterwards or none.
-use Rattle.std.proofs.Common.{◌≡◌, ℕ, ℤ, List, [], ◌∷◌, reverse, Bool, true, false, not, Option, Some, Ok, Err, refl, sym, ◌∙◌, ap, subst}
-use Rattle.std.specs.Prelude.{nat_le}
+use Rattle.std.proofs.Common.{◌≡◌, ℕ, ℤ, List, [], ◌∷◌, Bool, Some, Ok, refl, sym, ◌∙◌, ap, subst, arith}
 use Rattle.b67_word.specs.declared.faults.Fault.TheVariants.{StackOverflow, CriticalBlock}
-use Rattle.b67_model.specs.Common.{Answer, ◌>>=◌, ◌>>◌, needs, array, End, follow_reference, numbers_of, answered, answers, printrow, touched_of, touched_by_call, touched_at_mark, touched_before_fault, Reading, reading_of, step, Standing, Marked, Task, Job, SessionJob, OperatorContext, all_frames, height, top, with_task, Line, Values, Done, Goes, is_critical, Word, Operand, Name, Ref, Row, Element, Original, Proc, Intrinsic}
+use Rattle.b67_model.specs.Common.{Answer, ◌>>=◌, ◌>>◌, needs, array, follow_reference, numbers_of, answers, printrow, touched_of, touched_before_fault, reading_of, step, Task, Job, SessionJob, OperatorContext, all_frames, Line, Values, Done, Goes, Word, Operand, Name, Ref, Row, Element, Original, Proc, Intrinsic}
 use Rattle.b67_model.specs.Words as Words
 use Rattle.b67_layout.specs.Meets.{here}
 use Rattle.b67_law_order.proofs.Follows.{follow_same}
@@ -24,28 +23,16 @@ module _ (m : SessionJob) (t : Task) (k : Calling m t 10) (a : ℕ) (are : k.arg
   at_call = record { constants = m.constants; job = m.progress.job; task = t; at = t.place }
 
   before : touched_before_fault m.constants m.progress.job t (reading_of m.constants t) ≡ Some a
-  before =
-      let by_reading : Reading → Option ℕ = λ r. touched_before_fault m.constants m.progress.job t r in
-      let by_mark : Standing → Option ℕ = λ st. touched_at_mark at_call st (reverse (top t.frames).cells) in
-      let by_cells : List Word → Option ℕ = λ cs. touched_at_mark at_call Marked cs in
-      let by_arguments : List Word → Option ℕ = λ ws. touched_by_call (k.reference ∷ ws) (follow_reference at_call k.reference) in
-      let by_end : Answer End → Option ℕ = λ e. touched_by_call (k.reference ∷ Row a ∷ []) e in
-      ap by_reading k.reading ∙ ap by_mark k.call.marked ∙ ap by_cells k.call.cells ∙ ap by_arguments are
-      ∙ ap by_end (reference_same at_call (here m t k.next) refl refl refl k.reference ∙ k.ends)
+  before = grind arith
 
   abbrev IsTouch : Answer Done → Type 0
   IsTouch answer = touched_of m.constants m.progress.job t answer ≡ Some a
 
   by_tests : (job : Job) (printed : List Line) (free fits : Bool) → IsTouch (needs free CriticalBlock >> (needs fits StackOverflow >> Ok (Goes job printed (Some a))))
-  by_tests job printed true true = refl
-  by_tests job printed true false = before
-  by_tests job printed false fits = before
+  by_tests job printed free fits = grind arith
 
   by_values : (q : Answer (List ℤ)) → IsTouch (q >>= λ vs. answers (here m t k.next) m.progress.job [] (Values vs ∷ []) (Some a))
-  by_values (Err fault) = before
-  by_values (Ok vs) =
-      let gone = answered (here m t k.next) [] in
-      by_tests (with_task m.progress.job gone) (Values vs ∷ []) (not (is_critical m.progress.job (top t.frames).identity)) (nat_le (height gone.frames) m.constants.stack_size)
+  by_values q = grind (arith, by_tests)
 
   pub touched_by_row : touched_of m.constants m.progress.job t (step m.constants m.progress.job t) ≡ Some a
   touched_by_row = subst IsTouch (sym (k.is ∙ ap (printrow (here m t k.next)) are)) (by_values (numbers_of (array m.progress.job a).numbers))

@@ -1,5 +1,5 @@
 -- A call by which tasks wait for each other, as the step that it is.
-use Rattle.std.proofs.Common.{◌≡◌, ◌≢◌, ℕ, List, [], length, Option, Some, None, Result, Ok, Err, refl, sym, ◌∙◌, ap, arith, subst}
+use Rattle.std.proofs.Common.{◌≡◌, ◌≢◌, ℕ, List, [], length, Option, Some, None, Result, Ok, Err, refl, sym, ◌∙◌, ap, arith}
 use Rattle.b67_word.specs.declared.couples.Place.{Place}
 use Rattle.b67_word.specs.declared.faults.Fault.{Fault}
 use Rattle.b67_model.specs.Common.{Answer, Task, Job, SessionJob, Done, Goes, Leaves, Waits, Call, step, Session}
@@ -49,16 +49,11 @@ module _ (x : Storage) (told : Option (List (List ℕ))) (plan : Placement) (s :
   waits_so (Err fault) g = faulted fault g.0 g.1
 
   done_so : (done : Result (Unit {0}) Fault) → DoneMeets row x told plan s m t k.next k.arguments done old new → Answers told core x plan s m t (call_end_of done) old new
-  done_so (Ok done) g = made g
-  done_so (Err fault) g = faulted fault g.0 g.1
+  done_so done g = grind (arith, made, faulted)
 
   -- at the place behind the call
   pub waits_at : (next : Place) → next ≡ k.next → (done : Result (Option TaskState) Fault) (end : CallEnd) → end ≡ waiting_end done → WaitMeets row x told plan s m t next k.arguments done old new → Answers told core x plan s m t end old new
-  waits_at next same done end is_end g =
-      let P : Place → Type 0 = λ q. WaitMeets row x told plan s m t q k.arguments done old new in
-      subst (λ (e : CallEnd). Answers told core x plan s m t e old new) (sym is_end) (waits_so done (subst P same g))
+  waits_at next same done end is_end g = grind (arith, waits_so)
 
   pub done_at : (next : Place) → next ≡ k.next → (done : Result (Unit {0}) Fault) (end : CallEnd) → end ≡ call_end_of done → DoneMeets row x told plan s m t next k.arguments done old new → Answers told core x plan s m t end old new
-  done_at next same done end is_end g =
-      let P : Place → Type 0 = λ q. DoneMeets row x told plan s m t q k.arguments done old new in
-      subst (λ (e : CallEnd). Answers told core x plan s m t e old new) (sym is_end) (done_so done (subst P same g))
+  done_at next same done end is_end g = grind (arith, done_so)

@@ -1,7 +1,6 @@
 -- The machine where a call was cut, and then with a word on the frame below.
 use Rattle.std.proofs.Common.{◌≡◌, ◌≢◌, ℕ, ◌+◌, ◌<◌, ◌≤◌, ℤ, List, [], ◌∷◌, length, refl, sym, ◌∙◌, ap, arith, inl, inr, ◌⊎◌, subst, slice_set}
 use Rattle.std.specs.List.{slice_get}
-use Rattle.std.proofs.lemmas.Bool.{cases_eq}
 use Rattle.b67_core.proofs.Writes.{slice_get-set_other}
 use Rattle.b67_word.specs.Tagged.{Tagged}
 use Rattle.b67_word.specs.declared.couples.Place.{Place}
@@ -27,9 +26,7 @@ member_cut m t q = record m { progress = record m.progress { job = job_cut m t q
 
 -- a word on the frame below is no higher than the call
 pub no_higher : (fs : List Frame) (w : Word) → 1 ≤ length (top fs).cells → height (with_top_cells (below_top fs) (w ∷ (top (below_top fs)).cells)) ≤ height fs
-no_higher [] w some = omega arith
-no_higher (f ∷ []) w some = omega (arith, some)
-no_higher (f ∷ g ∷ more) w some = omega (arith, some)
+no_higher fs w some = grind arith
 
 -- a mark takes a word
 lower : (fs : List Frame) (f : Frame) (below : List Frame) → fs ≡ f ∷ below → f.standing ≡ State.Marked → height (below_top fs) + 1 ≤ height fs
@@ -80,10 +77,7 @@ module _ (x : Storage) (old mid : Cpu) (plan : Placement) (s : Session) (m : Ses
 
   -- no other word was changed
   pub changed : (w : Tagged) → mid.core ≡ old.core → (i : ℕ) → (slice_get (slice_set mid.core (mid.regs.s + 1) w) i ≡ slice_get old.core i) ⊎ IsInStack old.regs i
-  changed w e i = elim (cases_eq i (mid.regs.s + 1)) [
-    | inl z ↦ inr (subst (IsInStack old.regs) (sym z) inside)
-    | inr z ↦ inl (slice_get-set_other mid.core (mid.regs.s + 1) i w z ∙ ap (λ (core : List Tagged). slice_get core i) e)
-  ]
+  changed w e i = grind (arith, inside, slice_get-set_other)
 
   -- the machine with a word that may stand there
   pub stands_answered : (v : Word) (w : Tagged) (numbers : List ℤ) → MayPush (machine_view plan (with_job s m (job_cut m t q)).jobs).objects (shaped x mid plan (with_job s m (job_cut m t q)) (member_cut m t q) (task_cut m t q) cut runs_cut v)

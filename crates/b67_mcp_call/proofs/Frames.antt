@@ -8,7 +8,7 @@ use Rattle.b67_model.specs.Common.{Word, Frame, Marked, Condition, Ready, Awaits
 use Rattle.b67_model.specs.Keyed.{change_keyed}
 use Rattle.b67_layout.specs.Common.{IsInOrderButCounts, Placement, spot_in, IsRunning, here}
 use Rattle.b67_stack.specs.Stacks.{StackPlace}
-use Rattle.b67_layout.proofs.Common.{running_in_order, seen-with, spots-with, IsDependedOn, Replaces}
+use Rattle.b67_layout.proofs.Common.{running_in_order, IsDependedOn, Replaces}
 use Rattle.b67_layout_records.proofs.Leaves.{Leaver, Frames-below}
 use Rattle.b67_mcp_call.specs.Calls.{MayCut}
 use Rattle.b67_mcp_call.proofs.Cuts.{Cut, cut_of}
@@ -40,14 +40,7 @@ module _ (plan : Placement) (s : Session) (m : SessionJob) (t : Task) (o : IsInO
 
   pub replaces_answered : (q : Place) (w : Word) (job' : Job) → job'.tasks ≡ change_keyed (λ (u : Task). u.number) t.number (λ (u : Task). answered (here m t q) (w ∷ [])) m.progress.job.tasks
       → Replaces m.progress.job job' t (answered (here m t q) (w ∷ []))
-  replaces_answered q w job' tasks = record {
-    there = runs.task;
-    number = refl;
-    critical = refl;
-    parents = refl;
-    tasks = tasks;
-    seen = λ c k outer id d. seen-with (below_top t.frames) (w ∷ (top (below_top t.frames)).cells) c k outer id ∙ seen_below c k outer id d;
-  }
+  replaces_answered q w job' tasks = grind (arith, seen_below)
 
   waits_by : (d : Condition) → ConditionInOrder (reach_of m.progress.job t) d → WaitsThere d t.frames (below_top t.frames)
   waits_by Ready h = tt
@@ -64,9 +57,7 @@ module _ (plan : Placement) (s : Session) (m : SessionJob) (t : Task) (o : IsInO
   waits_cut = waits_by t.condition (running_in_order plan s m t o runs).1.condition
 
   waits_with : (d : Condition) (cells : List Word) → WaitsThere d t.frames (below_top t.frames) → WaitsThere d t.frames (with_top_cells (below_top t.frames) cells)
-  waits_with Ready cells h = tt
-  waits_with (Awaits n) cells h = tt
-  waits_with (WaitsAt f offset) cells h = λ k outer. spots-with k outer (below_top t.frames) cells f ∙ h k outer
+  waits_with d cells h = grind arith
 
   pub waits_answered : (cells : List Word) → WaitsThere t.condition t.frames (with_top_cells (below_top t.frames) cells)
   waits_answered cells = waits_with t.condition cells waits_cut

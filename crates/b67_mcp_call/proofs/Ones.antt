@@ -1,5 +1,5 @@
 -- A call with one argument.
-use Rattle.std.proofs.Common.{◌≡◌, ℕ, suc, List, [], ◌∷◌, reverse, length, Result, Ok, Err, refl, sym, ◌∙◌, ap, subst}
+use Rattle.std.proofs.Common.{◌≡◌, ℕ, suc, List, [], ◌∷◌, reverse, length, Result, Ok, refl, sym, ◌∙◌, ap, subst, arith}
 use Rattle.std.proofs.lemmas.List.{length-reverse}
 use Rattle.b67_word.specs.Tagged.{Tagged}
 use Rattle.b67_word.specs.declared.faults.Fault.{Fault}
@@ -13,9 +13,7 @@ use Rattle.b67_mcp_call.specs.Calls.{IsCall, OnlyCell, operand_number}
 
 -- the top one of two cells
 pub only_cell : (x : Storage) (plan : Placement) (m : SessionJob) (t : Task) (cpu : Cpu) (cs : List Word) → length cs ≡ 2 → (found : Result Tagged Fault) → GivesTop x plan m t cpu cs found → OnlyCell x plan m t cpu cs found
-only_cell x plan m t cpu [] two found g = absurd cc
-only_cell x plan m t cpu (b ∷ rest) two (Ok w) g = (two, g)
-only_cell x plan m t cpu (b ∷ rest) two (Err fault) (v, e, at) = absurd cc
+only_cell x plan m t cpu cs two found g = grind arith
 
 module _ (m : SessionJob) (t : Task) (r : Word) (arguments : List Word) (call : IsCall t r arguments) where
   pub count : length (cells t) ≡ suc (length arguments)

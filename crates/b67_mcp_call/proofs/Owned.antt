@@ -11,16 +11,8 @@ use Rattle.b67_layout.proofs.NamedFirst.{under}
 
 named_has : (n : ℕ) (fs : List Frame) (g : Frame) → Has fs g → g.identity ≡ n → frames_named n fs ≢ 0
 named_has n [] g h e z = h
-named_has n (f ∷ below) g (inl is) e z =
-    elim (eqb_tells f.identity n) [
-      | inl t ↦ let one : frames_named n (f ∷ below) ≡ 1 + frames_named n below = rw t.0 refl in let y : ⊥ = omega (arith, one, z) in y
-      | inr t ↦ t.1 (ap (λ (k : Frame). k.identity) is ∙ e)
-    ]
-named_has n (f ∷ below) g (inr h) e z =
-    elim (eqb_tells f.identity n) [
-      | inl t ↦ let one : frames_named n (f ∷ below) ≡ 1 + frames_named n below = rw t.0 refl in let y : ⊥ = omega (arith, one, z) in y
-      | inr t ↦ let same : frames_named n (f ∷ below) ≡ 0 + frames_named n below = rw t.0 refl in named_has n below g h e (omega (arith, same, z))
-    ]
+named_has n (f ∷ below) g (inl is) e z = grind arith
+named_has n (f ∷ below) g (inr h) e z = grind (arith, named_has n below g h e)
 
 no_original : (ws : List Word) (a : ℕ) → AllByRecursion (λ (w : Word). is_original w ≡ false) ws → Has ws (Original a) → ⊥
 no_original [] a h k = k

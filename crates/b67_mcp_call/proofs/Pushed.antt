@@ -9,7 +9,7 @@ use Rattle.b67_stack.specs.Common.{Shape, Fits, StackPlace, Activation, RunsOn, 
 use Rattle.b67_stack.proofs.Slots.{running_slot}
 use Rattle.b67_stack.proofs.Pushes.{Room, room_of}
 use Rattle.b67_layout.specs.Common.{Placement, slot_of, spot_in, outer_spots, spots, shape, stack_of_task, machine_view, IsRunning, ShowsDisplay, critical_mark, RepresentsSession, with_job, cells}
-use Rattle.b67_layout.proofs.Common.{OnTop, Shows-same, running_only, slot_is, runs_here, IsFree, activations-with, seen-with, SessionHolds-top, still_running, outer-same}
+use Rattle.b67_layout.proofs.Common.{OnTop, Shows-same, running_only, slot_is, runs_here, IsFree, activations-with, SessionHolds-top, still_running, outer-same}
 use Rattle.b67_exec_cells.proofs.Replaced.{cells-are, Represents-put}
 
 module _ (x : Storage) (cpu : Cpu) (plan : Placement) (s : Session) (m : SessionJob) (t : Task) (h : RepresentsSession x cpu plan s) (runs : IsRunning plan s.jobs m t) where
@@ -35,17 +35,7 @@ module _ (x : Storage) (cpu : Cpu) (plan : Placement) (s : Session) (m : Session
     task_pushed = record t { frames = with_top_cells t.frames (v ∷ cells t) }
 
     top : OnTop m.progress.job job t task_pushed n
-    top = record {
-      there = runs.task;
-      number = refl;
-      critical = refl;
-      parents = refl;
-      tasks = tasks;
-      arrays = arrays;
-      some = free.some;
-      uncritical = free.uncritical;
-      same = λ c k o id ne. seen-with t.frames (v ∷ cells t) c k o id;
-    }
+    top = grind arith
 
     pub stands_pushed : cpu.regs.s < cpu.regs.losr → MayPush (machine_view plan s.jobs).objects (shaped v) → Fits x.held (shaped v) (cpu.regs.s + 1) w
         → RepresentsSession x (pushed cpu w) plan (with_job s m job)

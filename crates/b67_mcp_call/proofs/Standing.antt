@@ -1,6 +1,5 @@
 -- The whole machine once a call is cut or answered: it represents the session without the call.
-use Rattle.std.proofs.Common.{◌≡◌, ℕ, List, [], ◌∷◌, map, length, Option, refl, sym, ◌∙◌, ap, subst}
-use Rattle.b67_area.specs.Spans.{Span, end}
+use Rattle.std.proofs.Common.{◌≡◌, ℕ, List, [], ◌∷◌, map, length, Option, refl, sym, ◌∙◌, subst, arith}
 use Rattle.b67_word.specs.Tagged.{Tagged}
 use Rattle.b67_word.specs.declared.couples.Place.{Place}
 use Rattle.b67_model.specs.Common.{Word, Task, SessionJob, top, below_top, answered, Session}
@@ -17,8 +16,7 @@ use Rattle.b67_mcp_call.proofs.Frames.{replaces_cut, waits_cut, replaces_answere
 
 -- core has the size that the spans of its directory have
 pub same_size : (x y : Storage) (old new : Cpu) (plan there : Placement) (s z : Session) → RepresentsSession x old plan s → RepresentsSession y new there z → y.low ≡ x.low → y.spans ≡ x.spans → length new.core ≡ length old.core
-same_size x y old new plan there s z a b low spans =
-    sym b.holds.memory.directory.all ∙ ap (λ (i : ℕ). end i y.spans) low ∙ ap (λ (ss : List Span). end x.low ss) spans ∙ a.holds.memory.directory.all
+same_size x y old new plan there s z a b low spans = grind arith
 
 -- the storage represents another core of the same size
 pub storage_same : (x : Storage) (told : Option (List (List ℕ))) (k : Machine) (core : List Tagged) → core ≡ k.cpu.core → RepresentsStorage k.areas k.sectors told k.cpu.core x → RepresentsStorage k.areas k.sectors told core x

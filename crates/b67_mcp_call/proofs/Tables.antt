@@ -8,7 +8,7 @@ use Rattle.b67_lemmas.specs.Lists.{Has}
 use Rattle.b67_lemmas.proofs.Members.{has_change, keyed_has}
 use Rattle.b67_model.specs.Common.{Frame, Condition, Ready, Awaits, WaitsAt, Task, Job, JobProgress, SessionJob, number_of, Session, from_frame, frames_of_task, NumberedFrom}
 use Rattle.b67_model.specs.Keyed.{keyed, change_keyed}
-use Rattle.b67_layout.specs.Common.{IsInOrderButCounts, Placement, slot_of, spot_in, base_spot, outer_spots, address_of, RowState, WaitsAtCell, TaskRow, JobRow, JobCounts, shown, critical_disp, TaskShows, JobShows, JobsShow, TablesShow, IsRunning, with_job}
+use Rattle.b67_layout.specs.Common.{IsInOrderButCounts, Placement, slot_of, spot_in, base_spot, outer_spots, TaskRow, JobRow, JobCounts, shown, critical_disp, TaskShows, JobShows, JobsShow, TablesShow, IsRunning, with_job}
 use Rattle.b67_stack.specs.Stacks.{StackPlace}
 use Rattle.b67_layout.proofs.Common.{running_in_order, member-same, change-has, change-kept, IsDependedOn, Replaces, task-same, task-other, live_in_order}
 use Rattle.b67_layout.proofs.Replaces.{outer_spots-after}
@@ -45,57 +45,30 @@ module _ (plan : Placement) (j : ℕ) (job job' : Job) (t t' : Task) (by : Repla
       (cases_eq parent t.number)
 
   shown-same : (u : Task) → Has job.tasks u → (d : Condition) → shown plan j job' u d ≡ shown plan j job u d
-  shown-same u h Ready = refl
-  shown-same u h (Awaits n) = refl
-  shown-same u h (WaitsAt f offset) = ap (λ (o : ℕ → StackPlace). WaitsAtCell (address_of plan (spot_in (slot_of plan j u.number) o u.frames f)) offset) (outer-same u h)
+  shown-same u h d = grind (arith, outer-same)
 
   shown-own : (d : Condition) → Has job.tasks t → WaitsThere d t.frames t'.frames → shown plan j job' t' d ≡ shown plan j job t d
-  shown-own Ready h w = refl
-  shown-own (Awaits n) h w = refl
-  shown-own (WaitsAt f offset) h w =
-      let S : ℕ → (ℕ → StackPlace) → List Frame → RowState = λ n o fs. WaitsAtCell (address_of plan (spot_in (slot_of plan j n) o fs f)) offset in
-      let outer : outer_spots plan j job' t'.critical t'.parents ≡ outer_spots plan j job t.critical t.parents =
-      ap (λ (c : ℕ). outer_spots plan j job' c t'.parents) by.critical ∙ ap (outer_spots plan j job' t.critical) by.parents ∙ outer-same t h in
-      ap (λ (n : ℕ). S n (outer_spots plan j job' t'.critical t'.parents) t'.frames) by.number
-      ∙ ap (λ (o : ℕ → StackPlace). S t.number o t'.frames) outer
-      ∙ ap (λ (p : StackPlace). WaitsAtCell (address_of plan p) offset) (w (slot_of plan j t.number) (outer_spots plan j job t.critical t.parents))
+  shown-own d h w = grind (arith, outer-same)
 
 -- the members once one of them has another course
 numbered_change : (k n : ℕ) (c : JobProgress) (jobs : List SessionJob) → NumberedFrom k jobs → NumberedFrom k (change_keyed number_of n (λ (y : SessionJob). record y { progress = c }) jobs)
 numbered_change k n c [] d = d
-numbered_change k n c (y ∷ more) d = elim (eqb_tells (number_of y) n) [
-  | inl t ↦ rw t.0 (d.0, d.1)
-  | inr t ↦ rw t.0 (d.0, numbered_change (k + 1) n c more d.1)
-]
+numbered_change k n c (y ∷ more) d = grind (arith, numbered_change (k + 1) n c more d.1)
 
 -- the rows of jobs, where the changed job's row is as it was
 pub jobs_kept : (plan : Placement) (n : ℕ) (m : SessionJob) (c : JobProgress) (jobs : List SessionJob) (rows : List JobRow) → keyed number_of n jobs ≡ Some m → ((row : JobRow) → JobShows plan m row → JobShows plan (record m { progress = c }) row)
     → JobsShow plan jobs rows → JobsShow plan (change_keyed number_of n (λ (y : SessionJob). record y { progress = c }) jobs) rows
 jobs_kept plan n m c [] rows e f h = absurd (none-some m e)
 jobs_kept plan n m c (y ∷ more) [] e f h = absurd h
-jobs_kept plan n m c (y ∷ more) (row ∷ rows) e f h = elim (eqb_tells (number_of y) n) [
-  | inl t ↦
-      let same : m ≡ y = sym (same_Some y m (rw t.0 at e)) in
-      let P : SessionJob → Type 0 = λ z. JobShows plan z row → JobShows plan (record z { progress = c }) row in
-      rw t.0 (subst P same (f row) h.0, h.1)
-  | inr t ↦ rw t.0 (h.0, jobs_kept plan n m c more rows (rw t.0 at e) f h.1)
-]
+jobs_kept plan n m c (y ∷ more) (row ∷ rows) e f h = grind (arith, jobs_kept plan n m c more rows)
 
 -- and where it changes
 pub jobs_put : (plan : Placement) (k i n : ℕ) (m : SessionJob) (c : JobProgress) (jobs : List SessionJob) (rows : List JobRow) (row row' : JobRow) → k + i ≡ n → NumberedFrom k jobs → keyed number_of n jobs ≡ Some m → slice_get rows i ≡ Some row
     → JobShows plan (record m { progress = c }) row' → JobsShow plan jobs rows → JobsShow plan (change_keyed number_of n (λ (y : SessionJob). record y { progress = c }) jobs) (slice_set rows i row')
 jobs_put plan k i n m c [] rows row row' e d found at w h = absurd (none-some m found)
 jobs_put plan k i n m c (y ∷ more) [] row row' e d found at w h = absurd h
-jobs_put plan k zero n m c (y ∷ more) (q ∷ rows) row row' e d found at w h = elim (eqb_tells (number_of y) n) [
-  | inl t ↦
-      let same : m ≡ y = sym (same_Some y m (rw t.0 at found)) in
-      rw t.0 (subst (λ (z : SessionJob). JobShows plan (record z { progress = c }) row') same w, h.1)
-  | inr t ↦ absurd (t.1 (omega (arith, d.0, e)))
-]
-jobs_put plan k (suc i) n m c (y ∷ more) (q ∷ rows) row row' e d found at w h = elim (eqb_tells (number_of y) n) [
-  | inl t ↦ absurd (omega (arith, t.1, d.0, e))
-  | inr t ↦ rw t.0 (h.0, jobs_put plan (k + 1) i n m c more rows row row' (omega (arith, e)) d.1 (rw t.0 at found) at w h.1)
-]
+jobs_put plan k zero n m c (y ∷ more) (q ∷ rows) row row' e d found at w h = grind arith
+jobs_put plan k (suc i) n m c (y ∷ more) (q ∷ rows) row row' e d found at w h = grind (arith, jobs_put plan (k + 1) i n m c more rows row row')
 
 module _ (plan : Placement) (s : Session) (m : SessionJob) (t t' : Task) (job' : Job) (o : IsInOrderButCounts s) (runs : IsRunning plan s.jobs m t) (by : Replaces m.progress.job job' t t')
     (condition : t'.condition ≡ t.condition) (waits : WaitsThere t.condition t.frames t'.frames) where
@@ -112,31 +85,10 @@ module _ (plan : Placement) (s : Session) (m : SessionJob) (t t' : Task) (job' :
   has_m = (keyed_has number_of m.constants.number s.jobs m runs.member).0
 
   own : (row : TaskRow) → TaskShows plan m t row → TaskShows plan after t' row
-  own row w =
-      let here : row.slot ≡ plan.running = w.slot ∙ sym runs.slot in
-      record {
-        job = w.job;
-        number = w.number ∙ sym by.number;
-        slot = w.slot ∙ ap (slot_of plan m.constants.number) (sym by.number);
-        parent = w.parent ∙ ap (Rattle.b67_layout.specs.Rows.parent_slot plan m.constants.number) (sym by.parents);
-        critical = w.critical ∙ sym (critical-same plan m.constants.number m.progress.job job' t t' by t.critical t.parents (inr (t, has_t, refl)))
-            ∙ ap (λ (c : ℕ). critical_disp plan m.constants.number job' c t.parents) (sym by.critical) ∙ ap (critical_disp plan m.constants.number job' t'.critical) (sym by.parents);
-        state = w.state ∙ sym (shown-own plan m.constants.number m.progress.job job' t t' by t.condition has_t waits) ∙ ap (shown plan m.constants.number job' t') (sym condition);
-        segment = λ ne. absurd (ne here);
-        place = λ ne. absurd (ne here);
-      }
+  own row w = grind (arith, critical-same, has_t, shown-own)
 
   other : (u : Task) (row : TaskRow) → Has m.progress.job.tasks u → TaskShows plan m u row → TaskShows plan after u row
-  other u row h w = record {
-    job = w.job;
-    number = w.number;
-    slot = w.slot;
-    parent = w.parent;
-    critical = w.critical ∙ sym (critical-same plan m.constants.number m.progress.job job' t t' by u.critical u.parents (inr (u, h, refl)));
-    state = w.state ∙ sym (shown-same plan m.constants.number m.progress.job job' t t' by u h u.condition);
-    segment = w.segment;
-    place = w.place;
-  }
+  other u row h w = grind (arith, critical-same, shown-same)
 
   has_after : Has (with_job s m job').jobs after
   has_after = (keyed_has number_of m.constants.number (with_job s m job').jobs after (member-same s.jobs m.constants.number (record m.progress { job = job' }) m runs.member)).0

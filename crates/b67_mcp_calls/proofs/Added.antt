@@ -1,11 +1,11 @@
 -- A machine represents a view with one array more, of which nothing is held, where the word of its original stands.
-use Rattle.std.proofs.Common.{◌≡◌, ◌≢◌, ℕ, ◌<◌, ◌≤◌, ◌^◌, List, length, Some, sym, ◌∙◌, ap, arith, inl, inr, ◌⊎◌, subst, refl}
+use Rattle.std.proofs.Common.{◌≡◌, ◌≢◌, ℕ, ◌<◌, ◌≤◌, ◌^◌, List, length, Some, sym, ◌∙◌, ap, arith, inl, inr, ◌⊎◌, subst}
 use Rattle.std.specs.List.{slice_get}
 use Rattle.b67_word.specs.Tagged.{Tagged}
 use Rattle.b67_area.specs.declared.Kind.TheVariants.{Array, Code}
 use Rattle.b67_ctl.specs.declared.registers.Regs.{Regs}
 use Rattle.b67_lemmas.specs.Lists.{Has}
-use Rattle.b67_stack.specs.Common.{Location, nowhere, PagedObject, MachineView, Slot, Free, Running, Waiting, SlotFits, AreZero, home_word, slot_base, Storage, RepresentsSlot, Content, RepresentsObject, Represents}
+use Rattle.b67_stack.specs.Common.{Location, nowhere, PagedObject, MachineView, Slot, SlotFits, AreZero, home_word, slot_base, Storage, RepresentsSlot, RepresentsObject, Represents}
 use Rattle.b67_layout.proofs.Objects.{of_objects}
 
 -- an array of zeros that was never touched, at an address where no object is known
@@ -31,20 +31,13 @@ each old new all a P here o t i = elim (a.back t i) [ inl e ↦ subst P (sym e) 
 
 module _ (x : Storage) (core : List Tagged) (r : Regs) (p : MachineView) (new : PagedObject) (all : List PagedObject) (s : Represents x core r p) (f : Fresh x core p new) (a : Added p.objects new all) where
   fits : (k : ℕ) (slot : Slot) → SlotFits p k slot → SlotFits (of_objects p all) k slot
-  fits k Free g = g
-  fits k (Running stack) g = (g.0, λ c home h. let (t, i, e, n) = g.1 c home h in (t, a.there t i, e, n))
-  fits k (Waiting stack) g = (g.0, λ c home h. let (t, i, e, n) = g.1 c home h in (t, a.there t i, e, n))
+  fits k slot g = grind arith
 
   stands : (k : ℕ) (slot : Slot) → RepresentsSlot core r p k slot → RepresentsSlot core r (of_objects p all) k slot
-  stands k Free g = g
-  stands k (Running stack) g = record { slot = g.slot; first = g.first; last = g.last; top = g.top; mark = g.mark; level = g.level }
-  stands k (Waiting stack) g = g
+  stands k slot g = grind arith
 
   new_object : RepresentsObject x core new
-  new_object =
-      let P : Location → Type 0 = λ g. (slice_get core new.home ≡ Some (home_word new g)) × Content x core new g.area g.chain in
-      let both = subst P (sym f.held) (f.word, inr (refl, f.array, f.zeros)) in
-      record { home = both.0; content = both.1 }
+  new_object = grind arith
 
   no_chain : (t : PagedObject) → t ≡ new → (x.held t.home).chain ≡ 0
   no_chain t e = ap (λ (u : PagedObject). (x.held u.home).chain) e ∙ ap (λ (g : Location). g.chain) f.held

@@ -1,13 +1,12 @@
 -- The one argument of a call of PRINTROW.
-use Rattle.std.proofs.Common.{◌≡◌, ◌≢◌, ℕ, suc, List, [], ◌∷◌, length, Result, Ok, Err, refl, sym, ◌∙◌, ap, subst}
+use Rattle.std.proofs.Common.{◌≡◌, ◌≢◌, ℕ, suc, List, [], ◌∷◌, length, Result, Ok, Err, sym, ◌∙◌, ap, subst, arith}
 use Rattle.std.proofs.lemmas.List.{length-reverse}
 use Rattle.b67_word.specs.Tagged.{Tagged}
 use Rattle.b67_word.specs.declared.faults.Fault.{Fault}
 use Rattle.b67_word.specs.declared.faults.Fault.TheVariants.{InvalidOperand}
-use Rattle.b67_model.specs.Words as Words
-use Rattle.b67_model.specs.Common.{Word, Operand, Name, Ref, Row, Element, Original, Proc, Intrinsic, Task, SessionJob, row_copy, printrow}
+use Rattle.b67_model.specs.Common.{Word, Row, Task, SessionJob, row_copy}
 use Rattle.b67_stack.specs.Represents.{Storage}
-use Rattle.b67_layout.specs.Common.{Placement, here, cells}
+use Rattle.b67_layout.specs.Common.{Placement, cells}
 use Rattle.b67_fetch.proofs.Values.{TopFollowed}
 use Rattle.b67_fetch.specs.Indexes.{FindsArray}
 use Rattle.b67_mcp_calls.specs.Calls.{IsCall}
@@ -20,40 +19,16 @@ module _ (plan : Placement) (m : SessionJob) (t : Task) (r : Word) (arguments : 
 
   -- another number of arguments than one
   pub not_one : length (cells t) ≢ 2 → CopyMeets plan m t arguments (Err InvalidOperand)
-  not_one ne next = by arguments count
-    where
-      by : (ws : List Word) → length (cells t) ≡ suc (length ws) → printrow (here m t next) ws ≡ Err InvalidOperand
-      by [] e = refl
-      by (w ∷ []) e = absurd (ne e)
-      by (w ∷ v ∷ more) e = refl
+  not_one ne next = grind (arith, count)
 
   by_word : (w : Word) → arguments ≡ w ∷ [] → (found : Result ℕ Fault) → FindsArray plan m found (row_copy w) → CopyMeets plan m t arguments found
-  by_word (Row a) e (Ok original) f = record { array = a; are = e; home = f.0; some = f.1 }
-  by_word (Row a) e (Err fault) f = absurd f
-  by_word (Operand bits) e (Err fault) f = λ next. ap (printrow (here m t next)) e ∙ ap Err (sym f)
-  by_word (Name c) e (Err fault) f = λ next. ap (printrow (here m t next)) e ∙ ap Err (sym f)
-  by_word (Ref g o) e (Err fault) f = λ next. ap (printrow (here m t next)) e ∙ ap Err (sym f)
-  by_word (Element a k) e (Err fault) f = λ next. ap (printrow (here m t next)) e ∙ ap Err (sym f)
-  by_word (Original a) e (Err fault) f = λ next. ap (printrow (here m t next)) e ∙ ap Err (sym f)
-  by_word (Proc g l p) e (Err fault) f = λ next. ap (printrow (here m t next)) e ∙ ap Err (sym f)
-  by_word (Intrinsic n) e (Err fault) f = λ next. ap (printrow (here m t next)) e ∙ ap Err (sym f)
-  by_word (Words.Segment n) e (Err fault) f = λ next. ap (printrow (here m t next)) e ∙ ap Err (sym f)
-  by_word (Operand bits) e (Ok o) f = absurd f
-  by_word (Name c) e (Ok o) f = absurd f
-  by_word (Ref g k) e (Ok o) f = absurd f
-  by_word (Element a k) e (Ok o) f = absurd f
-  by_word (Original a) e (Ok o) f = absurd f
-  by_word (Proc g l p) e (Ok o) f = absurd f
-  by_word (Intrinsic n) e (Ok o) f = absurd f
-  by_word (Words.Segment n) e (Ok o) f = absurd f
+  by_word w e found f = grind arith
 
   -- the top cell is the argument
   pub argument_meets : (x : Storage) (w : Tagged) (two : length (cells t) ≡ 2) (found : Result ℕ Fault) (a : TopFollowed x plan m t w) → FindsArray plan m found (row_copy a.word) → CopyMeets plan m t arguments found
   argument_meets x w two found a f =
       let o = one m t r arguments call two in
-      let same : a.word ∷ a.rest ≡ o.argument ∷ r ∷ [] = sym a.is ∙ o.cells_are in
-      let is : a.word ≡ o.argument = cc in
-      by_word o.argument o.arguments_are found (subst (λ (v : Word). FindsArray plan m found (row_copy v)) is f)
+      grind (arith, by_word)
 
   -- another number of arguments is no array
   pub misses_not_one : (fault : Fault) → length (cells t) ≢ 2 → MissesCopy arguments (Err fault)

@@ -31,8 +31,7 @@ all_zero zero = tt
 all_zero (suc n) = (refl, all_zero n)
 
 below_avoids : (n : ℕ) (fs : List Frame) → FramesAvoid n fs → FramesAvoid n (below_top fs)
-below_avoids n [] a = tt
-below_avoids n (f ∷ fs) a = a.1
+below_avoids h fs a = grind arith
 
 -- the word of an original that was never touched
 is_original_word : (n : ℕ) → n < 2 ^ 16 → IsOriginal (data_word (home_desc false n nowhere))

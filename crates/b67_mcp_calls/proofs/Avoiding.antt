@@ -1,7 +1,6 @@
 -- The words of a job in order name arrays of smaller identities than the next one.
-use Rattle.std.proofs.Common.{◌≡◌, ◌≢◌, ℕ, ◌+◌, ◌<◌, ◌≤◌, List, [], ◌∷◌, ◌++◌, map, length, reverse, ◌∙◌, ap, arith, inl, inr}
+use Rattle.std.proofs.Common.{◌≡◌, ◌≢◌, ℕ, ◌+◌, ◌<◌, ◌≤◌, List, [], ◌∷◌, ◌++◌, map, length, reverse, ◌∙◌, arith, inr}
 use Rattle.std.specs.List.{AllByRecursion}
-use Rattle.std.proofs.lemmas.Bool.{cases_eq}
 use Rattle.std.proofs.lemmas.List.{length-reverse}
 use Rattle.b67_lemmas.specs.Lists.{Has, Falls}
 use Rattle.b67_lemmas.proofs.Members.{all_from, all_in, falls_low, has_map, has_reverse_back}
@@ -40,15 +39,7 @@ module _ (P : Starts) (arrays : List Array) (n : ℕ) (falls : Falls n (map (λ 
   other i small e = omega (arith, small, e)
 
   word_avoids : (reach : List Known) (owner : ℕ) (w : Word) → WordInOrder P arrays reach owner w → Avoids n w
-  word_avoids reach owner (Row a) g = other a (below g.item a g.live g.named)
-  word_avoids reach owner (Element a index) g = other a (below g.item a g.live g.named)
-  word_avoids reach owner (Original a) g = other a (below g.item a g.live g.named)
-  word_avoids reach owner (Operand bits) g = tt
-  word_avoids reach owner (Name couple) g = tt
-  word_avoids reach owner (Ref frame offset) g = tt
-  word_avoids reach owner (Proc segment level place) g = tt
-  word_avoids reach owner (Intrinsic number) g = tt
-  word_avoids reach owner (Words.Segment number) g = tt
+  word_avoids reach owner w g = grind (arith, below)
 
   words_avoid : (reach : List Known) (owner : ℕ) (ws : List Word) → AllByRecursion (WordInOrder P arrays reach owner) ws → AllByRecursion (Avoids n) ws
   words_avoid reach owner [] g = tt
@@ -61,10 +52,7 @@ module _ (P : Starts) (arrays : List Array) (n : ℕ) (falls : Falls n (map (λ 
 -- the originals of a dictionary's data rows
 row_there : (i k : ℕ) (ws : List Word) → rows_after i ws → i ≤ k → k < i + length ws → Has ws (Original k)
 row_there i k [] g low high = absurd (omega (arith, low, high))
-row_there i k (w ∷ ws) g low high = elim (cases_eq i k) [
-  | inl e ↦ inl (g.0 ∙ ap Original e)
-  | inr ne ↦ inr (row_there (i + 1) k ws g.1 (omega (arith, low, ne)) (omega (arith, high)))
-]
+row_there i k (w ∷ ws) g low high = grind (arith, row_there (i + 1) k ws g.1)
 
 entry_there : (g k : ℕ) (segments : List Segment) (ws : List Word) → DictionaryWords g segments ws → 1 ≤ k → k + length segments ≤ length ws → Has ws (Original k)
 entry_there g k [] ws d low high = row_there 1 k ws d low (omega (arith, high))

@@ -1,5 +1,5 @@
 -- The array that a word copies whole.
-use Rattle.std.proofs.Common.{◌≡◌, ℕ, Ok, Err, refl, sym, ◌∙◌, true, false, subst}
+use Rattle.std.proofs.Common.{◌≡◌, ℕ, Ok, Err, sym, ◌∙◌, true, false, subst, arith}
 use Rattle.std.proofs.lemmas.Bool.{true≢false, false≢true}
 use Rattle.b67_word.specs.Tagged.{Tagged}
 use Rattle.b67_word.specs.declared.faults.Fault.TheVariants.{InvalidOperand}
@@ -27,6 +27,4 @@ module _ (x : Storage) (cpu : Cpu) (plan : Placement) (s : Session) (m : Session
 
   -- no copy of a whole array
   pub no_copy : (d : DataDesc) → Described cpu.core cpu.regs (live_of (here_scene x cpu plan s m t ordered h runs)) i.at i.owner v d → (d.copy ≡ true → d.indexed ≡ false → ⊥) → FindsArray plan m (Err InvalidOperand) (row_copy v)
-  no_copy d (own b e c k o) none = let P : Word → Type 0 = λ u. FindsArray plan m (Err InvalidOperand) (row_copy u) in subst P (sym e) refl
-  no_copy d (row b e c j k o) none = absurd (none c j)
-  no_copy d (item b n e c j k l o) none = let P : Word → Type 0 = λ u. FindsArray plan m (Err InvalidOperand) (row_copy u) in subst P (sym e) refl
+  no_copy d h none = grind arith

@@ -1,24 +1,23 @@
 -- The machine with the original of a new array on the running task's top frame.
-use Rattle.std.proofs.Common.{◌≡◌, ◌≢◌, ℕ, ◌+◌, ◌<◌, ◌≤◌, ◌^◌, List, [], ◌∷◌, map, length, Some, refl, sym, ◌∙◌, ap, arith, Bool, true, inl, inr, ◌⊎◌, subst, slice_set, unwrap_or}
+use Rattle.std.proofs.Common.{◌≡◌, ◌≢◌, ℕ, ◌+◌, ◌<◌, ◌≤◌, ◌^◌, List, [], ◌∷◌, map, length, Some, refl, sym, ◌∙◌, ap, arith, true, inl, inr, ◌⊎◌, subst, slice_set}
 use Rattle.std.specs.Prelude.{if◌then◌else◌, flat_map}
 use Rattle.std.specs.List.{AllByRecursion, slice_get}
-use Rattle.std.proofs.lemmas.Bool.{cases_eq, cases_lt, ne_eqb}
+use Rattle.std.proofs.lemmas.Bool.{cases_eq, cases_lt}
 use Rattle.b67_word.specs.Tagged.{Tagged}
 use Rattle.b67_area.specs.declared.Kind.TheVariants as kind
 use Rattle.b67_ctl.specs.declared.registers.Regs.{Regs}
 use Rattle.b67_core.proofs.Writes.{slice_get-set_same, slice_get-set_other}
 use Rattle.b67_lemmas.specs.Lists.{Has}
 use Rattle.b67_lemmas.proofs.Members.{has_append_cases, has_append_left, has_append_right, has_flat, has_flat_back, keyed_has}
-use Rattle.b67_model.specs.Words as Words
-use Rattle.b67_model.specs.Common.{Word, Operand, Name, Ref, Row, Element, Original, Proc, Intrinsic, Frame, Array, Task, Job, JobProgress, SessionJob, top, with_top_cells, array, no_array, number_of, Session}
+use Rattle.b67_model.specs.Common.{Word, Original, Frame, Array, Task, Job, JobProgress, SessionJob, top, with_top_cells, array, number_of, Session}
 use Rattle.b67_model.specs.Keyed.{keyed, change_keyed}
 use Rattle.b67_stack.specs.declared.Cpu.{Cpu}
 use Rattle.b67_stack.specs.Shapes as Shapes
-use Rattle.b67_stack.specs.Common.{Shape, IsOriginal, nowhere, StackPlace, Activation, stack_words, PagedObject, Slot, Running, stack_of, MachineView, NoOriginalAboveTop, AreZero, slot_base, home_word_of, Storage, RepresentsRunning, Represents, pushed, with_stack, stack_with_cells, top_cells}
+use Rattle.b67_stack.specs.Common.{Shape, IsOriginal, nowhere, StackPlace, Activation, stack_words, PagedObject, Running, stack_of, MachineView, NoOriginalAboveTop, AreZero, slot_base, home_word_of, Storage, RepresentsRunning, Represents, pushed, with_stack, stack_with_cells, top_cells}
 use Rattle.b67_stack.proofs.Bases.{base-apart}
 use Rattle.b67_stack.proofs.Slots.{by_slot, running_fits}
 use Rattle.b67_stack.proofs.Helds.{held-same}
-use Rattle.b67_layout.specs.Common.{Placement, slot_of, spot_in, outer_spots, spots, shape, stack_of_task, slot_at, code_objects, array_object, objects_of, machine_view, RepresentsTask, IsRunning, ShowsDisplay, SessionHolds, RepresentsSession, with_job, cells}
+use Rattle.b67_layout.specs.Common.{Placement, slot_of, spot_in, outer_spots, spots, shape, stack_of_task, code_objects, array_object, objects_of, machine_view, RepresentsTask, IsRunning, ShowsDisplay, SessionHolds, RepresentsSession, with_job, cells}
 use Rattle.b67_layout.proofs.Common.{with_course, member-same, row_of, Replaces, change-has, change-kept, SessionHoldsBut-after, for_running, activations-with, seen-with, critical-with, Shows-same, spots-with, of_objects}
 use Rattle.b67_layout.proofs.Replaces.{outer_spots-after}
 use Rattle.b67_layout_records.proofs.Nowhere.{SameArray, SameArrays, activations-same}
@@ -48,20 +47,10 @@ pub record Declares (plan : Placement) (m : SessionJob) (t : Task) (job : Job) (
 
 module _ (old new : Job) (a : Array) (is : new.arrays ≡ a ∷ old.arrays) where
   array_same : (i : ℕ) → i ≢ a.identity → array new i ≡ array old i
-  array_same i ne =
-      let A : List Array → Array = λ xs. unwrap_or (keyed (λ (b : Array). b.identity) i xs) no_array in
-      ap A is ∙ rw (ne_eqb a.identity i (λ e. ne (sym e))) refl
+  array_same i ne = grind arith
 
   word_same : (w : Word) → Avoids a.identity w → SameArray new old w
-  word_same (Row i) ne = array_same i ne
-  word_same (Element i index) ne = array_same i ne
-  word_same (Original i) ne = tt
-  word_same (Operand bits) ne = tt
-  word_same (Name couple) ne = tt
-  word_same (Ref frame offset) ne = tt
-  word_same (Proc segment level place) ne = tt
-  word_same (Intrinsic number) ne = tt
-  word_same (Words.Segment number) ne = tt
+  word_same w ne = grind arith
 
   words_same : (ws : List Word) → AllByRecursion (Avoids a.identity) ws → AllByRecursion (SameArray new old) ws
   words_same [] ne = tt
@@ -73,12 +62,10 @@ module _ (old new : Job) (a : Array) (is : new.arrays ≡ a ∷ old.arrays) wher
 
 -- with an original more on top
 original_same : (old new : Job) (n : ℕ) (fs : List Frame) (ws : List Word) → AllByRecursion (SameArray new old) ws → SameArrays new old fs → SameArrays new old (with_top_cells fs (Original n ∷ ws))
-original_same old new n [] ws g h = tt
-original_same old new n (f ∷ fs) ws g h = ((tt, g), h.1)
+original_same old e n fs ws u h = grind arith
 
 top_same : (old new : Job) (fs : List Frame) → SameArrays new old fs → AllByRecursion (SameArray new old) (top fs).cells
-top_same old new [] h = tt
-top_same old new (f ∷ fs) h = h.0
+top_same old e fs h = grind arith
 
 -- the objects with the array's
 module _ (plan : Placement) (jobs : List SessionJob) (m : SessionJob) (t : Task) (job : Job) (a : Array) (at : ℕ) (d : Declares plan m t job a at) (found : keyed number_of m.constants.number jobs ≡ Some m) where
@@ -92,9 +79,7 @@ module _ (plan : Placement) (jobs : List SessionJob) (m : SessionJob) (t : Task)
   object = record { home = at; kind = kind.Array; numbers = a.numbers }
 
   object_is : array_object plan m.constants.number a ≡ object
-  object_is =
-      let T : ℕ → Bool → PagedObject = λ h b. record { home = h; kind = if b then kind.Array else kind.Row; numbers = a.numbers } in
-      ap (λ (h : ℕ). T h a.writable) d.home ∙ ap (T at) d.writable
+  object_is = grind arith
 
   abbrev codes : List PagedObject
   codes = code_objects plan m.constants.number 1 m.constants.segments
@@ -103,21 +88,10 @@ module _ (plan : Placement) (jobs : List SessionJob) (m : SessionJob) (t : Task)
   in_arrays z h = has_append_right codes (map (array_object plan m.constants.number) job.arrays) z (subst (λ (xs : List Array). Has (map (array_object plan m.constants.number) xs) z) (sym d.arrays) h)
 
   in_new : (z : PagedObject) → Has (objects_of plan m) z → Has (objects_of plan moved) z
-  in_new z h = elim (has_append_cases codes (map (array_object plan m.constants.number) m.progress.job.arrays) z h) [
-    | inl k ↦ has_append_left codes (map (array_object plan m.constants.number) job.arrays) z k
-    | inr k ↦ in_arrays z (inr k)
-  ]
+  in_new z h = grind (arith, has_append_cases, has_append_left, in_arrays)
 
   in_old : (z : PagedObject) → Has (objects_of plan moved) z → (z ≡ object) ⊎ Has (objects_of plan m) z
-  in_old z h = elim (has_append_cases codes (map (array_object plan m.constants.number) job.arrays) z h) [
-    | inl k ↦ inr (has_append_left codes (map (array_object plan m.constants.number) m.progress.job.arrays) z k)
-    | inr k ↦
-        let one : Has (map (array_object plan m.constants.number) (a ∷ m.progress.job.arrays)) z = subst (λ (xs : List Array). Has (map (array_object plan m.constants.number) xs) z) d.arrays k in
-        elim one [
-          | inl e ↦ inl (sym e ∙ object_is)
-          | inr i ↦ inr (has_append_right codes (map (array_object plan m.constants.number) m.progress.job.arrays) z i)
-        ]
-  ]
+  in_old z h = grind (arith, has_append_cases, has_append_left, has_append_right)
 
   now : Has (with_course jobs m.constants.number progress) moved
   now = (keyed_has number_of m.constants.number (with_course jobs m.constants.number progress) moved (member-same jobs m.constants.number progress m found)).0
@@ -194,9 +168,7 @@ module _ (x : Storage) (cpu : Cpu) (plan : Placement) (s : Session) (m : Session
   unheld = Represents-unheld x cpu.core cpu.regs p at h.holds.memory apart
 
   holds : SessionHolds y cpu.core cpu.regs cpu.critical plan s
-  holds =
-      let o = h.holds in
-      record { fits = o.fits; memory = unheld; settled = o.settled; dictionaries = o.dictionaries; mcp = o.mcp; vector = o.vector; critical = o.critical; live = o.live; running = o.running; none = o.none }
+  holds = grind (arith, unheld)
 
   with_original : Represents y core' regs' (with_stack p k after) × NoOriginalAboveTop (with_stack p k after) × (stack_words after ≡ stack_words before + 1)
   with_original = Represents-original y cpu.core cpu.regs p k unheld h.holds.settled w original higher before (on_slot x cpu plan s m t h runs)
@@ -257,9 +229,7 @@ module _ (x : Storage) (cpu : Cpu) (plan : Placement) (s : Session) (m : Session
   machine_view_is : machine_view plan jobs' ≡ of_objects (with_stack p k after) all
   machine_view_is =
       let row = row_of plan s.jobs m t h.holds.fits.rows has_m has_t runs.slot in
-      let slots : slot_at plan jobs' ≡ (with_stack p k after).slots = λ z i.
-      (slots-after plan s.jobs m (record m.progress { job = job }) t t' k runs.member by row others i ∙ ap (λ (st : List Activation). (with_stack p k st).slots i) stack_is) z in
-      ap (λ (f : ℕ → Slot). record { stacks = plan.stacks; size = plan.size; peak = plan.peak; slots = f; objects = all }) slots
+      grind (arith, slots-after, by, others, stack_is)
 
   settled' : NoOriginalAboveTop (of_objects (with_stack p k after) all)
   settled' = each p.objects new all added (λ z. (i : ℕ) → i < plan.peak → slot_base p i ≤ z.home → z.home < slot_base p i + plan.size → z.home ≤ slot_base p i + stack_words (stack_of ((with_stack p k after).slots i)))

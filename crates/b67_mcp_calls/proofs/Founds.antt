@@ -1,16 +1,14 @@
 -- What PRINTROW makes of the array that it found.
-use Rattle.std.proofs.Common.{◌≡◌, ◌≢◌, ℕ, ◌+◌, ◌≤◌, ℤ, List, [], ◌∷◌, map, length, Option, Some, None, Err, refl, sym, ◌∙◌, ap, arith, true, false, subst}
-use Rattle.std.specs.List.{AllByRecursion, slice_range}
-use Rattle.std.proofs.lemmas.Bool.{le-leb, false≢true}
-use Rattle.std.proofs.lemmas.Option.{none-some}
+use Rattle.std.proofs.Common.{◌≡◌, ◌≢◌, ℕ, ◌+◌, ◌≤◌, ℤ, List, [], ◌∷◌, map, length, Option, Some, None, Err, sym, ◌∙◌, ap, arith, true, false}
+use Rattle.std.specs.List.{slice_range}
+use Rattle.std.proofs.lemmas.Bool.{false≢true}
 use Rattle.std.proofs.lemmas.List.{length-reverse}
 use Rattle.b67_word.specs.Tagged.{Tagged, word}
 use Rattle.b67_word.specs.declared.couples.Place.{Place}
 use Rattle.b67_word.specs.declared.faults.Fault.TheVariants.{Exponent, CriticalBlock}
-use Rattle.b67_model.specs.Common.{Answer, ◌>>=◌, Word, Row, array, Frame, Task, SessionJob, OperatorContext, height, top, below_top, Values, Done, is_critical, is_original, answers, printrow}
+use Rattle.b67_model.specs.Common.{Answer, ◌>>=◌, Word, Row, array, Frame, Task, SessionJob, OperatorContext, height, top, below_top, Values, Done, is_critical, answers, printrow}
 use Rattle.b67_stack.specs.Represents.{Storage}
 use Rattle.b67_layout.specs.Common.{Placement, here, area_held, cells}
-use Rattle.b67_exec_cells.specs.Elements.{HasElement}
 use Rattle.b67_mcp_calls.specs.Calls.{IsCall}
 use Rattle.b67_mcp_call.proofs.Ones.{one}
 use Rattle.b67_mcp_calls.specs.Texts.{values_of, is_some}
@@ -19,27 +17,20 @@ use Rattle.b67_mcp_calls.proofs.Words.{answer_of, numbers_are}
 
 -- the values, if they are some
 pub some_of : (o : Option (List ℤ)) → is_some o ≡ true → (vs : List ℤ) × (o ≡ Some vs)
-some_of None e = absurd (false≢true e)
-some_of (Some vs) e = (vs, refl)
+some_of o e = grind arith
 
 pub none_of : (o : Option (List ℤ)) → is_some o ≡ false → o ≡ None
-none_of None e = refl
-none_of (Some vs) e = absurd (false≢true (sym e))
+none_of o e = grind arith
 
 pub two_cells : (t : Task) (r : Word) (arguments : List Word) (a : ℕ) → IsCall t r arguments → arguments ≡ Row a ∷ [] → length (cells t) ≡ 2
 two_cells t r arguments a call are = sym (length-reverse (cells t)) ∙ ap length call.cells ∙ ap (λ (ws : List Word). length (r ∷ ws)) are
 
 -- the array that was copied is the only one that the arguments can be
 pub copies_present : (x : Storage) (plan : Placement) (m : SessionJob) (arguments : List Word) (original at : ℕ) (k : Copies plan m arguments original) → area_held x plan m.constants.number k.array ≡ Some at → CopiesPresent x plan m arguments
-copies_present x plan m arguments original at k on a e =
-    let both : Row k.array ∷ [] ≡ Row a ∷ [] = sym k.are ∙ e in
-    let same : k.array ≡ a = cc in
-    let P : ℕ → Type 0 = λ n. HasElement m.progress.job n 0 × (area_held x plan m.constants.number n ≢ None) in
-    subst P same (k.some, λ none. none-some at (sym none ∙ on))
+copies_present x plan m arguments original at k on a e = grind arith
 
 pub lower : (fs : List Frame) → height (below_top fs) ≤ height fs
-lower [] = omega arith
-lower (f ∷ below) = omega arith
+lower fs = grind arith
 
 module _ (plan : Placement) (m : SessionJob) (t : Task) (r : Word) (arguments : List Word) (call : IsCall t r arguments) (original : ℕ) (c : Copies plan m arguments original)
     (core : List Tagged) (at count : ℕ) (lies : slice_range core at (at + count) ≡ map (word 0) (array m.progress.job c.array).numbers) where
@@ -53,9 +44,7 @@ module _ (plan : Placement) (m : SessionJob) (t : Task) (r : Word) (arguments : 
   not_whole e next = printed next ∙ ap (λ (o : Option (List ℤ)). row_by (here m t next) (answer_of o)) (none_of (values_of (slice_range core at (at + count))) e)
 
   pub critical : is_some (values_of (slice_range core at (at + count))) ≡ true → is_critical m.progress.job (top t.frames).identity ≡ true → (next : Place) → printrow (here m t next) arguments ≡ Err CriticalBlock
-  critical e z next =
-      let (vs, is) = some_of (values_of (slice_range core at (at + count))) e in
-      printed next ∙ ap (λ (o : Option (List ℤ)). row_by (here m t next) (answer_of o)) is ∙ rw z refl
+  critical e z next = grind (arith, printed)
 
   pub row_is : at + count ≤ length core → is_some (values_of (slice_range core at (at + count))) ≡ true → is_critical m.progress.job (top t.frames).identity ≡ false → height t.frames ≤ m.constants.stack_size → length (cells t) ≡ 2
       → IsPrintedRow m t core arguments at count
@@ -63,13 +52,4 @@ module _ (plan : Placement) (m : SessionJob) (t : Task) (r : Word) (arguments : 
       let (vs, is) = some_of (values_of (slice_range core at (at + count))) e in
       let low : height (below_top t.frames) ≤ m.constants.stack_size = omega (arith, lower t.frames, fits) in
       let o = one m t r arguments call two in
-      let copy : o.argument ≡ Row c.array = (let same : o.argument ∷ [] ≡ Row c.array ∷ [] = sym o.arguments_are ∙ c.are in cc) in
-      let P : List Word → Type 0 = λ ws. AllByRecursion (λ (w : Word). is_original w ≡ false) ws in
-      record {
-        inside = inside;
-        values = vs;
-        lies = is;
-        may = record { marked = call.marked; free = z; plain = subst P (sym o.cells_are) (ap is_original copy, (call.plain, tt)) };
-        array = c.array;
-        makes = λ next. printed next ∙ ap (λ (q : Option (List ℤ)). row_by (here m t next) (answer_of q)) is ∙ rw z (rw (le-leb (height (below_top t.frames)) m.constants.stack_size low) refl);
-      }
+      grind (arith, printed)

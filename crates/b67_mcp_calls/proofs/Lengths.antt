@@ -7,13 +7,12 @@ use Rattle.b67_word.specs.Tagged.{Tagged}
 use Rattle.b67_word.specs.declared.couples.Place.{Place}
 use Rattle.b67_word.specs.declared.faults.Fault.{Fault}
 use Rattle.b67_word.specs.declared.faults.Fault.TheVariants.{InvalidOperand, CriticalBlock}
-use Rattle.b67_model.specs.Common.{Answer, ◌>>=◌, Word, Original, operand, number, Task, SessionJob, height, top, below_top, with_top_cells, Done, is_critical, is_original, array_length, arraydec, answers}
+use Rattle.b67_model.specs.Common.{Answer, ◌>>=◌, Word, Original, number, Task, SessionJob, height, top, below_top, with_top_cells, Done, is_critical, is_original, array_length, arraydec, answers}
 use Rattle.b67_model.specs.Words.{whole}
 use Rattle.b67_stack.specs.declared.Cpu.{Cpu}
 use Rattle.b67_stack.specs.Represents.{Storage}
 use Rattle.b67_layout.specs.Common.{Placement, here, cells, GivesTop}
 use Rattle.b67_exec_cells.specs.Tops.{NoOriginals}
-use Rattle.b67_layout.proofs.PlainOperands.{plain_operand}
 use Rattle.b67_mcp_calls.specs.Calls.{IsCall}
 use Rattle.b67_mcp_call.proofs.Ones.{one, value_is}
 use Rattle.b67_mcp_calls.specs.Declaring.{new_array, length_in, LengthMeets}
@@ -24,15 +23,10 @@ abbrev pub wanted : Word → Answer ℕ
 wanted w = whole w >>= array_length
 
 pub chain : (o : Answer ℤ) (K : ℕ → Answer Done) → (o >>= λ v. array_length v >>= K) ≡ ((o >>= array_length) >>= K)
-chain (Ok v) K = refl
-chain (Err fault) K = refl
+chain o K = grind arith
 
 pub plain_word : (w : Word) (n : ℕ) → wanted w ≡ Ok n → is_original w ≡ false
-plain_word w n e = by (operand w) refl e
-  where
-    by : (o : Answer ℕ) → operand w ≡ o → ((o >>= number) >>= array_length) ≡ Ok n → is_original w ≡ false
-    by (Ok bits) is q = plain_operand w bits is
-    by (Err fault) is q = absurd cc
+plain_word w n e = grind arith
 
 module _ (m : SessionJob) (t : Task) (r : Word) (arguments : List Word) (call : IsCall t r arguments) where
   count : length (cells t) ≡ suc (length arguments)
@@ -40,12 +34,7 @@ module _ (m : SessionJob) (t : Task) (r : Word) (arguments : List Word) (call : 
 
   -- another number of arguments than one
   pub not_one : length (cells t) ≢ 2 → LengthMeets m t arguments (Err InvalidOperand)
-  not_one ne next = by arguments count
-    where
-      by : (ws : List Word) → length (cells t) ≡ suc (length ws) → arraydec (here m t next) ws ≡ Err InvalidOperand
-      by [] e = refl
-      by (w ∷ []) e = absurd (ne e)
-      by (w ∷ v ∷ more) e = refl
+  not_one ne next = grind (arith, count)
 
   module _ (two : length (cells t) ≡ 2) where
     abbrev pub argument : Word

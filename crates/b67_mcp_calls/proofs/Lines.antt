@@ -1,70 +1,43 @@
 -- What is printed of a row, and what is still to be printed.
-use Rattle.std.proofs.Common.{◌≡◌, ◌≤◌, ◌<◌, ◌+◌, ◌-◌, ℕ, suc, ℤ, List, [], ◌∷◌, ◌++◌, length, Option, refl, sym, ◌∙◌, ap, arith, subst, append_assoc, length-append, append-nil, Result, Ok, Err}
+use Rattle.std.proofs.Common.{◌≡◌, ◌≤◌, ◌<◌, ◌+◌, ◌-◌, ℕ, ℤ, List, [], ◌∷◌, ◌++◌, length, Option, sym, ◌∙◌, arith, subst, append_assoc, length-append, append-nil, Result}
 use Rattle.std.specs.Prelude.{max, OnOk, OnErr}
 use Rattle.std.proofs.lemmas.List.{take_all}
 use Rattle.b67_io.specs.Line.{ended}
 use Rattle.b67_io.specs.Told.{Continues}
 use Rattle.b67_io.proofs.Joined.{Continues-none, Continues-then}
 use Rattle.b67_session_lines.specs.Parts.{TookRest, TookMore}
-use Rattle.b67_model.specs.Lines.{value_text, row_text}
+use Rattle.b67_model.specs.Lines.{value_text}
 use Rattle.b67_mcp_calls.specs.Texts.{still, IsPrinting}
 
 module _ (name : List ℕ) (v : ℤ) (vs : List ℤ) (line : List ℕ) where
   -- where there is room
   pub on_line : (room : ℕ) → 0 < room → still name line room (v ∷ vs) ≡ still name (line ++ value_text v) (room - 1) vs
-  on_line room low =
-      let e : room ≡ suc (room - 1) = omega (arith, low) in
-      ap (λ (r : ℕ). line ++ row_text name r (v ∷ vs)) e ∙ sym (append_assoc line (value_text v) (row_text name (room - 1) vs))
+  on_line room low = grind (arith, append_assoc)
 
   -- where there is none
   pub on_next : (room : ℕ) → room ≡ 0 → still name line room (v ∷ vs) ≡ ended line ++ still name (name ++ value_text v) 9 vs
-  on_next room e =
-      ap (λ (r : ℕ). line ++ row_text name r (v ∷ vs)) e ∙ sym (append_assoc line (10 ∷ []) ((name ++ value_text v) ++ row_text name 9 vs))
+  on_next room e = grind (arith, append_assoc)
 
 cut_in : {K : Type 0} (taken : K → Option (List ℕ)) (old new : K) (before line after : List ℕ) (was printed : ℕ) → was ≤ printed → printed < length before + length line
     → Continues taken old new (before ++ line ++ after) was printed → TookMore taken old new (before ++ line ++ after) was printed
-cut_in taken old new before line after was printed later low goes = record {
-  continues = goes;
-  later = later;
-  proper = omega (arith, low, length-append (before ++ line) after, length-append before line);
-}
+cut_in taken old new before line after was printed later low goes = grind (arith, length-append)
 
 -- what was printed up to a line, and then a value on it
 module _ {K : Type 0} (taken : K → Option (List ℕ)) (old new : K) (name : List ℕ) (v : ℤ) (vs : List ℤ) (line before : List ℕ) (was : ℕ) (past : length before ≤ was) where
   pub adds_here : (line' : List ℕ) (room : ℕ) → 0 < room → line' ≡ line ++ value_text v
       → IsPrinting taken old old (before ++ still name line room (v ∷ vs)) was was (length before) (still name line' (room - 1) vs)
-  adds_here line' room low is = record {
-    lines = before;
-    long = refl;
-    past = past;
-    later = omega arith;
-    continues = Continues-none taken old (before ++ still name line room (v ∷ vs)) was;
-    same = ap (λ (l : List ℕ). before ++ l) (on_line name v vs line room low ∙ ap (λ (l : List ℕ). still name l (room - 1) vs) (sym is));
-  }
+  adds_here line' room low is = grind (arith, Continues-none, on_line)
 
   -- or on the next one, once the rest of the line is printed
   pub adds_next : (room printed start : ℕ) (line' : List ℕ) → room ≡ 0 → start ≡ length before + length (ended line) → printed ≡ max was start → line' ≡ name ++ value_text v
       → ((after : List ℕ) → Continues taken old new (before ++ ended line ++ after) was printed)
       → IsPrinting taken old new (before ++ still name line room (v ∷ vs)) was printed start (still name line' 9 vs)
-  adds_next room printed start line' none long most is goes =
-      let behind = still name (name ++ value_text v) 9 vs in
-      let e : before ++ still name line room (v ∷ vs) ≡ before ++ ended line ++ behind = ap (λ (l : List ℕ). before ++ l) (on_next name v vs line room none) ∙ sym (append_assoc before (ended line) behind) in
-      record {
-        lines = before ++ ended line;
-        long = length-append before (ended line) ∙ sym long;
-        past = omega (arith, most);
-        later = omega (arith, most);
-        continues = subst (λ (l : List ℕ). Continues taken old new l was printed) (sym e) (goes behind);
-        same = e ∙ ap (λ (l : List ℕ). (before ++ ended line) ++ still name l 9 vs) (sym is);
-      }
+  adds_next room printed start line' none long most is goes = grind (arith, on_next, append_assoc, length-append)
 
   pub adds_cut : (room printed : ℕ) → room ≡ 0 → was ≤ printed → printed < length before + length (ended line)
       → ((after : List ℕ) → Continues taken old new (before ++ ended line ++ after) was printed)
       → TookMore taken old new (before ++ still name line room (v ∷ vs)) was printed
-  adds_cut room printed none later low goes =
-      let behind = still name (name ++ value_text v) 9 vs in
-      let e : before ++ still name line room (v ∷ vs) ≡ before ++ ended line ++ behind = ap (λ (l : List ℕ). before ++ l) (on_next name v vs line room none) ∙ sym (append_assoc before (ended line) behind) in
-      subst (λ (l : List ℕ). TookMore taken old new l was printed) (sym e) (cut_in taken old new before (ended line) behind was printed later low (goes behind))
+  adds_cut room printed none later low goes = grind (arith, on_next, append_assoc, cut_in)
 
 -- the turns of the loop over the values of a row
 module _ {K : Type 0} (taken : K → Option (List ℕ)) (old mid : K) (text : List ℕ) (was printed start : ℕ) (rest : List ℕ) (p : IsPrinting taken old mid text was printed start rest) where
@@ -92,17 +65,14 @@ module _ {K : Type 0} (taken : K → Option (List ℕ)) (old mid : K) (text : Li
   pub rest_then : (new : K) (now : ℕ) → now ≡ max printed (start + length rest) → Continues taken mid new (p.lines ++ rest) printed now → TookRest taken old new text was
   rest_then new now most q =
       let all = Continues-then p.continues (subst (λ (l : List ℕ). Continues taken mid new l printed now) (sym p.same) q) in
-      let long : length text ≡ start + length rest = ap length p.same ∙ length-append p.lines rest ∙ ap (λ (n : ℕ). n + length rest) p.long in
-      record { rest = all.printed; took = all.took; same = all.same ∙ take_all now text (omega (arith, most, long)) }
+      grind (arith, length-append, take_all)
 
 -- a text with nothing behind
 pub goes_last : {K : Type 0} (taken : K → Option (List ℕ)) (old new : K) (before line : List ℕ) (was now : ℕ) → Continues taken old new (before ++ line ++ []) was now → Continues taken old new (before ++ line) was now
 goes_last taken old new before line was now h = subst (λ (l : List ℕ). Continues taken old new l was now) (append-nil (before ++ line)) h
 
 pub on_ok : {T E : Type 0} (r : Result T E) (P Q : Type 0) → (P → Q) → OnOk r P → OnOk r Q
-on_ok (Ok v) P Q f h = f h
-on_ok (Err e) P Q f h = h
+on_ok r P Q f h = grind arith
 
 pub on_err : {T E : Type 0} (r : Result T E) (P Q : Type 0) → (P → Q) → OnErr r P → OnErr r Q
-on_err (Ok v) P Q f h = h
-on_err (Err e) P Q f h = f h
+on_err r P Q f h = grind arith

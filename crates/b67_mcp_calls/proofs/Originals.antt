@@ -1,11 +1,11 @@
 -- A word more on the running stack, which is an original.
-use Rattle.std.proofs.Common.{◌≡◌, ◌≢◌, ℕ, suc, ◌+◌, ◌<◌, ◌≤◌, List, [], ◌∷◌, refl, ap, arith, ⊎_elim, slice_set}
+use Rattle.std.proofs.Common.{◌≡◌, ◌≢◌, ℕ, suc, ◌+◌, ◌<◌, ◌≤◌, List, [], ◌∷◌, refl, arith, ⊎_elim, slice_set}
 use Rattle.std.proofs.Math.ListN.{length-set}
 use Rattle.b67_word.specs.Tagged.{Tagged}
 use Rattle.b67_ctl.specs.declared.registers.Regs.{Regs}
 use Rattle.b67_core.proofs.Writes.{slice_get-set_other}
 use Rattle.b67_lemmas.specs.Lists.{Has}
-use Rattle.b67_stack.specs.Common.{Original, Copy, IsOriginal, Fits, Activation, IsStack, stack_words, words, PagedObject, Slot, MachineView, stack_of, RunsOn, NoOriginalAboveTop, slot_base, CopiesName, Storage, RepresentsRunning, Represents, with_stack, stack_with_cells, top_cells}
+use Rattle.b67_stack.specs.Common.{Original, Copy, IsOriginal, Fits, Activation, IsStack, stack_words, words, PagedObject, MachineView, RunsOn, NoOriginalAboveTop, slot_base, CopiesName, Storage, RepresentsRunning, Represents, with_stack, stack_with_cells, top_cells}
 use Rattle.b67_stack.proofs.Lies.{Lie-push}
 use Rattle.b67_stack.proofs.Heights.{words-length}
 use Rattle.b67_stack.proofs.Slots.{Represents-slot, running_slot, running_fits, running_lies}
@@ -15,12 +15,7 @@ use Rattle.b67_layout.proofs.Settles.{Settled-more}
 module _ (x : Storage) (core : List Tagged) (r : Regs) (p : MachineView) (k : ℕ) (s : Represents x core r p) (settled : NoOriginalAboveTop p) (w : Tagged) (original : IsOriginal w) (higher : r.s < r.losr) where
   -- no object is known by the next address
   pub next_apart : (stack : List Activation) → RunsOn p k stack → (t : PagedObject) → Has p.objects t → t.home ≢ r.s + 1
-  next_apart stack u t int e =
-      let g = running_slot x core r p k stack s u in
-      let f = running_fits x core r p k stack s u in
-      let top = settled t int k u.used (omega (arith, e, g.top)) (omega (arith, e, g.last, higher)) in
-      let same : stack_words (stack_of (p.slots k)) ≡ stack_words stack = ap (λ (y : Slot). stack_words (stack_of y)) u.is in
-      omega (arith, e, top, same, g.top)
+  next_apart stack u t int e = grind arith
 
   original_on : (a : Activation) (below : List Activation) → RunsOn p k (a ∷ below)
       → Represents x (slice_set core (r.s + 1) w) (record r { s = r.s + 1 }) (with_stack p k (record a { cells = Original (r.s + 1) ∷ a.cells } ∷ below))

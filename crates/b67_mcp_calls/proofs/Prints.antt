@@ -1,15 +1,14 @@
 -- What PRINT makes of its arguments.
-use Rattle.std.proofs.Common.{◌≡◌, ◌≢◌, ℕ, suc, ◌≤◌, ℤ, List, [], ◌∷◌, length, Result, Ok, Err, refl, sym, ◌∙◌, ap, arith, true, false, subst}
+use Rattle.std.proofs.Common.{◌≡◌, ◌≢◌, suc, ◌≤◌, ℤ, List, [], ◌∷◌, length, Result, Ok, Err, refl, sym, ◌∙◌, ap, arith, true, false, subst}
 use Rattle.std.specs.List.{AllByRecursion}
 use Rattle.std.specs.Result.{is_ok}
 use Rattle.std.proofs.lemmas.Bool.{le-leb}
 use Rattle.b67_word.specs.Tagged.{Tagged}
 use Rattle.b67_word.specs.declared.faults.Fault.{Fault}
 use Rattle.b67_word.specs.declared.faults.Fault.TheVariants.{InvalidOperand, CriticalBlock}
-use Rattle.b67_model.specs.Common.{Answer, ◌>>=◌, Word, operand, number, Frame, Task, SessionJob, height, top, below_top, is_critical, is_original, print}
+use Rattle.b67_model.specs.Common.{◌>>=◌, Word, number, Frame, Task, SessionJob, height, top, below_top, is_critical, is_original, print}
 use Rattle.b67_model.specs.Words.{whole}
 use Rattle.b67_layout.specs.Common.{here, cells}
-use Rattle.b67_layout.proofs.PlainOperands.{plain_operand}
 use Rattle.b67_mcp_call.proofs.Ones.{count, one}
 use Rattle.b67_mcp_calls.specs.Calls.{IsCall, PrintMeets, operand_number}
 
@@ -31,15 +30,10 @@ module _ (m : SessionJob) (t : Task) (r : Word) (arguments : List Word) (call : 
   critical two v e c next = ap (print (here m t next)) (one m t r arguments call two).arguments_are ∙ rw e (rw c refl)
 
   whole_plain : (w : Word) (v : ℤ) → whole w ≡ Ok v → is_original w ≡ false
-  whole_plain w v e = by (operand w) refl e
-    where
-      by : (o : Answer ℕ) → operand w ≡ o → (o >>= number) ≡ Ok v → is_original w ≡ false
-      by (Ok n) is q = plain_operand w n is
-      by (Err fault) is q = absurd cc
+  whole_plain w v e = grind arith
 
   lower : (fs : List Frame) → height (below_top fs) ≤ height fs
-  lower [] = omega arith
-  lower (f ∷ below) = omega arith
+  lower fs = grind arith
 
   pub prints : (two : length (cells t) ≡ 2) (v : ℤ) → whole (one m t r arguments call two).argument ≡ Ok v → is_critical m.progress.job (top t.frames).identity ≡ false → height t.frames ≤ m.constants.stack_size → PrintMeets m t arguments (Ok v)
   prints two v e c fits =

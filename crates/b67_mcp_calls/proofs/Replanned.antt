@@ -1,17 +1,14 @@
 -- The view of a session doesn't show where an array's original stands that no word names.
-use Rattle.std.proofs.Common.{◌≡◌, ◌≢◌, ℕ, ◌+◌, ◌≤◌, List, [], ◌∷◌, ◌++◌, map, length, Option, Some, None, refl, sym, ◌∙◌, ap, not, ◌==◌, inl, inr, subst}
+use Rattle.std.proofs.Common.{◌≡◌, ◌≢◌, ℕ, ◌+◌, ◌≤◌, List, [], ◌∷◌, ◌++◌, map, length, Option, Some, None, refl, sym, ◌∙◌, ap, ◌==◌, inl, inr, subst, arith}
 use Rattle.std.specs.Prelude.{if◌then◌else◌, flat_map}
 use Rattle.std.specs.List.{AllByRecursion}
-use Rattle.std.proofs.lemmas.Bool.Decides.{eqb_tells}
 use Rattle.b67_area.specs.declared.Kind.TheVariants as kind
 use Rattle.b67_lemmas.specs.Lists.{Has}
 use Rattle.b67_lemmas.proofs.Members.{keyed_has}
-use Rattle.b67_model.specs.Words as Words
-use Rattle.b67_model.specs.Common.{Word, Operand, Name, Ref, Row, Element, Original, Proc, Intrinsic, Frame, Array, Segment, Task, Job, SessionJob, array, frame_at, number_of, Session, from_frame, frames_of_task, critical_of}
+use Rattle.b67_model.specs.Common.{Word, Frame, Array, Segment, Task, Job, SessionJob, frame_at, number_of, Session}
 use Rattle.b67_model.specs.Keyed.{keyed}
 use Rattle.b67_stack.specs.declared.Cpu.{Cpu}
-use Rattle.b67_stack.specs.Shapes as Shapes
-use Rattle.b67_stack.specs.Common.{Shape, Copy, StackPlace, Activation, PagedObject, Slot, Running, Waiting, MachineView, NoOriginalAboveTop, Storage, Represents}
+use Rattle.b67_stack.specs.Common.{Shape, StackPlace, Activation, PagedObject, Slot, Running, Waiting, MachineView, NoOriginalAboveTop, Storage, Represents}
 use Rattle.b67_layout.specs.Common.{Placement, Slotted, slot_of, spot_in, outer_spots, address_of, shape, head, activations, stack_of_task, slot_with, slot_in, slot_by, slot_at, code_objects, array_object, objects_of, machine_view, DictionariesFollow, PlanFits, vector_word, IsRunning, RepresentsSession}
 use Rattle.b67_mcp_calls.specs.Declaring.{with_home}
 use Rattle.b67_mcp_calls.proofs.Avoiding.{Avoids, FramesAvoid, JobAvoids}
@@ -21,38 +18,19 @@ module _ (plan : Placement) (j n at : ℕ) where
   there = with_home plan j n at
 
   pub home_other : (i a : ℕ) → (i ≡ j → a ≢ n) → (with_home plan j n at).home i a ≡ plan.home i a
-  home_other i a ne = elim (eqb_tells i j) [
-    | inl e ↦ elim (eqb_tells a n) [
-      | inl d ↦ absurd (ne e.1 d.1)
-      | inr d ↦ rw (e.0, d.0) refl
-    ]
-    | inr e ↦ rw e.0 refl
-  ]
+  home_other i a ne = grind arith
 
   pub outer_spots-there : (i : ℕ) (job : Job) (parents : List ℕ) (c id : ℕ) → outer_spots (with_home plan j n at) i job c parents id ≡ outer_spots plan i job c parents id
   outer_spots-there i job [] c id = refl
-  outer_spots-there i job (parent ∷ more) c id =
-      let t = keyed (λ (u : Task). u.number) parent job.tasks in
-      let outer : outer_spots there i job (critical_of t) more ≡ outer_spots plan i job (critical_of t) more = λ z x. outer_spots-there i job more (critical_of t) x z in
-      ap (λ (o : ℕ → StackPlace). spot_in (slot_of plan i parent) o (from_frame c (frames_of_task t)) id) outer
+  outer_spots-there i job (parent ∷ more) c id = grind arith
 
   module _ (i : ℕ) where
     shape-there : (job : Job) (spot : ℕ → StackPlace) (w : Word) → (i ≡ j → Avoids n w) → shape there i job spot w ≡ shape plan i job spot w
-    shape-there job spot (Row a) ne = ap (λ (k : ℕ). Copy (record { index = None; read_only = not (array job a).writable }) k) (home_other i a ne)
-    shape-there job spot (Element a index) ne = ap (λ (k : ℕ). Copy (record { index = Some index; read_only = not (array job a).writable }) k) (home_other i a ne)
-    shape-there job spot (Original a) ne = ap Shapes.Original (home_other i a ne)
-    shape-there job spot (Operand bits) ne = refl
-    shape-there job spot (Name c) ne = refl
-    shape-there job spot (Ref f o) ne = refl
-    shape-there job spot (Proc g l p) ne = refl
-    shape-there job spot (Intrinsic k) ne = refl
-    shape-there job spot (Words.Segment k) ne = refl
+    shape-there job spot w ne = grind arith
 
     shapes-there : (job : Job) (spot : ℕ → StackPlace) (ws : List Word) → (i ≡ j → AllByRecursion (Avoids n) ws) → map (shape there i job spot) ws ≡ map (shape plan i job spot) ws
     shapes-there job spot [] ne = refl
-    shapes-there job spot (w ∷ ws) ne =
-        ap (λ (c : Shape). c ∷ map (shape there i job spot) ws) (shape-there job spot w (λ e. (ne e).0))
-        ∙ ap (λ (cs : List Shape). shape plan i job spot w ∷ cs) (shapes-there job spot ws (λ e. (ne e).1))
+    shapes-there job spot (w ∷ ws) ne = grind (arith, shapes-there job spot ws)
 
     activations-there : (job : Job) (q : ℕ) (outer : ℕ → StackPlace) (fs : List Frame) → (i ≡ j → FramesAvoid n fs) → activations there i job q outer fs ≡ activations plan i job q outer fs
     activations-there job q outer [] ne = refl
@@ -62,9 +40,7 @@ module _ (plan : Placement) (j n at : ℕ) where
         ∙ ap (λ (under : List Activation). A (map (shape plan i job (spot_in q outer (f ∷ below))) f.cells) ∷ under) (activations-there job q outer below (λ e. (ne e).1))
 
     stack-there : (job : Job) (q : ℕ) (t : Task) → (i ≡ j → FramesAvoid n t.frames) → stack_of_task there i job q t ≡ stack_of_task plan i job q t
-    stack-there job q t ne =
-        let outer : outer_spots there i job t.critical t.parents ≡ outer_spots plan i job t.critical t.parents = λ z x. outer_spots-there i job t.parents t.critical x z in
-        activations-there job q (outer_spots there i job t.critical t.parents) t.frames ne ∙ ap (λ (o : ℕ → StackPlace). activations plan i job q o t.frames) outer
+    stack-there job q t ne = grind (arith, activations-there)
 
     slot-there : (job : Job) (q : ℕ) (o : Option Task) → ((t : Task) → o ≡ Some t → i ≡ j → FramesAvoid n t.frames) → slot_with there q i job o ≡ slot_with plan q i job o
     slot-there job q None ne = refl
@@ -78,10 +54,7 @@ module _ (plan : Placement) (j n at : ℕ) where
 
     arrays-there : (arrays : List Array) → (i ≡ j → AllByRecursion (λ (a : Array). a.identity ≢ n) arrays) → map (array_object there i) arrays ≡ map (array_object plan i) arrays
     arrays-there [] ne = refl
-    arrays-there (a ∷ more) ne =
-        let T : ℕ → PagedObject = λ h. record { home = h; kind = if a.writable then kind.Array else kind.Row; numbers = a.numbers } in
-        ap (λ (h : ℕ). T h ∷ map (array_object there i) more) (home_other i a.identity (λ e. (ne e).0))
-        ∙ ap (λ (ts : List PagedObject). array_object plan i a ∷ ts) (arrays-there more (λ e. (ne e).1))
+    arrays-there (a ∷ more) ne = grind (arith, arrays-there more)
 
   module _ (jobs : List SessionJob) (avoid : (y : SessionJob) → Has jobs y → y.constants.number ≡ j → JobAvoids n y.progress.job) where
     slots-there : (q : ℕ) → slot_at there jobs q ≡ slot_at plan jobs q
@@ -105,18 +78,14 @@ module _ (plan : Placement) (j n at : ℕ) where
         ∙ ap (λ (ts : List PagedObject). objects_of plan y ++ ts) (objects-there more (λ z h. in_jobs z (inr h)))
 
     pub machine_view-there : machine_view (with_home plan j n at) jobs ≡ machine_view plan jobs
-    machine_view-there =
-        let same : slot_at there jobs ≡ slot_at plan jobs = λ z q. slots-there q z in
-        ap (λ (f : ℕ → Slot). record { stacks = plan.stacks; size = plan.size; peak = plan.peak; slots = f; objects = flat_map (objects_of there) jobs }) same
-        ∙ ap (λ (ts : List PagedObject). record { stacks = plan.stacks; size = plan.size; peak = plan.peak; slots = slot_at plan jobs; objects = ts }) (objects-there jobs (λ y h. h))
+    machine_view-there = grind (arith, slots-there, objects-there)
 
   follow-there : (from : ℕ) (jobs : List SessionJob) → DictionariesFollow plan from jobs → DictionariesFollow there from jobs
   follow-there from [] d = d
   follow-there from (m ∷ more) d = (d.0, follow-there (from + (2 + length m.constants.dictionary.cells)) more d.1)
 
   vector-there : (i : ℕ) (parents : List ℕ) → vector_word plan i parents ≡ vector_word there i parents
-  vector-there i [] = refl
-  vector-there i (parent ∷ more) = refl
+  vector-there i parents = grind arith
 
   module _ (x : Storage) (cpu : Cpu) (s : Session) (h : RepresentsSession x cpu plan s) (avoid : (y : SessionJob) → Has s.jobs y → y.constants.number ≡ j → JobAvoids n y.progress.job)
       (rows : (y : SessionJob) → Has s.jobs y → y.constants.number ≡ j → (k : ℕ) → 1 ≤ k → k + length y.constants.segments ≤ length y.constants.dictionary.cells → k ≢ n) where
@@ -124,16 +93,7 @@ module _ (plan : Placement) (j n at : ℕ) where
     back y t r = record { member = r.member; task = r.task; slot = r.slot }
 
     fits-there : PlanFits there s
-    fits-there =
-        let f = h.holds.fits in
-        record {
-          rows = record { live = f.rows.live; slotted = f.rows.slotted; below = f.rows.below; differ = f.rows.differ; tasks_differ = f.rows.tasks_differ };
-          peak = f.peak;
-          few = f.few;
-          sizes = f.sizes;
-          dictionaries = follow-there 160 s.jobs f.dictionaries;
-          row_homes = λ y i k low high. home_other y.constants.number k (λ e. rows y i e k low high) ∙ f.row_homes y i k low high;
-        }
+    fits-there = grind arith
 
     -- the machine represents the session by that plan too
     pub stands-there : RepresentsSession x cpu (with_home plan j n at) s

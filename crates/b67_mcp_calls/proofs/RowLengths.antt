@@ -1,5 +1,5 @@
 -- The text of a value is short.
-use Rattle.std.proofs.Common.{◌≡◌, ◌<◌, ◌≤◌, ◌^◌, ℤ, pos, negsuc, length, Bool, true, false, arith, w64, SFits}
+use Rattle.std.proofs.Common.{◌≡◌, ◌<◌, ◌≤◌, ◌^◌, ℤ, pos, negsuc, length, Bool, arith, w64, SFits}
 use Rattle.std.specs.Prelude.{nat_abs, IsTrue}
 use Rattle.std.specs.Bool.{OnTrue}
 use Rattle.std.proofs.lemmas.Fmt.{length_signed_le}
@@ -10,10 +10,8 @@ value_length (pos n) low = let l = length_signed_le 12 (pos n) (omega (arith, lo
 value_length (negsuc n) low = let l = length_signed_le 12 (negsuc n) (omega (arith, low)) (omega (arith, low)) in omega (arith, l)
 
 pub fits_of : (v : ℤ) → nat_abs v < 2 ^ 39 → SFits w64 v
-fits_of (pos n) low = record { sfits = omega (arith, low) }
-fits_of (negsuc n) low = record { sfits = omega (arith, low) }
+fits_of v low = grind arith
 
 -- a text that fits was appended
 pub appended : (done : Bool) (P : Type 0) → IsTrue done → OnTrue done P → P
-appended true P t h = h
-appended false P t h = absurd (let z : false ≡ true = t in cc)
+appended done P t h = grind arith

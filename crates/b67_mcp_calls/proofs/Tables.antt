@@ -1,42 +1,25 @@
 -- The tables of tasks and jobs don't show where an array's original stands.
-use Rattle.std.proofs.Common.{◌≡◌, ℕ, List, [], ◌∷◌, Option, Some, None, refl, sym, ◌∙◌, ap}
+use Rattle.std.proofs.Common.{◌≡◌, ℕ, List, [], ◌∷◌, Option, ◌∙◌, arith}
 use Rattle.std.specs.List.{slice_get}
-use Rattle.b67_model.specs.Common.{Condition, Ready, Awaits, WaitsAt, Task, Job, SessionJob, Session}
-use Rattle.b67_stack.specs.Stacks.{StackPlace}
-use Rattle.b67_layout.specs.Common.{Placement, slot_of, spot_in, outer_spots, address_of, WaitsAtCell, TaskRow, JobRow, JobCounts, shown, parent_slot, critical_disp, TaskShows, JobShows, JobsShow, RunningRow, TablesShow}
+use Rattle.b67_model.specs.Common.{Condition, Task, Job, SessionJob, Session}
+use Rattle.b67_layout.specs.Common.{Placement, TaskRow, JobRow, JobCounts, shown, parent_slot, critical_disp, TaskShows, JobShows, JobsShow, RunningRow, TablesShow}
 use Rattle.b67_mcp_calls.specs.Declaring.{with_home}
-use Rattle.b67_mcp_calls.proofs.Replanned.{outer_spots-there}
 
 module _ (plan : Placement) (j n at : ℕ) where
   abbrev there : Placement
   there = with_home plan j n at
 
   parent-there : (i : ℕ) (parents : List ℕ) → parent_slot plan i parents ≡ parent_slot there i parents
-  parent-there i [] = refl
-  parent-there i (parent ∷ more) = refl
+  parent-there i parents = grind arith
 
   critical-there : (i : ℕ) (job : Job) (c : ℕ) (parents : List ℕ) → critical_disp plan i job c parents ≡ critical_disp there i job c parents
-  critical-there i job c [] = refl
-  critical-there i job c (parent ∷ more) = refl
+  critical-there i job c parents = grind arith
 
   shown-there : (i : ℕ) (job : Job) (t : Task) (d : Condition) → shown plan i job t d ≡ shown there i job t d
-  shown-there i job t Ready = refl
-  shown-there i job t (Awaits k) = refl
-  shown-there i job t (WaitsAt frame offset) =
-      let outer : outer_spots plan i job t.critical t.parents ≡ outer_spots there i job t.critical t.parents = λ z x. sym (outer_spots-there plan j n at i job t.parents t.critical x) z in
-      ap (λ (o : ℕ → StackPlace). WaitsAtCell (address_of plan (spot_in (slot_of plan i t.number) o t.frames frame)) offset) outer
+  shown-there i job t d = grind arith
 
   task-there : (m : SessionJob) (t : Task) (row : TaskRow) → TaskShows plan m t row → TaskShows there m t row
-  task-there m t row h = record {
-    job = h.job;
-    number = h.number;
-    slot = h.slot;
-    parent = h.parent ∙ parent-there m.constants.number t.parents;
-    critical = h.critical ∙ critical-there m.constants.number m.progress.job t.critical t.parents;
-    state = h.state ∙ shown-there m.constants.number m.progress.job t t.condition;
-    segment = h.segment;
-    place = h.place;
-  }
+  task-there m t row h = grind arith
 
   pub job-there : (m : SessionJob) (row : JobRow) → JobShows plan m row → JobShows (with_home plan j n at) m row
   job-there m row h = record { dictionary = h.dictionary; segments = h.segments; rows = h.rows; limit = h.limit; made = h.made; next_task = h.next_task; numbers = h.numbers }
@@ -48,8 +31,7 @@ module _ (plan : Placement) (j n at : ℕ) where
   jobs-there (m ∷ ms) [] h = absurd h
 
   running-there : (o : Option TaskRow) (k : ℕ) → RunningRow plan o k → RunningRow there o k
-  running-there None k h = h
-  running-there (Some row) k h = h
+  running-there o k h = grind arith
 
   pub tables-there : (s : Session) (rows : List TaskRow) (job_rows : List JobRow) (c : JobCounts) → TablesShow plan s rows job_rows c → TablesShow (with_home plan j n at) s rows job_rows c
   tables-there s rows job_rows c h = record {

@@ -1,16 +1,14 @@
 -- What is held at an address where no object is known is no matter of a view.
-use Rattle.std.proofs.Common.{◌≡◌, ◌≢◌, ℕ, suc, ◌<◌, List, length, Some, None, refl, sym, ◌∙◌, ap, inl, inr, subst}
-use Rattle.std.specs.List.{slice_get}
+use Rattle.std.proofs.Common.{◌≡◌, ◌≢◌, ℕ, suc, ◌<◌, List, length, Some, None, sym, ◌∙◌, ap, inl, inr, subst, arith}
 use Rattle.std.proofs.lemmas.Bool.{cases_eq}
 use Rattle.b67_word.specs.Tagged.{Tagged}
 use Rattle.b67_area.specs.declared.Info.{Info}
 use Rattle.b67_ctl.specs.declared.registers.Regs.{Regs}
 use Rattle.b67_lemmas.specs.Lists.{Has}
-use Rattle.b67_stack.specs.Common.{Location, Fits, nowhere, words, PagedObject, MachineView, home_word, slot_base, stack_of, Storage, Content, StacksLie, RepresentsObject, Owned, Represents, info_of}
+use Rattle.b67_stack.specs.Common.{Location, Fits, nowhere, words, PagedObject, MachineView, slot_base, stack_of, Storage, StacksLie, RepresentsObject, Owned, Represents, info_of}
 use Rattle.b67_stack.proofs.Lies.{Lie-each}
 use Rattle.b67_stack.proofs.Helds.{held-other, held-same}
 use Rattle.b67_layout_storage.proofs.Words.{copy_other}
-use Rattle.b67_stack.proofs.Reheld.{Content-stays}
 use Rattle.b67_mcp_calls.specs.Declaring.{storage_without}
 
 module _ (x : Storage) (core : List Tagged) (r : Regs) (p : MachineView) (at : ℕ) (s : Represents x core r p) (apart : (t : PagedObject) → Has p.objects t → t.home ≢ at) where
@@ -28,12 +26,7 @@ module _ (x : Storage) (core : List Tagged) (r : Regs) (p : MachineView) (at : �
       (λ c i v there low high get fit. (v, get, copy_other x.held at nowhere c i v no_area fit)) (s.stacks k h)
 
   object : (t : PagedObject) → Has p.objects t → RepresentsObject y core t
-  object t i =
-      let was = s.objects t i in
-      let it = Content-stays x y t (x.held t.home).chain (record { chain = refl; told = λ ns h. h }) core core (x.held t.home).area (λ b e q low high. refl) was.content in
-      let P : Location → Type 0 = λ g. (slice_get core t.home ≡ Some (home_word t g)) × Content y core t g.area g.chain in
-      let both = subst P (sym (other t i)) (was.home, it) in
-      record { home = both.0; content = both.1 }
+  object t i = grind arith
 
   info : (t : PagedObject) → Has p.objects t → info_of x t ≡ info_of y t
   info t i = ap (λ (k : ℕ). let b : Info = record { kind = t.kind; words = length t.numbers; owner = t.home; kept = k } in b) (ap (λ (g : Location). g.chain) (sym (other t i)))
@@ -59,11 +52,4 @@ module _ (x : Storage) (core : List Tagged) (r : Regs) (p : MachineView) (at : �
   }
 
   pub Represents-unheld : Represents (storage_without x at) core r p
-  Represents-unheld = record {
-    slots = record { laid = s.slots.laid; regs = s.slots.regs; slots = s.slots.slots };
-    stacks = stacks;
-    objects = object;
-    owned = owned;
-    directory = s.directory;
-    inside = s.inside;
-  }
+  Represents-unheld = grind (arith, stacks, object, owned)

@@ -14,12 +14,10 @@ pub none_left : (ws : List Tagged) (i : ℕ) (w : Tagged) → i < length ws → 
 none_left ws i w low e none = ap values_of (first_of ws i w low e) ∙ ap (λ (o : Option ℤ). values_with o (values_of (drop (i + 1) ws))) none
 
 some_joined : (v : ℤ) (o : Option (List ℤ)) → is_some (values_with (Some v) o) ≡ is_some o
-some_joined v None = refl
-some_joined v (Some vs) = refl
+some_joined v o = grind arith
 
 pub some_left : (ws : List Tagged) (i : ℕ) (w : Tagged) (v : ℤ) → i < length ws → w ≡ get_or ws i w → number_of w ≡ Some v → is_some (values_of (drop (i + 1) ws)) ≡ is_some (values_of (drop i ws))
-some_left ws i w v low e some =
-    sym (some_joined v (values_of (drop (i + 1) ws))) ∙ ap (λ (o : Option ℤ). is_some (values_with o (values_of (drop (i + 1) ws)))) (sym some) ∙ ap (λ (l : List Tagged). is_some (values_of l)) (sym (first_of ws i w low e))
+some_left ws i w v low e some = grind (arith, first_of)
 
 -- the first value and those behind it
 pub record Splits (w : Tagged) (rest : List Tagged) (vs : List ℤ) : Type 0 where

@@ -1,9 +1,9 @@
 -- The words of a live array in core, and their values.
-use Rattle.std.proofs.Common.{◌≡◌, ℕ, ◌+◌, ℤ, List, [], ◌∷◌, map, length, Option, Some, None, Ok, Err, refl, sym, ◌∙◌, ap, Bool, true, false, subst}
+use Rattle.std.proofs.Common.{◌≡◌, ℕ, ◌+◌, ℤ, List, [], ◌∷◌, map, length, Option, Some, None, Ok, Err, refl, sym, ◌∙◌, ap, Bool, subst, arith}
 use Rattle.std.specs.Prelude.{if◌then◌else◌}
 use Rattle.std.specs.List.{slice_range}
 use Rattle.std.proofs.lemmas.List.{length-map}
-use Rattle.b67_word.specs.Common.{word, is_whole}
+use Rattle.b67_word.specs.Common.{word}
 use Rattle.b67_word.specs.declared.faults.Fault.TheVariants.{Exponent}
 use Rattle.b67_model.specs.Common.{Answer, ◌>>=◌, number, array, Array, Task, SessionJob, numbers_of, number_of as number_of_member, Session}
 use Rattle.b67_layout.specs.Common.{IsInOrderButCounts, Placement, array_object, IsRunning, RepresentsSession, area_held}
@@ -22,16 +22,11 @@ answer_of None = Err Exponent
 answer_of (Some vs) = Ok vs
 
 joins : (b : Bool) (v : ℤ) (o : Option (List ℤ)) → ((if b then Ok v else Err Exponent) >>= λ n. answer_of o >>= λ ns. Ok (n ∷ ns)) ≡ answer_of (values_with (if b then Some v else None) o)
-joins true v None = refl
-joins true v (Some vs) = refl
-joins false v None = refl
-joins false v (Some vs) = refl
+joins b v o = grind arith
 
 pub numbers_are : (ns : List ℕ) → numbers_of ns ≡ answer_of (values_of (map (word 0) ns))
 numbers_are [] = refl
-numbers_are (n ∷ ns) =
-    ap (λ (a : Answer (List ℤ)). number n >>= λ v. a >>= λ vs. Ok (v ∷ vs)) (numbers_are ns)
-    ∙ joins (is_whole n) (Rattle.b67_word.specs.Operands.value_of n) (values_of (map (word 0) ns))
+numbers_are (n ∷ ns) = grind (arith, numbers_are ns)
 
 module _ (x : Storage) (cpu : Cpu) (plan : Placement) (s : Session) (m : SessionJob) (t : Task) (ordered : IsInOrderButCounts s) (h : RepresentsSession x cpu plan s) (runs : IsRunning plan s.jobs m t) (n : ℕ) (e : HasElement m.progress.job n 0) where
   pub row_words : (at : ℕ) → area_held x plan m.constants.number n ≡ Some at → slice_range cpu.core at (at + length (array m.progress.job n).numbers) ≡ map (word 0) (array m.progress.job n).numbers

@@ -10,8 +10,7 @@ use Rattle.b67_word.specs.declared.faults.Fault.{Fault}
 use Rattle.b67_word.specs.declared.faults.Fault.TheVariants.{InvalidOperand, MemoryProtect, CriticalBlock}
 use Rattle.b67_ctl.specs.declared.descriptors.DataDesc.{DataDesc}
 use Rattle.b67_lemmas.specs.Lists.{Has}
-use Rattle.b67_model.specs.Common.{Answer, ◌>>=◌, ◌>>◌, Word, Operand, Name, Ref, Row, Element, Original, Proc, Intrinsic, number, array, with_array, resized, Array, Task, SessionJob, height, top, below_top, Done, is_critical, is_original, row_copy, array_length, needs_writable, answers, deallocate, resize, Session}
-use Rattle.b67_model.specs.Words as Words
+use Rattle.b67_model.specs.Common.{Answer, ◌>>=◌, ◌>>◌, Word, Row, number, array, with_array, resized, Array, Task, SessionJob, height, top, below_top, Done, is_critical, is_original, row_copy, array_length, needs_writable, answers, deallocate, resize, Session}
 use Rattle.b67_model.specs.Words.{whole}
 use Rattle.b67_stack.specs.declared.Cpu.{Cpu}
 use Rattle.b67_stack.specs.Represents.{Storage}
@@ -30,7 +29,7 @@ use Rattle.b67_mcp_calls.specs.Lengthening.{EmptyMeets, Resizes, ResizeMeets}
 use Rattle.b67_mcp_calls.specs.declared.resize.Resizing.TheVariants as resizing
 use Rattle.b67_mcp_call.proofs.Ones.{one}
 use Rattle.b67_mcp_calls.proofs.Founds.{lower}
-use Rattle.b67_mcp_calls.proofs.Lengths.{wanted, chain, plain_word}
+use Rattle.b67_mcp_calls.proofs.Lengths.{wanted, chain}
 
 -- a word that copies an array whole, whose original has this address
 pub record CopyOf (plan : Placement) (m : SessionJob) (v : Word) (original : ℕ) : Type 0 where
@@ -41,27 +40,10 @@ pub record CopyOf (plan : Placement) (m : SessionJob) (v : Word) (original : ℕ
   pub some : 0 < length item.numbers
 
 pub copy_of : (plan : Placement) (m : SessionJob) (v : Word) (original : ℕ) → FindsArray plan m (Ok original) (row_copy v) → CopyOf plan m v original
-copy_of plan m (Row a) original f =
-    record { item = f.1.item; live = f.1.live; is = ap Row (sym f.1.named); home = f.0 ∙ ap (plan.home m.constants.number) (sym f.1.named); some = f.1.inside }
-copy_of plan m (Operand bits) original f = absurd f
-copy_of plan m (Name c) original f = absurd f
-copy_of plan m (Ref g k) original f = absurd f
-copy_of plan m (Element a k) original f = absurd f
-copy_of plan m (Original a) original f = absurd f
-copy_of plan m (Proc g l p) original f = absurd f
-copy_of plan m (Intrinsic n) original f = absurd f
-copy_of plan m (Words.Segment n) original f = absurd f
+copy_of plan m v original f = grind arith
 
 pub no_copy : (plan : Placement) (m : SessionJob) (v : Word) (fault : Fault) → FindsArray plan m (Err fault) (row_copy v) → row_copy v ≡ Err fault
-no_copy plan m (Row a) fault f = absurd f
-no_copy plan m (Operand bits) fault f = ap Err (sym f)
-no_copy plan m (Name c) fault f = ap Err (sym f)
-no_copy plan m (Ref g k) fault f = ap Err (sym f)
-no_copy plan m (Element a k) fault f = ap Err (sym f)
-no_copy plan m (Original a) fault f = ap Err (sym f)
-no_copy plan m (Proc g l p) fault f = ap Err (sym f)
-no_copy plan m (Intrinsic n) fault f = ap Err (sym f)
-no_copy plan m (Words.Segment n) fault f = ap Err (sym f)
+no_copy plan m v fault f = grind arith
 
 -- the array has an element
 abbrev pub element_of : (plan : Placement) (m : SessionJob) (v : Word) (original : ℕ) (k : CopyOf plan m v original) → HasElement m.progress.job k.item.identity 0
@@ -85,9 +67,7 @@ module _ (m : SessionJob) (t : Task) (r : Word) (arguments : List Word) (call : 
   pub only_is : (x : Storage) (plan : Placement) (w : Tagged) → length (cells t) ≡ 2 → (a : TopFollowed x plan m t w) → Only t r arguments a.word
   only_is x plan w two a =
       let o = one m t r arguments call two in
-      let same : o.argument ∷ r ∷ [] ≡ a.word ∷ a.rest = sym o.cells_are ∙ a.is in
-      let is : o.argument ≡ a.word = cc in
-      record { are = o.arguments_are ∙ ap (λ (v : Word). v ∷ []) is; cells_are = o.cells_are ∙ ap (λ (v : Word). v ∷ r ∷ []) is }
+      grind arith
 
   -- the two top ones of three cells are the arguments
   pub pair_is : (x : Storage) (plan : Placement) (u w : Tagged) → length (cells t) ≡ 3 → (a : TwoFollowed x plan m t u w) → Pair t r arguments a.lower a.upper
@@ -103,21 +83,10 @@ module _ (m : SessionJob) (t : Task) (r : Word) (arguments : List Word) (call : 
 
   -- another number of arguments
   pub empty_not_one : (plan : Placement) → length (cells t) ≢ 2 → EmptyMeets plan m t arguments (Err InvalidOperand)
-  empty_not_one plan ne next = by arguments count
-    where
-      by : (ws : List Word) → length (cells t) ≡ suc (length ws) → deallocate (here m t next) ws ≡ Err InvalidOperand
-      by [] e = refl
-      by (w ∷ []) e = absurd (ne e)
-      by (w ∷ v ∷ more) e = refl
+  empty_not_one plan ne next = grind (arith, count)
 
   pub resize_not_two : (next : Place) → length (cells t) ≢ 3 → resize (here m t next) arguments ≡ Err InvalidOperand
-  resize_not_two next ne = by arguments count
-    where
-      by : (ws : List Word) → length (cells t) ≡ suc (length ws) → resize (here m t next) ws ≡ Err InvalidOperand
-      by [] e = refl
-      by (w ∷ []) e = refl
-      by (w ∷ v ∷ []) e = absurd (ne e)
-      by (w ∷ v ∷ u ∷ more) e = refl
+  resize_not_two next ne = grind (arith, count)
 
   -- an argument that isn't copied
   pub empty_no_copy : (plan : Placement) (v : Word) → Only t r arguments v → (fault : Fault) → FindsArray plan m (Err fault) (row_copy v) → EmptyMeets plan m t arguments (Err fault)
@@ -180,9 +149,7 @@ module _ (m : SessionJob) (t : Task) (r : Word) (arguments : List Word) (call : 
         resize_critical n e off z next = resizes next ∙ rw e (rw (writable off) (rw z refl))
 
         plain_pair : (n : ℕ) → wanted w ≡ Ok n → AllByRecursion (λ (u : Word). is_original u ≡ false) (cells t)
-        plain_pair n e =
-            let P : List Word → Type 0 = λ ws. AllByRecursion (λ (u : Word). is_original u ≡ false) ws in
-            subst P (sym pair.cells_are) (plain_word w n e, (ap is_original k.is, (call.plain, tt)))
+        plain_pair n e = grind arith
 
         abbrev resized_to : (n : ℕ) → wanted w ≡ Ok n → (0 < n) × (n < 2 ^ 16) → d.read_only ≡ false → is_critical m.progress.job (top t.frames).identity ≡ false → height t.frames ≤ m.constants.stack_size → Resizes plan m t arguments original n
         resized_to n e bounds off z fits =
@@ -217,9 +184,4 @@ module _ (m : SessionJob) (t : Task) (r : Word) (arguments : List Word) (call : 
 
 -- three cells are no fewer than two
 pub two_of_three : (x : Storage) (plan : Placement) (m : SessionJob) (t : Task) (cpu : Cpu) (fault : Fault) → length (cells t) ≡ 3 → GivesTwo x plan m t cpu (cells t) (Err fault) → ⊥
-two_of_three x plan m t cpu fault three given = by (cells t) three given
-  where
-    by : (cs : List Word) → length cs ≡ 3 → GivesTwo x plan m t cpu cs (Err fault) → ⊥
-    by [] n g = cc
-    by (b ∷ []) n g = cc
-    by (b ∷ a ∷ rest) n g = (let e = g.2 in cc)
+two_of_three x plan m t cpu fault three given = grind arith

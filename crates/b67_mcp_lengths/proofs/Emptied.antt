@@ -1,12 +1,12 @@
 -- An array that is in no area and no chain.
-use Rattle.std.proofs.Common.{◌≡◌, ◌≢◌, ℕ, zero, suc, ◌<◌, ◌≤◌, ◌^◌, List, length, Option, Some, None, refl, sym, ◌∙◌, ap, arith, inr, subst, slice_set, replicate}
+use Rattle.std.proofs.Common.{◌≡◌, ◌≢◌, ℕ, zero, suc, ◌<◌, ◌≤◌, ◌^◌, List, length, Some, None, refl, sym, ◌∙◌, ap, arith, inr, slice_set, replicate}
 use Rattle.std.specs.List.{slice_get}
 use Rattle.std.proofs.lemmas.List.{length-set, length-replicate}
 use Rattle.std.proofs.lemmas.Option.{none-some}
 use Rattle.b67_word.specs.Tagged.{Tagged}
 use Rattle.b67_core.proofs.Writes.{slice_get-set_same, slice_get-set_other}
 use Rattle.b67_area.specs.declared.Kind.TheVariants.{Array}
-use Rattle.b67_area.specs.Spans.{Span, without}
+use Rattle.b67_area.specs.Spans.{without}
 use Rattle.b67_area.proofs.Climbs.{area_at-low}
 use Rattle.b67_area.proofs.Separation.{IsDirectory-set_below}
 use Rattle.b67_backing.specs.Shelf.{Table, IsShelf}
@@ -20,7 +20,7 @@ use Rattle.b67_stack.proofs.Reheld.{storage_with}
 use Rattle.b67_layout_storage.proofs.Changed.{Changed, Represents-changed}
 use Rattle.b67_overlay.specs.Turns.{Hides}
 use Rattle.b67_overlay.proofs.Dropping.{Freed, size2, here3, stays3, body3, other_area, stacks3, area_of3, bases3, word3}
-use Rattle.b67_mcp_lengths.specs.Lengths.{zeroed, emptied, freed_area, freed_chain}
+use Rattle.b67_mcp_lengths.specs.Lengths.{zeroed, emptied, freed_chain}
 use Rattle.b67_mcp_lengths.proofs.Freeing.{of_left, no_zero_left, other_left}
 
 zeros : (n : ℕ) → AreZero (replicate n zero)
@@ -68,8 +68,7 @@ module _ (x : Storage) (core : List Tagged) (r : Regs) (p : MachineView) (s : Re
     pub emptied_area : Represents (emptied x t) new r (record p { objects = objects })
     emptied_area =
         let it = Represents-changed x core new r p objects t (zeroed t) nowhere (without x.low area x.spans) (freed_chain (x.held t.home).chain x.shelf) x.device int s re from_area in
-        let P : List Span → Type 0 = λ ss. Represents (storage_with x t.home nowhere ss (freed_chain (x.held t.home).chain x.shelf) x.device) new r (record p { objects = objects }) in
-        subst P (ap (λ (a : Option ℕ). freed_area x.low a x.spans) (sym at.present)) it
+        grind arith
 
   -- it was absent
   module _ (absent : (x.held t.home).area ≡ None) where
@@ -109,8 +108,7 @@ module _ (x : Storage) (core : List Tagged) (r : Regs) (p : MachineView) (s : Re
     pub emptied_absent : Represents (emptied x t) (slice_set core t.home (home_word_of t.kind (length t.numbers) nowhere)) r (record p { objects = objects })
     emptied_absent =
         let it = Represents-changed x core new2 r p objects t (zeroed t) nowhere x.spans (freed_chain (x.held t.home).chain x.shelf) x.device int s re from_absent in
-        let P : List Span → Type 0 = λ ss. Represents (storage_with x t.home nowhere ss (freed_chain (x.held t.home).chain x.shelf) x.device) new2 r (record p { objects = objects }) in
-        subst P (ap (λ (a : Option ℕ). freed_area x.low a x.spans) (sym absent)) it
+        grind arith
 
 -- the words below the slots
 pub stayed_absent : (p : MachineView) (t : PagedObject) → Has p.objects t → (core : List Tagged) (home : ℕ) (w : Tagged) → t.home ≡ home → LowWordsStayed p core (slice_set core home w)

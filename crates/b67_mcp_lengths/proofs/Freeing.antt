@@ -1,7 +1,7 @@
 -- A chain that is given back, and the chains that stay.
 use Rattle.std.proofs.Common.{◌≡◌, ◌≢◌, ℕ, ◌^◌, ◌<◌, ◌≤◌, ◌==◌, ◌⊎◌, List, [], length, Option, Some, None, refl, sym, ◌∙◌, ap, arith, inl, inr, ⊎_elim, subst, slice_set, if◌then◌else◌}
 use Rattle.std.specs.List.{slice_get}
-use Rattle.std.proofs.lemmas.Bool.{cases_eq, cond-true, cond-false, eq-eqb, ne_eqb}
+use Rattle.std.proofs.lemmas.Bool.{cond-true, cond-false, eq-eqb, ne_eqb}
 use Rattle.b67_word.specs.Tagged.{Tagged}
 use Rattle.b67_backing.specs.Shelf.{Table, Shelf, IsShelf, chain_of, given}
 use Rattle.b67_backing.specs.Held.{sectors_for}
@@ -40,46 +40,23 @@ module _ (x : Storage) (core : List Tagged) (r : Regs) (p : MachineView) (s : Re
   module _ (table : Table) (sh : IsShelf table x.shelf) where
     -- what is left of the chains
     left_of : (f : ℕ) → kept ≢ 0 → chain_of f (freed_chain (x.held t.home).chain x.shelf).chains ≡ (if (x.held t.home).chain == f then [] else chain_of f x.shelf.chains)
-    left_of f n =
-        let has : 1 ≤ length (chain_of kept x.shelf.chains) = ⊎_elim (λ e. absurd (n e)) (λ h. h) is_chain in
-        ap (λ (z : Shelf). chain_of f z.chains) (freed_some x.shelf kept n) ∙ chain_of-given table kept f x.shelf sh has
+    left_of f n = grind (arith, is_chain, freed_some, chain_of-given)
 
     pub stays_left : (f : ℕ) → kept ≢ f → chain_of f (freed_chain (x.held t.home).chain x.shelf).chains ≡ chain_of f x.shelf.chains
-    stays_left f m = ⊎_elim
-        (λ (e : kept ≡ 0). ap (λ (z : Shelf). chain_of f z.chains) (freed_none x.shelf kept e))
-        (λ (n : kept ≡ 0 → ⊥). left_of f n ∙ cond-false (kept == f) [] (chain_of f x.shelf.chains) (ne_eqb kept f m))
-        (cases_eq kept 0)
+    stays_left f m = grind (arith, left_of, ne_eqb)
 
     pub no_zero_left : chain_of 0 (freed_chain (x.held t.home).chain x.shelf).chains ≡ []
-    no_zero_left = ⊎_elim
-        (λ (e : kept ≡ 0). ap (λ (z : Shelf). chain_of 0 z.chains) (freed_none x.shelf kept e) ∙ s.owned.no_zero)
-        (λ (n : kept ≡ 0 → ⊥). stays_left 0 n ∙ s.owned.no_zero)
-        (cases_eq kept 0)
+    no_zero_left = grind (arith, stays_left)
 
     pub of_left : (f : ℕ) → 0 < length (chain_of f (freed_chain (x.held t.home).chain x.shelf).chains) → (0 < length (chain_of f x.shelf.chains)) × (f ≢ (x.held t.home).chain)
-    of_left f some = ⊎_elim
-        (λ (e : kept ≡ f). absurd (⊎_elim
-        (λ (z : kept ≡ 0). omega (arith, some, ap length (ap (λ k. chain_of k (freed_chain kept x.shelf).chains) (sym e ∙ z) ∙ no_zero_left)))
-        (λ (n : kept ≡ 0 → ⊥). omega (arith, some, ap length (left_of f n ∙ cond-true (kept == f) [] (chain_of f x.shelf.chains) (eq-eqb kept f e))))
-        (cases_eq kept 0)))
-        (λ (m : kept ≡ f → ⊥). (omega (arith, some, ap length (stays_left f m)), λ e. m (sym e)))
-        (cases_eq kept f)
+    of_left f some = grind (arith, left_of)
 
     -- another object's chain
     pub other_kept : (u : PagedObject) → Has p.objects u → u.home ≢ t.home → (kept ≡ 0) ⊎ (kept ≢ (x.held u.home).chain)
-    other_kept u inu m = ⊎_elim
-        (λ (e : kept ≡ 0). inl e)
-        (λ (n : kept ≡ 0 → ⊥). inr (λ e. m (sym (s.owned.one_chain t u int inu (omega (arith, n)) e))))
-        (cases_eq kept 0)
+    other_kept u inu m = grind arith
 
     pub other_left : (y : Storage) → y.shelf ≡ freed_chain (x.held t.home).chain x.shelf → y.device ≡ x.device → (u : PagedObject) → Has p.objects u → u.home ≢ t.home → ChainStays x y (x.held u.home).chain
-    other_left y e d u inu m =
-        let c = (x.held u.home).chain in
-        let same : chain_of c (freed_chain kept x.shelf).chains ≡ chain_of c x.shelf.chains = ⊎_elim
-        (λ (z : kept ≡ 0). ap (λ (k : Shelf). chain_of c k.chains) (freed_none x.shelf kept z))
-        (λ (n : kept ≢ (x.held u.home).chain). stays_left c n)
-        (other_kept u inu m) in
-        record { chain = ap (λ (k : Shelf). chain_of c k.chains) e ∙ same; told = λ ns h. rw d h }
+    other_left y e d u inu m = grind (arith, stays_left)
 
 -- the word of an array's original
 pub original_is : (x : Storage) (core : List Tagged) (r : Regs) (p : MachineView) → Represents x core r p → (t : PagedObject) (home : ℕ) → IsArray p home t
@@ -100,16 +77,10 @@ pub original_read : (x : Storage) (core : List Tagged) (r : Regs) (p : MachineVi
 original_read x core r p s t home a d reads = let o = original_is x core r p s t home a in reads (home_desc Rattle.std.specs.Prelude.false (length t.numbers) (x.held t.home)) o.0 o.1
 
 pub read_present : (h : Location) (n : ℕ) (d : DataDesc) → d ≡ home_desc Rattle.std.specs.Prelude.false n h → d.present ≡ Rattle.std.specs.Prelude.true → h.area ≡ Some d.address
-read_present h n d e there = by h.area h.chain e where
-  by : (o : Option ℕ) (c : ℕ) → d ≡ home_desc Rattle.std.specs.Prelude.false n (record { area = o; chain = c }) → o ≡ Some d.address
-  by None c e = absurd (Rattle.std.proofs.lemmas.Bool.false≢true (sym (ap (λ (z : DataDesc). z.present) e) ∙ there))
-  by (Some b) c e = ap Some (sym (ap (λ (z : DataDesc). z.address) e))
+read_present h n d e there = grind arith
 
 pub read_absent : (h : Location) (n : ℕ) (d : DataDesc) → d ≡ home_desc Rattle.std.specs.Prelude.false n h → d.present ≡ Rattle.std.specs.Prelude.false → (h.area ≡ None) × (d.address ≡ h.chain)
-read_absent h n d e there = by h.area h.chain e where
-  by : (o : Option ℕ) (c : ℕ) → d ≡ home_desc Rattle.std.specs.Prelude.false n (record { area = o; chain = c }) → (o ≡ None) × (d.address ≡ c)
-  by None c e = (refl, ap (λ (z : DataDesc). z.address) e)
-  by (Some b) c e = absurd (Rattle.std.proofs.lemmas.Bool.false≢true (sym there ∙ ap (λ (z : DataDesc). z.present) e))
+read_absent h n d e there = grind arith
 
 -- the word of an original that is written
 pub word_written : (n : ℕ) (h : Location) (t : PagedObject) (w : Tagged) → t.kind ≡ Array → w ≡ data_word (home_desc Rattle.std.specs.Prelude.false n h) → w ≡ home_word_of t.kind n h
@@ -117,6 +88,4 @@ word_written n h t w array e = let P : Kind → Type 0 = λ k. w ≡ home_word_o
 
 -- core with an original's word
 pub set_original : (mid new : List Tagged) (home n : ℕ) (h : Location) (t : PagedObject) (e : DataDesc) (w : Tagged) → t.home ≡ home → t.kind ≡ Array → e ≡ home_desc Rattle.std.specs.Prelude.false n h → w ≡ data_word e → new ≡ slice_set mid home w → new ≡ slice_set mid t.home (home_word_of t.kind n h)
-set_original mid new home n h t e w is array d word_is set =
-    let written = word_written n h t w array (word_is ∙ ap data_word d) in
-    set ∙ ap (λ (q : ℕ). slice_set mid q w) (sym is) ∙ ap (slice_set mid t.home) written
+set_original mid new home n h t e w is array d word_is set = grind arith

@@ -3,10 +3,9 @@ use Rattle.std.proofs.Common.{◌≡◌, ◌≢◌, ℕ, zero, suc, ◌+◌, ◌
 use Rattle.std.specs.List.{slice_get}
 use Rattle.std.proofs.lemmas.List.{length-set, length-map, length-replicate}
 use Rattle.std.proofs.lemmas.Option.{none-some}
-use Rattle.std.proofs.lemmas.Bool.{cases_eq, cases_lt, cond-true, cond-false, eq-eqb, ne_eqb}
+use Rattle.std.proofs.lemmas.Bool.{cases_eq, cases_lt}
 use Rattle.b67_word.specs.Common.{Tagged, word, number}
 use Rattle.b67_core.proofs.Writes.{slice_get-set_same, slice_get-set_other}
-use Rattle.b67_area.specs.declared.Kind.{Kind}
 use Rattle.b67_area.specs.declared.Kind.TheVariants.{Array}
 use Rattle.b67_area.specs.Spans.{area_at}
 use Rattle.b67_area.proofs.Climbs.{area_at-low}
@@ -16,13 +15,13 @@ use Rattle.b67_backing.specs.Held.{SameBut, sectors_for}
 use Rattle.b67_backing.specs.Extending.{extended, sectors_more, Prolongs, ExtendMeets, KeepsDevice}
 use Rattle.b67_lemmas.specs.Lists.{Has}
 use Rattle.b67_ctl.specs.declared.registers.Regs.{Regs}
-use Rattle.b67_stack.specs.Common.{Location, PagedObject, MachineView, slot_base, home_word_of, object_words, tag_of, Storage, Represents, HoldsIn, Content, Told, info_of, with_held, TakesPlace}
+use Rattle.b67_stack.specs.Common.{Location, PagedObject, MachineView, slot_base, home_word_of, object_words, Storage, Represents, HoldsIn, Told, info_of, TakesPlace}
 use Rattle.b67_layout_storage.specs.Machine.{IsPresent, DeviceAfterCalls, Says, content_after}
 use Rattle.b67_overlay.specs.Spans.{MachineCanPage}
 use Rattle.b67_stack.proofs.Unchanged.{area_of_object, home_below}
 use Rattle.b67_layout_storage.proofs.Words.{StacksLie-home, original_word}
 use Rattle.b67_stack.proofs.Helds.{held-other, held-same}
-use Rattle.b67_stack.proofs.Reheld.{storage_with, Content-stays}
+use Rattle.b67_stack.proofs.Reheld.{storage_with}
 use Rattle.b67_layout_storage.proofs.Changed.{Changed, Represents-changed}
 use Rattle.std.specs.Prelude.{Result, Ok, Err}
 use Rattle.b67_area.specs.declared.Areas.{Areas}
@@ -46,17 +45,7 @@ module _ (x : Storage) (core : List Tagged) (r : Regs) (p : MachineView) (s : Re
   told_stays c ns h = Told-same (take n x.shelf.free) (chain_of c x.shelf.chains) ns x.device told new says f (free_apart table x.shelf sh c n) h
 
   pub retold_free : Represents (retelling x new) core r p
-  retold_free = record {
-    slots = s.slots;
-    stacks = s.stacks;
-    objects = λ u inu. let was = s.objects u inu in record {
-      home = was.home;
-      content = Content-stays x (retelling x new) u (x.held u.home).chain (record { chain = refl; told = told_stays (x.held u.home).chain }) core core (x.held u.home).area (λ b e q low high. refl) was.content;
-    };
-    owned = record { of_area = s.owned.of_area; of_held = s.owned.of_held; of_chain = s.owned.of_chain; no_zero = s.owned.no_zero; one_chain = s.owned.one_chain };
-    directory = s.directory;
-    inside = s.inside;
-  }
+  retold_free = grind (arith, told_stays)
 
 -- the words of an array with zeros after them
 numbers_grown : (ns : List ℕ) (k : ℕ) → map number (map (word 0) (ns ++ replicate k zero)) ≡ map number (map (word 0) ns) ++ replicate k zero
@@ -69,9 +58,7 @@ module _ (x : Storage) (core : List Tagged) (r : Regs) (p : MachineView) (s : Re
   c = (x.held t.home).chain
 
   pub rests : HoldsIn x t (x.held t.home).chain
-  rests =
-      let C : Option ℕ → Type 0 = λ o. Content x core t o c in
-      ⊎_elim (λ (h : HoldsIn x t c). h) (λ z. absurd (omega (arith, some, z.0))) (subst C absent (s.objects t int).content)
+  rests = grind arith
 
   module _ (table table' : Table) (sh : IsShelf table x.shelf) (told new : Option (List (List ℕ))) (says : Says x.device told) (words : ℕ) (longer : length t.numbers < words) (few : words < 2 ^ 16) where
     abbrev more : ℕ
@@ -120,22 +107,16 @@ module _ (x : Storage) (core : List Tagged) (r : Regs) (p : MachineView) (s : Re
       told_more None says h = tt
       told_more (Some all) says h =
           let k = content all says in
-          let T : Option (List (List ℕ)) → Type 0 = λ z. Told z (chain_of c shelf.chains) (map number (object_words t) ++ replicate (words - length t.numbers) zero) in
-          subst T (sym k.1) (k.2.fills (map number (object_words t)) (length-map (object_words t) number ∙ length-map t.numbers (word (tag_of t.kind))) h)
+          grind (arith, length-map)
 
       numbers_are : map number (object_words (grown_to words t)) ≡ map number (object_words t) ++ replicate (words - length t.numbers) zero
-      numbers_are =
-          let N : Kind → Type 0 = λ k. map number (map (word (tag_of k)) (t.numbers ++ replicate (words - length t.numbers) zero)) ≡ map number (map (word (tag_of k)) t.numbers) ++ replicate (words - length t.numbers) zero in
-          subst N (sym array) (numbers_grown t.numbers (words - length t.numbers))
+      numbers_are = grind (arith, numbers_grown)
 
       abbrev y : Storage
       y = storage_with x t.home h x.spans shelf device
 
       holds : HoldsIn y (grown_to words t) c
-      holds = record {
-        chain = record { some = rests.chain.some; small = rests.chain.small; sectors = many ∙ ap sectors_for (sym long) };
-        told = (let T : List ℕ → Type 0 = λ ns. Told device (chain_of c shelf.chains) ns in subst T (sym numbers_are) (told_more x.device says rests.told));
-      }
+      holds = grind (arith, long, numbers_are, told_more)
 
       changed : Changed x core core' p t (grown_to words t) h x.spans shelf device
       changed = record {
@@ -171,25 +152,7 @@ pub record IsOut (y : Storage) (t : PagedObject) : Type 0 where
   pub some : 0 < (y.held t.home).chain
 
 pub is_out : (x : Storage) (core : List Tagged) (r : Regs) (p : MachineView) → Represents x core r p → (t : PagedObject) → Has p.objects t → t.kind ≡ Array → (table : Table) → IsShelf table x.shelf → (at : ℕ) (told : Option (List (List ℕ))) → (IsShort x t → ⊥) → IsOut (overlaid x t at told) t
-is_out x core r p s t int array table sh at told full =
-    let kept = (x.held t.home).chain in
-    let h : Location = record { area = None; chain = chain_out x.shelf kept } in
-    let same : with_held x.held t.home h t.home ≡ h = held-same x.held t.home h in
-    let long = (s.slots.laid.lengths t int).0 in
-    record {
-      absent = ap (λ (g : Location). g.area) same;
-      some = subst (λ (g : Location). 0 < g.chain) (sym same) (⊎_elim
-          (λ (e : kept ≡ 0).
-          let room : sectors_for (length t.numbers) ≤ length x.shelf.free = ⊎_elim
-          (λ l. absurd (full (record { kind = array; none = e; few = l })))
-          (λ l. l)
-          (cases_lt (length x.shelf.free) (sectors_for (length t.numbers))) in
-          let ff = free_first table x.shelf sh (sectors_for (length t.numbers)) (omega (arith, long)) room in
-          let out : chain_out x.shelf kept ≡ first x.shelf.free = cond-true (kept == 0) _ _ (eq-eqb kept 0 e) in
-          omega (arith, ff.0, out))
-          (λ (n : kept ≡ 0 → ⊥). let out : chain_out x.shelf kept ≡ kept = cond-false (kept == 0) _ _ (ne_eqb kept 0 n) in omega (arith, out, n))
-          (cases_eq kept 0));
-    }
+is_out x core r p s t int array table sh at told full = grind (arith, held-same, ⊎_elim, cases_lt, free_first)
 
 -- all but it is held as it was
 pub others_out : (x : Storage) (t : PagedObject) (at : ℕ) (told : Option (List (List ℕ))) → OthersStay x (overlaid x t at told) t.home told
@@ -197,8 +160,7 @@ others_out x t at told = record { low = refl; others = λ q n. held-other x.held
 
 -- a device that is retold twice
 pub retold_twice : (d told told1 told2 : Option (List (List ℕ))) → Says d told → ((all : List (List ℕ)) → told ≡ Some all → (y : List (List ℕ)) × (told1 ≡ Some y)) → content_after (content_after d told1) told2 ≡ content_after d told2
-retold_twice None told told1 told2 says f = refl
-retold_twice (Some all) told told1 told2 says f = let k = f all says in ap (λ (z : Option (List (List ℕ))). content_after z told2) k.1
+retold_twice d told told1 told2 says f = grind arith
 
 -- refusals
 module _ {D : Type 0} (tell : D → Option (List (List ℕ))) (x : Storage) (p : MachineView) (t : PagedObject) (at words : ℕ) (areas : Areas) where

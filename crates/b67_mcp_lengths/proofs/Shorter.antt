@@ -1,7 +1,6 @@
 -- An array that is left only its first words.
-use Rattle.std.proofs.Common.{◌≡◌, ◌≢◌, ℕ, zero, suc, ◌+◌, ◌<◌, ◌≤◌, ◌⊎◌, ◌==◌, List, [], ◌∷◌, length, map, take, Option, Some, None, refl, sym, ◌∙◌, ap, arith, inl, inr, ⊎_elim, subst, slice_set}
+use Rattle.std.proofs.Common.{◌≡◌, ◌≢◌, ℕ, zero, suc, ◌+◌, ◌<◌, ◌≤◌, ◌⊎◌, ◌==◌, List, [], ◌∷◌, length, map, take, Option, Some, refl, sym, ◌∙◌, ap, arith, inl, inr, ⊎_elim, subst, slice_set}
 use Rattle.std.specs.List.{slice_get}
-use Rattle.std.specs.Prelude.{MatchBool, Bool, true, false}
 use Rattle.std.proofs.lemmas.List.{length-set, length-take-le, length-map}
 use Rattle.std.proofs.lemmas.Bool.{cases_eq, cond-true, cond-false, eq-eqb, ne_eqb}
 use Rattle.std.proofs.lemmas.Option.{same_Some}
@@ -18,11 +17,10 @@ use Rattle.b67_area.proofs.Separation.{IsDirectory-set_below}
 use Rattle.b67_backing.specs.Shelf.{Table, IsShelf}
 use Rattle.b67_lemmas.specs.Lists.{Has}
 use Rattle.b67_ctl.specs.declared.registers.Regs.{Regs}
-use Rattle.b67_stack.specs.Common.{Location, Locations, Shape, Is, Original, Copy, IsOriginal, Fits, LieUpward, words, PagedObject, MachineView, slot_base, stack_of, home_word_of, object_words, tag_of, Storage, Represents, StacksLie, Content, KeptChain, info_of, LowWordsStayed, with_held, TakesPlace}
+use Rattle.b67_stack.specs.Common.{Location, Locations, Shape, Original, IsOriginal, Fits, LieUpward, words, PagedObject, MachineView, slot_base, stack_of, home_word_of, object_words, tag_of, Storage, Represents, StacksLie, Content, KeptChain, info_of, LowWordsStayed, with_held, TakesPlace}
 use Rattle.b67_stack.proofs.Lies.{Lie-each, Upward-same}
 use Rattle.b67_layout_storage.specs.Machine.{IsPresent}
 use Rattle.b67_layout_storage.proofs.Below.{stacks_low, not_heads}
-use Rattle.b67_stack.proofs.Helds.{held-other, held-same}
 use Rattle.b67_stack.proofs.Unchanged.{area_of_object, area_bounds, home_below, base_low, slot_below}
 use Rattle.b67_layout_storage.proofs.Words.{shape_home, no_code_above, original_word}
 use Rattle.b67_stack.proofs.Reheld.{storage_with, info_with}
@@ -37,18 +35,7 @@ upward_front core at g (m ∷ ns) (suc n) u = (u.0, upward_front core (at + 1) g
 
 -- words of stacks, where an object is held in the same area
 same_area : (held : Locations) (home : ℕ) (h : Location) (a : Shape) (i : ℕ) (v : Tagged) → h.area ≡ (held home).area → Fits held a i v → Fits (with_held held home h) a i v
-same_area held home h (Is u) i v e f = f
-same_area held home h (Original q) i v e f = f
-same_area held home h (Copy c q) i v e f = record { number = f.number; numbered = f.numbered; present = f.present; address = f.address; fits = f.fits; is = f.is; to = by f.present f.to } where
-  area : (with_held held home h q).area ≡ (held q).area
-  area = ⊎_elim
-      (λ (z : q ≡ home). ap (λ n. (with_held held home h n).area) z ∙ ap (λ (g : Location). g.area) (held-same held home h) ∙ e ∙ ap (λ n. (held n).area) (sym z))
-      (λ (n : q ≡ home → ⊥). ap (λ (g : Location). g.area) (held-other held home h q n))
-      (cases_eq q home)
-
-  by : (b : Bool) → MatchBool b ((held q).area ≡ Some f.address) (f.address ≡ q) → MatchBool b ((with_held held home h q).area ≡ Some f.address) (f.address ≡ q)
-  by false e = e
-  by true e = area ∙ e
+same_area held home g a i v e f = grind arith
 
 -- an area was shrunk, and keeps no chain
 pub record Shrunk (low at n : ℕ) (ss : List Span) (core new : List Tagged) : Type 0 where
@@ -134,10 +121,7 @@ module _ (x : Storage) (core : List Tagged) (r : Regs) (p : MachineView) (s : Re
   now_here = f.areas at ∙ ap (λ o. with_kept at 0 at (with_words at n at o)) area ∙ ap (with_kept at 0 at) (cond-true (at == at) _ _ (eq-eqb at at refl)) ∙ cond-true (at == at) _ _ (eq-eqb at at refl)
 
   now_other : (b : ℕ) → at ≢ b → area_at x.low spans b ≡ area_at x.low x.spans b
-  now_other b m = f.areas b ∙ by (area_at x.low x.spans b) where
-    by : (o : Option Info) → with_kept at 0 b (with_words at n b o) ≡ o
-    by None = refl
-    by (Some i) = ap (with_kept at 0 b) (cond-false (at == b) _ _ (ne_eqb at b m)) ∙ cond-false (at == b) _ _ (ne_eqb at b m)
+  now_other b m = grind arith
 
   long : length (take n t.numbers) ≡ n
   long = length-take-le n t.numbers (omega (arith, fewer))

@@ -173,8 +173,7 @@ module _ (x : Storage) (told : Option (List (List ℕ))) (k : Machine) (plan : P
       let F : List Frame → Type 0 = λ fs. Falls m.progress.job.next_frame (known_numbers (map known_of fs ++ outer_of m.progress.job t)) in
       let low = (subst F off.frames falls).1.0 in
       let own_is : (top t.frames).identity ≡ off.f.identity = ap (λ (fs : List Frame). (top fs).identity) off.frames in
-      let next_is : new.critical ≡ off.next.identity = ap (λ (fs : List Frame). (top (below_top fs)).identity) off.frames in
-      rw (ne_eqb new.critical (top t.frames).identity (λ e. omega (arith, e, low, own_is, next_is))) cut.free
+      grind (arith, ne_eqb)
 
   pub cut1 : MayCut member1 t
   cut1 = record { marked = cut.marked; plain = cut.plain; free = free1 }
@@ -182,11 +181,7 @@ module _ (x : Storage) (told : Option (List (List ℕ))) (k : Machine) (plan : P
   -- once the call is answered with the child's number
   pub is_moved : (number : ℕ) (next : Place) (y : Storage) (after : Machine) → number ≡ m.progress.job.next_task
       → MachineRepresents y told after plan1 (with_job session1 member1 (job_answered member1 t (Operand number) next job1.numbers)) → StandsMoved told s m (job_started m t (child m t count f segment level place) next) 1 after
-  is_moved number next y after number_is stands =
-      let last : ℕ → Job = λ n. job_answered member1 t (Operand n) next job1.numbers in
-      let same : with_job session1 member1 (last number) ≡ session_moved s m (last number) 1 = ap (λ (z : Session). record z { peak = peak_with s 1 }) (with_job-twice s m job1 (last number)) in
-      let Q : ℕ → Type 0 = λ n. MachineRepresents y told after plan1 (session_moved s m (last n) 1) in
-      record { storage = y; plan = plan1; stands = subst Q number_is (subst (MachineRepresents y told after plan1) same stands) }
+  is_moved number next y after number_is stands = grind (arith, with_job-twice)
 
 -- the lowest free slot lies in a core that is large enough for one task more
 module _ (x : Storage) (told : Option (List (List ℕ))) (k : Machine) (plan : Placement) (s : Session) (m : SessionJob) (t : Task) (o : IsInOrderButCounts s) (h : MachineRepresents x told k plan s) (runs : IsRunning plan s.jobs m t) where
@@ -195,8 +190,4 @@ module _ (x : Storage) (told : Option (List (List ℕ))) (k : Machine) (plan : P
       let holds = h.session.holds in
       let low = lowest_low plan s o holds.fits.rows holds.fits.peak slot lowest in
       let size : m.constants.stack_size ≡ plan.size = holds.fits.sizes m (keyed_has number_of m.constants.number s.jobs m runs.member).0 in
-      let start = follow_all plan 160 s.jobs holds.fits.dictionaries in
-      let high : ℕ = max s.peak (live_tasks s.jobs + 1) in
-      let product : (slot + 1) * m.constants.stack_size ≤ high * m.constants.stack_size = mul-le-mul_right {m = slot + 1} {n = high} m.constants.stack_size (let e : slot + 1 ≤ high = omega (arith, low) in e) in
-      let same : (slot + 1) * plan.size ≡ (slot + 1) * m.constants.stack_size = ap (λ (n : ℕ). (slot + 1) * n) (sym size) in
-      omega (arith, need, product, same, start)
+      grind (arith, follow_all, mul-le-mul_right)

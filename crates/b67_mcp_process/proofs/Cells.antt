@@ -11,15 +11,14 @@ use Rattle.b67_ctl.specs.declared.descriptors.DataDesc.{DataDesc}
 use Rattle.b67_ctl.specs.Descriptors.{data_word, IsDataDesc}
 use Rattle.b67_lemmas.specs.Lists.{Has}
 use Rattle.b67_lemmas.proofs.Members.{all_in, has_append_right}
-use Rattle.b67_model.specs.Words as Words
-use Rattle.b67_model.specs.Common.{Word, Operand, Name, Ref, Row, Element, Original, Proc, Intrinsic, Frame, Array, Task, SessionJob, top, is_original, Starts, IsSegment, Known, known_of, outer_of, WordInOrder, FramesInOrder, Session}
-use Rattle.b67_layout.specs.Common.{IsInOrderButCounts, Placement, machine_view, IsRunning, RepresentsSession, IsWordOf, cells}
+use Rattle.b67_model.specs.Common.{Word, Frame, Array, Task, SessionJob, top, is_original, Starts, IsSegment, Known, known_of, outer_of, WordInOrder, FramesInOrder, Session}
+use Rattle.b67_layout.specs.Common.{IsInOrderButCounts, Placement, machine_view, IsRunning, RepresentsSession, cells}
 use Rattle.b67_stack.specs.declared.Cpu.{Cpu}
 use Rattle.b67_stack.specs.Common.{Fits, top_mark, Storage}
 use Rattle.b67_layout.proofs.Fresh.{running_in_order}
 use Rattle.b67_refer.specs.RunningContext.{RunningContext, live_of}
 use Rattle.b67_entry.specs.Procedures.{ReachesProc}
-use Rattle.b67_refer.proofs.Links.{Described, own, row, item}
+use Rattle.b67_refer.proofs.Links.{Described}
 use Rattle.b67_exec_cells.proofs.Put as Put
 use Rattle.b67_exec_cells.proofs.Replaced.{word_under}
 use Rattle.b67_fetch.specs.Fetches.{IsFollowed}
@@ -27,8 +26,7 @@ use Rattle.b67_fetch.proofs.Values.{here_scene}
 use Rattle.b67_fetch.proofs.Found.{desc_is}
 
 pub cell_order : (P : Starts) (arrays : List Array) (outer : List Known) (fs : List Frame) (w : Word) → FramesInOrder P arrays outer fs → Has (top fs).cells w → WordInOrder P arrays (map known_of fs ++ outer) (top fs).identity w
-cell_order P arrays outer [] w g h = absurd h
-cell_order P arrays outer (f ∷ below) w g h = all_in (WordInOrder P arrays (map known_of (f ∷ below) ++ outer) f.identity) f.cells w g.0.0 h
+cell_order P arrays outer fs w g h = grind (arith, all_in)
 
 module _ (x : Storage) (cpu : Cpu) (plan : Placement) (s : Session) (m : SessionJob) (t : Task) (ordered : IsInOrderButCounts s) (h : RepresentsSession x cpu plan s) (runs : IsRunning plan s.jobs m t) where
   -- the word that is read under some cells is followed as the next cell
@@ -53,38 +51,24 @@ module _ (x : Storage) (cpu : Cpu) (plan : Placement) (s : Session) (m : Session
   reaches above enough =
       let stack = Put.stack x cpu plan s m t ordered h runs in
       let c = Put.counted x cpu plan s m t ordered h runs (top_mark cpu.regs.slot stack) (flag_bit (top_mark cpu.regs.slot stack).entered) refl refl in
-      let r = Put.room x cpu plan s m t ordered h runs in
-      (omega (arith, c, enough), omega (arith, r.last, r.under, r.inside))
+      grind (arith, Put.room)
 
   -- F stands under them, and the cells are few
   pub counts : (cpu.regs.f + length (cells t) ≤ cpu.regs.s) × (length (cells t) < 2 ^ 20)
   counts =
       let stack = Put.stack x cpu plan s m t ordered h runs in
       let c = Put.counted x cpu plan s m t ordered h runs (top_mark cpu.regs.slot stack) (flag_bit (top_mark cpu.regs.slot stack).entered) refl refl in
-      let r = Put.room x cpu plan s m t ordered h runs in
-      (omega (arith, c), omega (arith, c, r.last, r.under, r.inside, r.bound))
+      grind (arith, Put.room)
 
   module _ (w : Tagged) (v : Word) (i : IsFollowed x plan m t w v) where
     plain_by : (u : Word) → u ≡ v → w.tag ≢ 5 → is_original u ≡ false
-    plain_by (Operand bits) e ne = refl
-    plain_by (Name c) e ne = refl
-    plain_by (Ref f o) e ne = refl
-    plain_by (Row a) e ne = refl
-    plain_by (Element a k) e ne = refl
-    plain_by (Original a) e ne =
-        let f = subst (λ (z : Word). IsWordOf x plan m t z i.at w) (sym e) i.is in
-        absurd (ne (ap (λ (z : Tagged). z.tag) f.1.is))
-    plain_by (Proc g l p) e ne = refl
-    plain_by (Intrinsic n) e ne = refl
-    plain_by (Words.Segment n) e ne = refl
+    plain_by u e ne = grind arith
 
     pub plain_tag : w.tag ≢ 5 → is_original v ≡ false
     plain_tag ne = plain_by v refl ne
 
     by_desc : (d : DataDesc) → Described cpu.core cpu.regs (live_of (here_scene x cpu plan s m t ordered h runs)) i.at i.owner v d → not d.copy ≡ is_original v
-    by_desc d (own b e c k o) = ap not c ∙ sym (ap is_original e)
-    by_desc d (row b e c j k o) = ap not c ∙ sym (ap is_original e)
-    by_desc d (item b n e c j k l o) = ap not c ∙ sym (ap is_original e)
+    by_desc d h = grind arith
 
     -- by the descriptor that is read
     pub copy_tells : (five : w.tag ≡ 5) (d : DataDesc) → ((e : DataDesc) → IsDataDesc e → w ≡ data_word e → d ≡ e) → not d.copy ≡ is_original v

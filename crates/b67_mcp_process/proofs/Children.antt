@@ -49,8 +49,7 @@ module _ (P : Starts) (constants : JobConstants) (job : Job) (parent child : Tas
   still : (n : ℕ) (q : Task) → keyed (λ (t : Task). t.number) n job.tasks ≡ Some q → keyed (λ (t : Task). t.number) n (child ∷ job.tasks) ≡ Some q
   still n q e =
       let r = keyed_has (λ (t : Task). t.number) n job.tasks q e in
-      let low = lower q r.0 in
-      elim (eqb_tells child.number n) [ inl s ↦ absurd (omega (arith, low, r.1, s.1, c.number)) | inr s ↦ rw s.0 e ]
+      grind (arith, lower)
 
   follows : Follows job (with_child job child) (λ n. Unit {0})
   follows n q lives e = record { item = q; found = still n q e; critical = refl; line = refl; alike = λ t h. alike_same (map known_of (from_frame t.critical q.frames)); stays = λ t h k. k }
@@ -94,14 +93,7 @@ module _ (P : Starts) (constants : JobConstants) (job : Job) (parent child : Tas
       (inl refl) w (c.fit w k).0
 
   environment_fits : EnvironmentInOrder (under_call (with_child job child) parent c.under c.below) c.level c.environment
-  environment_fits = record {
-    low = c.stands.low;
-    high = c.stands.high;
-    standing = c.stands.standing;
-    among = alike_has (under_call job parent c.under c.below) (under_call (with_child job child) parent c.under c.below) c.environment c.stands.standing under_alike c.stands.entered c.stands.among;
-    entered = c.stands.entered;
-    level_below = c.stands.level_below;
-  }
+  environment_fits = grind (arith, alike_has, under_alike)
 
   child_order : FramesInOrder P job.arrays (under_call (with_child job child) parent c.under c.below) (child_frame ∷ [])
   child_order = ((all_from (WordInOrder P job.arrays (map known_of (child_frame ∷ []) ++ under_call (with_child job child) parent c.under c.below) job.next_frame) c.cells word_fits, plain_cells c.cells (λ w k. (c.fit w k).1)), environment_fits, tt)

@@ -1,7 +1,7 @@
 -- As many rows are of tasks of a job as tasks of it live.
 use Rattle.std.proofs.Common.{◌≡◌, ◌==◌, ℕ, zero, suc, ◌+◌, ◌<◌, ◌≤◌, List, [], ◌∷◌, map, flat_map, drop, length, Some, refl, sym, ◌∙◌, ap, arith, inl, inr, subst, length-append}
 use Rattle.std.specs.Prelude.{if◌then◌else◌, get_or}
-use Rattle.std.proofs.lemmas.Bool.{cases_Bool, eq-eqb, eqb-true, true≢false}
+use Rattle.std.proofs.lemmas.Bool.{cases_Bool, true≢false}
 use Rattle.std.proofs.lemmas.List.{length-map}
 use Rattle.std.specs.List.{slice_get}
 use Rattle.std.proofs.lemmas.Option.{get_or_from_slice_get, same_Some}
@@ -37,29 +37,11 @@ record RowAt (rs : List TaskRow) (job n : ℕ) : Type 0 where
 
 slots_back : (rs : List TaskRow) (job n : ℕ) → Has (slots_in rs job) n → RowAt rs job n
 slots_back [] job n h = absurd h
-slots_back (r ∷ rs) job n h = elim (cases_Bool (r.job == job)) [
-  | inl e ↦
-      (let k : Has (r.slot ∷ slots_in rs job) n = rw e at h in
-      elim k [
-        | inl is ↦ record { row = r; among = inl refl; job_is = eqb-true r.job job e; slot_is = is }
-        | inr more ↦ (let q = slots_back rs job n more in record { row = q.row; among = inr q.among; job_is = q.job_is; slot_is = q.slot_is })
-      ])
-  | inr e ↦
-      (let k : Has (slots_in rs job) n = rw e at h in
-      let q = slots_back rs job n k in
-      record { row = q.row; among = inr q.among; job_is = q.job_is; slot_is = q.slot_is })
-]
+slots_back (r ∷ rs) job n h = grind (arith, slots_back rs job n)
 
 slots_has : (rs : List TaskRow) (job : ℕ) (r : TaskRow) → Has rs r → r.job ≡ job → Has (slots_in rs job) r.slot
 slots_has [] job r h is = absurd h
-slots_has (q ∷ rs) job r h is = elim (cases_Bool (q.job == job)) [
-  | inl e ↦ rw e (elim h [ inl same ↦ inl (ap (λ (z : TaskRow). z.slot) same) | inr more ↦ inr (slots_has rs job r more is) ])
-  | inr e ↦
-      rw e (elim h [
-        | inl same ↦ absurd (true≢false (sym (eq-eqb q.job job (ap (λ (z : TaskRow). z.job) same ∙ is)) ∙ e))
-        | inr more ↦ slots_has rs job r more is
-      ])
-]
+slots_has (q ∷ rs) job r h is = grind (arith, slots_has rs job r)
 
 slots_differ : (rs : List TaskRow) (job : ℕ) → Differ (map (λ (r : TaskRow). r.slot) rs) → Differ (slots_in rs job)
 slots_differ [] job d = tt
@@ -136,12 +118,8 @@ rows_past (r ∷ rs) (suc at) job low = rows_past rs at job (omega (arith, low))
 -- one row is counted
 pub rows_step : (rs : List TaskRow) (at job : ℕ) (d : TaskRow) (counted live : ℕ) → counted ≡ counts_for (get_or rs at d) job → at < length rs → live + rows_of_job (drop at rs) job ≡ rows_of_job rs job → live ≤ at
     → (live + counted + rows_of_job (drop (at + 1) rs) job ≡ rows_of_job rs job) × (live + counted ≤ at + 1)
-rows_step rs at job d counted live is low before few =
-    let n = rows_next rs at job d low in
-    let one = counts_low (get_or rs at d) job in
-    (omega (arith, n, is, before), omega (arith, few, is, one))
+rows_step rs at job d counted live is low before few = grind (arith, rows_next)
 
 -- the rows are those of the machine, and the job is that of a row
 pub counted_tasks : (slice items others : List TaskRow) (running : ℕ) (row d : TaskRow) (result : ℕ) → result ≡ rows_of_job slice (get_or others running d).job → slice ≡ items → slice_get others running ≡ Some row → result ≡ rows_of_job items row.job
-counted_tasks slice items others running row d result is same there =
-    is ∙ ap (λ (l : List TaskRow). rows_of_job l (get_or others running d).job) same ∙ ap (λ (z : TaskRow). rows_of_job items z.job) (get_or_from_slice_get others running row d there)
+counted_tasks slice items others running row d result is same there = grind (arith, get_or_from_slice_get)

@@ -1,5 +1,5 @@
 -- The first argument of a call of PROCESS, and where it leads.
-use Rattle.std.proofs.Common.{◌≡◌, ◌≢◌, ℕ, List, [], ◌∷◌, reverse, take, Result, Ok, Err, refl, sym, ◌∙◌, ap, false, inl, inr, subst}
+use Rattle.std.proofs.Common.{◌≡◌, ◌≢◌, ℕ, List, [], ◌∷◌, take, Result, Ok, Err, refl, sym, ◌∙◌, false, subst, arith}
 use Rattle.std.specs.List.{list_any}
 use Rattle.b67_word.specs.Tagged.{Tagged}
 use Rattle.b67_word.specs.declared.couples.Place.{Place}
@@ -7,8 +7,7 @@ use Rattle.b67_word.specs.declared.faults.Fault.{Fault}
 use Rattle.b67_word.specs.declared.faults.Fault.TheVariants.{InvalidOperand}
 use Rattle.b67_lemmas.specs.Lists.{Has}
 use Rattle.b67_lemmas.proofs.Members.{all_from, any_none, has_append_cases}
-use Rattle.b67_model.specs.Common.{Answer, Word, Operand, Name, Ref, Row, Element, Original, Proc, Intrinsic, Task, SessionJob, AtCell, AtElement, AtArray, AtProc, AtIntrinsic, follow, is_original, IsSegment, reach_of, Session}
-use Rattle.b67_model.specs.Words as Words
+use Rattle.b67_model.specs.Common.{Answer, Word, Proc, Task, SessionJob, AtProc, follow, is_original, IsSegment, reach_of, Session}
 use Rattle.b67_model.specs.Chase as Chase
 use Rattle.b67_layout.specs.Common.{IsInOrderButCounts, Placement, spots, IsRunning, RepresentsSession, here, cells}
 use Rattle.b67_stack.specs.declared.Cpu.{Cpu}
@@ -53,31 +52,7 @@ module _ (x : Storage) (cpu : Cpu) (plan : Placement) (s : Session) (m : Session
       leads_fault fault is = λ next. faults t reference arguments call m count p none refers_first next fault (fault_found (here_scene x cpu plan s m t o h runs) next fault (follow (here m t next) p.first) (at_result next (Err fault) is))
 
       elsewhere : (q : Place) (found : End) (answer : Answer Chase.End) → IsNoProc found → EndMeets (here_scene x cpu plan s m t o h runs) q (Ok found) answer → (z : Chase.End) × (answer ≡ Ok z) × IsElsewhere z
-      elsewhere q (end.Proc at) answer never k = absurd never
-      elsewhere q (end.Cell at) (Ok (AtCell f offset bits)) never k = (AtCell f offset bits, refl, tt)
-      elsewhere q (end.Cell at) (Ok (AtElement n j)) never k = absurd k
-      elsewhere q (end.Cell at) (Ok (AtArray n)) never k = absurd k
-      elsewhere q (end.Cell at) (Ok (AtProc f segment level place)) never k = absurd k
-      elsewhere q (end.Cell at) (Ok (AtIntrinsic n)) never k = absurd k
-      elsewhere q (end.Cell at) (Err fault) never k = absurd k
-      elsewhere q (end.Element a b) (Ok (AtElement n j)) never k = (AtElement n j, refl, tt)
-      elsewhere q (end.Element a b) (Ok (AtCell f offset bits)) never k = absurd k
-      elsewhere q (end.Element a b) (Ok (AtArray n)) never k = absurd k
-      elsewhere q (end.Element a b) (Ok (AtProc f segment level place)) never k = absurd k
-      elsewhere q (end.Element a b) (Ok (AtIntrinsic n)) never k = absurd k
-      elsewhere q (end.Element a b) (Err fault) never k = absurd k
-      elsewhere q (end.Array a) (Ok (AtArray n)) never k = (AtArray n, refl, tt)
-      elsewhere q (end.Array a) (Ok (AtCell f offset bits)) never k = absurd k
-      elsewhere q (end.Array a) (Ok (AtElement n j)) never k = absurd k
-      elsewhere q (end.Array a) (Ok (AtProc f segment level place)) never k = absurd k
-      elsewhere q (end.Array a) (Ok (AtIntrinsic n)) never k = absurd k
-      elsewhere q (end.Array a) (Err fault) never k = absurd k
-      elsewhere q (end.Intrinsic a) (Ok (AtIntrinsic n)) never k = (AtIntrinsic n, refl, tt)
-      elsewhere q (end.Intrinsic a) (Ok (AtCell f offset bits)) never k = absurd k
-      elsewhere q (end.Intrinsic a) (Ok (AtElement n j)) never k = absurd k
-      elsewhere q (end.Intrinsic a) (Ok (AtArray n)) never k = absurd k
-      elsewhere q (end.Intrinsic a) (Ok (AtProc f segment level place)) never k = absurd k
-      elsewhere q (end.Intrinsic a) (Err fault) never k = absurd k
+      elsewhere q found answer never k = grind arith
 
       pub leads_elsewhere : (found : End) → IsNoProc found → result ≡ Ok found → AskMeets plan m t arguments (Err InvalidOperand)
       leads_elsewhere found never is = λ next.
@@ -92,23 +67,10 @@ module _ (x : Storage) (cpu : Cpu) (plan : Placement) (s : Session) (m : Session
         reached q = record { ordered = o; stands = h; procedure = (found_at q).procedure }
 
         plain_first : (w : Word) → IsReference w → is_original w ≡ false
-        plain_first (Name c) k = refl
-        plain_first (Ref f d) k = refl
-        plain_first (Operand bits) k = absurd k
-        plain_first (Row a) k = absurd k
-        plain_first (Element a j) k = absurd k
-        plain_first (Original a) k = absurd k
-        plain_first (Proc g l q) k = absurd k
-        plain_first (Intrinsic n) k = absurd k
-        plain_first (Words.Segment n) k = absurd k
+        plain_first w k = grind arith
 
         plain_cell : (w : Word) → Has (cells t) w → is_original w ≡ false
-        plain_cell w k = elim (has_append_cases (reverse p.words) (p.first ∷ reference ∷ []) w (subst (λ (ws : List Word). Has ws w) p.stand k)) [
-          | inl over ↦ any_none is_original (reverse p.words) w (ap (list_any is_original) (sym p.copied) ∙ none) over
-          | inr (inl first) ↦ ap is_original (sym first) ∙ plain_first p.first refers_first
-          | inr (inr (inl last)) ↦ ap is_original (sym last) ∙ call.plain
-          | inr (inr (inr never)) ↦ absurd never
-        ]
+        plain_cell w k = grind (arith, has_append_cases, any_none)
 
         asks : (f segment level : ℕ) (place : Place) → IsProcAt (here_scene x cpu plan s m t o h runs) t.place cell f segment level place → follow (here m t t.place) p.first ≡ Ok (AtProc f segment level place)
             → admits (here m t t.place) f level count ≡ Ok tt → Asks plan m t arguments cell count

@@ -1,6 +1,5 @@
 -- The machine represents the same session once areas were evicted.
-use Rattle.std.proofs.Common.{◌≡◌, ◌≢◌, ℕ, List, [], ◌∷◌, Option, Some, None, refl, sym, ◌∙◌, ap, subst}
-use Rattle.std.proofs.lemmas.Option.{none-some}
+use Rattle.std.proofs.Common.{◌≡◌, ◌≢◌, ℕ, List, [], ◌∷◌, Option, None, refl, sym, ◌∙◌, ap, subst, arith}
 use Rattle.b67_area.specs.declared.Areas.{Areas}
 use Rattle.b67_backing.specs.Shelf.{Table}
 use Rattle.b67_ctl.specs.declared.registers.Regs.{Regs}
@@ -13,7 +12,7 @@ use Rattle.b67_layout.proofs.Alike.{AllAlike}
 use Rattle.b67_layout.proofs.Paged.{RepresentsSession-over}
 use Rattle.b67_layout_storage.specs.Machine.{PagingKeeps, Says, content_after}
 use Rattle.b67_overlay.specs.Spans.{MachineCanPage}
-use Rattle.b67_layout_storage.proofs.Untold.{untold, Represents-untold}
+use Rattle.b67_layout_storage.proofs.Untold.{untold}
 use Rattle.b67_overlay.specs.AreasEvicted.{AreasEvicted}
 use Rattle.b67_layout_spans.proofs.Sessions.{copies_of}
 use Rattle.b67_task_tables.specs.declared.tables.Machine.{Machine}
@@ -25,19 +24,12 @@ same_jobs (m ∷ ms) = (record { number = refl; stack_size = refl; dictionary = 
 
 -- what a storage says that said something, and nothing otherwise
 retelling : (d e now : Option (List (List ℕ))) → (d ≡ None → e ≡ None) → (d ≢ None → e ≢ None) → Says e now → content_after d now ≡ e
-retelling None e now none some says = sym (none refl)
-retelling (Some all) None now none some says = absurd (some (λ z. none-some all (sym z)) refl)
-retelling (Some all) (Some more) now none some says = says
+retelling d e now none some says = grind arith
 
 module _ (x : Storage) (told : Option (List (List ℕ))) (k : Machine) (plan : Placement) (s : Session) (h : MachineRepresents x told k plan s) where
   -- it stands over a storage that says nothing of the device
   pub silent : MachineRepresents (untold x) None k plan s
-  silent = record {
-    session = RepresentsSession-over [] [] x (untold x) k.cpu k.cpu plan s s h.session (same_jobs s.jobs) refl refl refl refl
-        (Represents-untold x k.cpu.core k.cpu.regs (machine_view plan s.jobs) h.session.holds.memory) h.session.holds.settled (λ i low out homes. refl);
-    storage = record { low = h.storage.low; size = h.storage.size; shelf = h.storage.shelf; device = refl };
-    tables = h.tables;
-  }
+  silent = grind arith
 
   -- what its view says of it, over a device that tells what its storage says
   pub seen_over : IsInOrderButCounts s → (now : Option (List (List ℕ))) → Says told now → MachineCanPage x k.cpu k.areas k.sectors now (machine_view plan s.jobs)
@@ -63,5 +55,4 @@ module _ (x : Storage) (told : Option (List (List ℕ))) (k : Machine) (plan : P
 
 -- a device that hasn't changed tells what it told
 pub content_same : (told now : Option (List (List ℕ))) → Says told now → content_after told now ≡ told
-content_same None now says = refl
-content_same (Some all) now says = says
+content_same told now says = grind arith

@@ -2,7 +2,7 @@
 use Rattle.std.proofs.Common.{◌≡◌, ◌≢◌, ◌==◌, eqb, ℕ, suc, ◌+◌, ◌<◌, ◌≤◌, List, [], ◌∷◌, ◌++◌, reverse, take, length, Bool, true, false, Ok, Err, refl, sym, ◌∙◌, ap, arith}
 use Rattle.std.specs.Prelude.{nat_le, nat_lt, not, if◌then◌else◌}
 use Rattle.std.specs.List.{list_any}
-use Rattle.std.proofs.lemmas.Bool.{le-leb, leb-true, eqb-true, ne_eqb, eq-eqb, not-true, false≢true, true≢false}
+use Rattle.std.proofs.lemmas.Bool.{le-leb, ne_eqb, eq-eqb, false≢true, true≢false}
 use Rattle.std.proofs.lemmas.List.{length-reverse, reverse-reverse}
 use Rattle.b67_word.specs.declared.couples.Place.{Place}
 use Rattle.b67_word.specs.declared.faults.Fault.{Fault}
@@ -23,49 +23,29 @@ abbrev three : Bool → Bool → Bool → Fault → Fault → Fault → Answer (
 three a b c f g k = needs a f >> (needs b g >> needs c k)
 
 three_first : (a b c : Bool) (f g k : Fault) → a ≡ false → three a b c f g k ≡ Err f
-three_first false b c f g k e = refl
-three_first true b c f g k e = absurd (true≢false e)
+three_first a b c f g k e = grind arith
 
 three_second : (a b c : Bool) (f g k : Fault) → a ≡ true → b ≡ false → three a b c f g k ≡ Err g
-three_second true false c f g k e z = refl
-three_second true true c f g k e z = absurd (true≢false z)
-three_second false b c f g k e z = absurd (false≢true e)
+three_second a b c f g k e z = grind arith
 
 three_third : (a b c : Bool) (f g k : Fault) → a ≡ true → b ≡ true → c ≡ false → three a b c f g k ≡ Err k
-three_third true true false f g k d e z = refl
-three_third true true true f g k d e z = absurd (true≢false z)
-three_third true false c f g k d e z = absurd (false≢true e)
-three_third false b c f g k d e z = absurd (false≢true d)
+three_third a b c f g k d e z = grind arith
 
 three_pass : (a b c : Bool) (f g k : Fault) → a ≡ true → b ≡ true → c ≡ true → three a b c f g k ≡ Ok tt
-three_pass true true true f g k d e z = refl
-three_pass true true false f g k d e z = absurd (false≢true z)
-three_pass true false c f g k d e z = absurd (false≢true e)
-three_pass false b c f g k d e z = absurd (false≢true d)
+three_pass a b c f g k d e z = grind arith
 
 passed : (a b c : Bool) (f g k : Fault) → three a b c f g k ≡ Ok tt → (a ≡ true) × (b ≡ true) × (c ≡ true)
-passed true true true f g k e = (refl, refl, refl)
-passed true true false f g k e = absurd (let z : ⊥ = cc in z)
-passed true false c f g k e = absurd (let z : ⊥ = cc in z)
-passed false b c f g k e = absurd (let z : ⊥ = cc in z)
+passed a b c f g k e = grind arith
 
 -- where the third test stands before each of two answers
 abbrev under_three : Bool → Bool → Bool → Fault → Fault → Fault → Bool → Answer Done → Answer Done → Answer Done
 under_three a b c f g k few one two = needs a f >> (needs b g >> (if few then needs c k >> one else needs c k >> two))
 
 under_fault : (a b c : Bool) (f g k : Fault) (few : Bool) (one two : Answer Done) (fault : Fault) → three a b c f g k ≡ Err fault → under_three a b c f g k few one two ≡ Err fault
-under_fault false b c f g k few one two fault e = (let z : f ≡ fault = cc in ap Err z)
-under_fault true false c f g k few one two fault e = (let z : g ≡ fault = cc in ap Err z)
-under_fault true true false f g k true one two fault e = (let z : k ≡ fault = cc in ap Err z)
-under_fault true true false f g k false one two fault e = (let z : k ≡ fault = cc in ap Err z)
-under_fault true true true f g k few one two fault e = absurd (let z : ⊥ = cc in z)
+under_fault a b c f g k few one two fault e = grind arith
 
 under_pass : (a b c : Bool) (f g k : Fault) (few : Bool) (one two : Answer Done) → three a b c f g k ≡ Ok tt → under_three a b c f g k few one two ≡ (if few then one else two)
-under_pass true true true f g k true one two e = refl
-under_pass true true true f g k false one two e = refl
-under_pass true true false f g k few one two e = absurd (let z : ⊥ = cc in z)
-under_pass true false c f g k few one two e = absurd (let z : ⊥ = cc in z)
-under_pass false b c f g k few one two e = absurd (let z : ⊥ = cc in z)
+under_pass a b c f g k few one two e = grind arith
 
 -- the three tests of a start
 module _ (h : OperatorContext) (f level count : ℕ) where
@@ -93,13 +73,7 @@ pub record Admitted (m : SessionJob) (t : Task) (f level count : ℕ) : Type 0 w
   pub free : is_critical m.progress.job (top t.frames).identity ≡ false
 
 pub admitted : (m : SessionJob) (t : Task) (f level count : ℕ) → admits (here m t t.place) f level count ≡ Ok tt → Admitted m t f level count
-admitted m t f level count e =
-    let (one, two, last) = passed (eqb (level_of_frame (frame (here m t t.place) f) + 1) level) (nat_le (3 + count) m.constants.stack_size) (not (is_critical m.progress.job (top t.frames).identity)) InvalidOperand StackOverflow CriticalBlock e in
-    record {
-      level_is = eqb-true (level_of_frame (frame (here m t t.place) f) + 1) level one;
-      room = leb-true (3 + count) m.constants.stack_size two;
-      free = not-true (is_critical m.progress.job (top t.frames).identity) last;
-    }
+admitted m t f level count e = grind arith
 
 -- an end that is no procedure
 abbrev pub IsElsewhere : End → Type 0
@@ -113,10 +87,7 @@ module _ (t : Task) (reference : Word) (arguments : List Word) (call : IsCall t 
 
   -- it has no argument
   pub no_argument : (m : SessionJob) (next : Place) → length (cells t) < 2 → process (here m t next) arguments ≡ Err InvalidOperand
-  no_argument m next few = by arguments count_is where
-    by : (ws : List Word) → length (cells t) ≡ suc (length ws) → process (here m t next) ws ≡ Err InvalidOperand
-    by [] e = refl
-    by (r ∷ words) e = absurd (omega (arith, e, few))
+  no_argument m next few = grind (arith, count_is)
 
   -- the first argument, and the later ones, which stand above it
   pub record Parts (count : ℕ) : Type 0 where

@@ -10,7 +10,7 @@ use Rattle.b67_word.specs.declared.faults.Fault.{Fault}
 use Rattle.b67_backing.specs.declared.SpaceFault.{SpaceFault}
 use Rattle.b67_backing.specs.declared.SpaceFault.TheVariants.{NoCore, BackingFull, BackingFault}
 use Rattle.b67_lemmas.proofs.Members.{all_from, has_get, keyed_has, length_change}
-use Rattle.b67_model.specs.Common.{Answer, Word, Operand, Task, Job, SessionJob, Done, Goes, number_of, live_tasks, is_original, answered, process, Session}
+use Rattle.b67_model.specs.Common.{Word, Operand, Task, Job, SessionJob, Goes, number_of, live_tasks, is_original, answered, process, Session}
 use Rattle.b67_layout.specs.Common.{IsInOrderButCounts, Placement, IsRunning, here, with_job, cells, session_moved}
 use Rattle.b67_stack.specs.Represents.{Storage}
 use Rattle.b67_mcp_call.specs.Answered.{job_answered}
@@ -60,10 +60,7 @@ module _ (plan : Placement) (m : SessionJob) (t : Task) (asked : List Word) (cel
     as_many = length_change (λ (u : Task). u.number) t.number (answered (here m t next) (Operand 0 ∷ [])) m.progress.job.tasks
 
     pub starts_none : StartsOne m t next asked → ⊥
-    starts_none w =
-        let both : ◌≡◌ {A = Answer Done} (Ok (Goes w.job [] None)) (Ok (Goes (job_full m t next) [] None)) = sym w.is ∙ goes_full in
-        let same : w.job ≡ job_full m t next = cc in
-        omega (arith, w.more, as_many, ap (λ (j : Job). length j.tasks) same)
+    starts_none w = grind (arith, goes_full, as_many)
 
     pub answered_none : (x : Storage) (told now : Option (List (List ℕ))) (s : Session) (o : IsInOrderButCounts s) (new : Machine) → now ≡ told
         → MachineRepresents x told new plan (with_job s m (job_answered m t (Operand 0) next m.progress.job.numbers)) → IsProcessed now s m t next asked new
@@ -71,9 +68,7 @@ module _ (plan : Placement) (m : SessionJob) (t : Task) (asked : List Word) (cel
         let job : Job = job_full m t next in
         let none : length job.tasks - length m.progress.job.tasks ≡ 0 = omega (arith, as_many) in
         let peak : s.peak ≡ max s.peak (live_tasks s.jobs + 0) = omega (arith, o.peak_low) in
-        let R : Option (List (List ℕ)) → Session → Type 0 = λ d z. MachineRepresents x d new plan z in
-        let one : R told (session_moved s m job 0) = subst (λ (n : ℕ). R told (record (with_job s m job) { peak = n })) peak stands in
-        record { job = job; is = goes_full; storage = x; plan = plan; stands = subst (λ (n : ℕ). R now (session_moved s m job n)) (sym none) (subst (λ (d : Option (List (List ℕ))). R d (session_moved s m job 0)) (sym same) one) }
+        grind (arith, goes_full)
 
 -- the task may be started once no area has a word under its slot
 module _ (x : Storage) (told : Option (List (List ℕ))) (k : Machine) (plan : Placement) (s : Session) (m : SessionJob) (t : Task) (o : IsInOrderButCounts s) (h : MachineRepresents x told k plan s) (runs : IsRunning plan s.jobs m t)
@@ -104,14 +99,10 @@ module _ (told : Option (List (List ℕ))) (plan : Placement) (s : Session) (m :
   stopped BackingFault never w full = w
 
 pub writes : (m : SessionJob) (t : Task) (next : Place) (asked : List Word) (fault : SpaceFault) → ((need size : ℕ) → fault ≢ NoCore need size) → StartsOne m t next asked → ProcessWrites m t next asked (Err fault)
-writes m t next asked (NoCore need size) never w = absurd (never need size refl)
-writes m t next asked (BackingFull wants free) never w = w
-writes m t next asked BackingFault never w = w
+writes m t next asked fault never w = grind arith
 
 pub fits_by : (core : ℕ) (s : Session) (m : SessionJob) (t : Task) (next : Place) (asked : List Word) (fault : SpaceFault) → need_with s m t 1 0 ≤ core → ProcessFits core s m t next asked (Err fault)
-fits_by core s m t next asked (NoCore need size) low = tt
-fits_by core s m t next asked (BackingFull wants free) low = low
-fits_by core s m t next asked BackingFault low = low
+fits_by core s m t next asked fault low = grind arith
 
 pub same_fault : (f g : SpaceFault) → ◌≡◌ {A = Result (Result (Unit {0}) Fault) SpaceFault} (Err f) (Err g) → f ≡ g
 same_fault f g e = cc

@@ -16,12 +16,10 @@ pub record Split {A : Type 0} (xs : List A) (n : ℕ) : Type 0 where
   pub inside : (k : ℕ) → n < k → Has (take k xs) item
 
 inside_next : {A : Type 0} (x y : A) (xs : List A) (n : ℕ) → ((k : ℕ) → n < k → Has (take k xs) y) → (k : ℕ) → suc n < k → Has (take k (x ∷ xs)) y
-inside_next x y xs n h zero low = absurd (omega (arith, low))
-inside_next x y xs n h (suc k) low = inr (h k (omega (arith, low)))
+inside_next x y xs n h k low = grind arith
 
 inside_first : {A : Type 0} (x : A) (xs : List A) (k : ℕ) → 0 < k → Has (take k (x ∷ xs)) x
-inside_first x xs zero low = absurd (omega (arith, low))
-inside_first x xs (suc k) low = inl refl
+inside_first x xs k low = grind arith
 
 pub split_at : {A : Type 0} (xs : List A) (n : ℕ) → n < length xs → Split xs n
 split_at [] n low = absurd (omega (arith, low))
@@ -44,10 +42,7 @@ take_front (x ∷ xs) ys = ap (λ zs. x ∷ zs) (take_front xs ys)
 
 -- none passes
 pub none_of : {A : Type 0} (test : A → Bool) (xs : List A) → ((x : A) → Has xs x → test x ≡ false) → list_any test xs ≡ false
-none_of test xs none = elim (cases_Bool (list_any test xs)) [
-  | inl t ↦ (let (x, h, e) = any_has test xs t in absurd (true≢false (sym e ∙ none x h)))
-  | inr f ↦ f
-]
+none_of test xs none = grind (arith, any_has)
 
 has_parts : {A : Type 0} (xs : List A) (y z : A) → Has (xs ++ y ∷ []) z → Has xs z ⊎ (y ≡ z)
 has_parts [] y z (inl e) = inr e
@@ -60,10 +55,7 @@ none_more test xs y none not_y = none_of test (xs ++ y ∷ []) (λ z h. elim (ha
 
 -- the same of the list turned around
 pub any_turned : {A : Type 0} (test : A → Bool) (xs : List A) → list_any test (reverse xs) ≡ list_any test xs
-any_turned test xs = elim (cases_Bool (list_any test xs)) [
-  | inl t ↦ (let (x, h, e) = any_has test xs t in any_some test (reverse xs) x (has_reverse xs x h) e ∙ sym t)
-  | inr f ↦ none_of test (reverse xs) (λ x h. any_none test xs x f (has_reverse_back xs x h)) ∙ sym f
-]
+any_turned test xs = grind (arith, cases_Bool, any_has, any_some, has_reverse, has_reverse_back)
 
 -- a list from its other end
 pub turned_two : {A : Type 0} (a b : A) (xs : List A) → reverse (a ∷ b ∷ xs) ≡ reverse xs ++ b ∷ a ∷ []

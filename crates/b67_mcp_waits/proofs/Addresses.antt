@@ -1,12 +1,12 @@
 -- Two live frames of a job have different addresses, whichever task sees them.
-use Rattle.std.proofs.Common.{◌≡◌, ◌≢◌, ℕ, ◌+◌, ◌*◌, ◌/◌, ◌%◌, ◌<◌, ◌≤◌, List, [], ◌∷◌, Some, refl, sym, ◌∙◌, ap, arith, true, false, ◌==◌, inl, inr, ⊎_elim, subst}
-use Rattle.std.proofs.lemmas.Bool.{cases_Bool, cases_eq, eq-eqb, eqb-true, ne_eqb}
+use Rattle.std.proofs.Common.{◌≡◌, ◌≢◌, ℕ, ◌+◌, ◌*◌, ◌/◌, ◌%◌, ◌<◌, ◌≤◌, List, [], ◌∷◌, Some, refl, sym, ◌∙◌, ap, arith, false, ◌==◌, inl, inr, ⊎_elim, subst}
+use Rattle.std.proofs.lemmas.Bool.{cases_eq, eq-eqb, eqb-true, ne_eqb}
 use Rattle.std.proofs.lemmas.Nat.{div-mul-add, mod-mul-add}
 use Rattle.std.proofs.lemmas.Option.{same_Some}
 use Rattle.b67_lemmas.specs.Lists.{Has}
 use Rattle.b67_lemmas.proofs.Members.{all_in, keyed_has}
 use Rattle.b67_model.specs.Keyed.{keyed}
-use Rattle.b67_model.specs.Common.{Frame, Task, SessionJob, height, number_of, Session, IsSegment, identities, frames_named, reach_of, NamesEntered, TaskInOrder}
+use Rattle.b67_model.specs.Common.{Frame, Task, SessionJob, height, number_of, Session, identities, frames_named, reach_of, NamesEntered}
 use Rattle.b67_stack.specs.declared.Cpu.{Cpu}
 use Rattle.b67_stack.specs.Represents.{Storage}
 use Rattle.b67_layout.specs.Common.{IsInOrderButCounts, Placement, slot_of, spots, address_of, IsRunning, frame_address, RepresentsSession}
@@ -19,45 +19,22 @@ use Rattle.b67_refer.proofs.Slots.{live_slot}
 use Rattle.b67_refer.proofs.Bases.{dictionary_is, dictionary_low}
 use Rattle.b67_refer.proofs.Marks.{slot_address}
 use Rattle.b67_refer.proofs.Unders.{high_address, is_task}
-use Rattle.b67_mcp_waits.proofs.Made.{marked_words}
 
 -- the frames under one are lower than the stack, and each frame has its own height
 under_low : (id : ℕ) (fs : List Frame) → Has (identities fs) id → height (frames_under id fs) < height fs
 under_low id [] h = absurd h
-under_low id (f ∷ fs) h = ⊎_elim
-    (λ (t : (f.identity == id) ≡ true). rw t (omega (arith, marked_words f)))
-    (λ (t : (f.identity == id) ≡ false).
-    let more : Has (identities fs) id = ⊎_elim (λ z. absurd (let y : ⊥ = (let q : (f.identity == id) ≡ true = eq-eqb f.identity id z in let u : false ≡ true = sym t ∙ q in cc) in y)) (λ q. q) h in
-    let low = under_low id fs more in
-    rw t (omega (arith, low, marked_words f)))
-    (cases_Bool (f.identity == id))
+under_low id (f ∷ fs) h = grind (arith, under_low id fs)
 
 there : (f : Frame) (fs : List Frame) (id : ℕ) → (f.identity == id) ≡ false → Has (identities (f ∷ fs)) id → Has (identities fs) id
-there f fs id t (inl z) = absurd (let y : ⊥ = (let q : (f.identity == id) ≡ true = eq-eqb f.identity id z in let u : false ≡ true = sym t ∙ q in cc) in y)
-there f fs id t (inr h) = h
+there f fs id t h = grind arith
 
 under_same : (fs : List Frame) (a b : ℕ) → Has (identities fs) a → Has (identities fs) b → height (frames_under a fs) ≡ height (frames_under b fs) → a ≡ b
 under_same [] a b ha hb e = absurd ha
-under_same (f ∷ fs) a b ha hb e = elim (cases_Bool (f.identity == a)) [
-  | inl t ↦ elim (cases_Bool (f.identity == b)) [
-    | inl u ↦ sym (eqb-true f.identity a t) ∙ eqb-true f.identity b u
-    | inr u ↦ absurd (let low = under_low b fs (there f fs b u hb) in let k : height fs ≡ height (frames_under b fs) = rw (t, u) at e in omega (arith, low, k))
-  ]
-  | inr t ↦ elim (cases_Bool (f.identity == b)) [
-    | inl u ↦ absurd (let low = under_low a fs (there f fs a t ha) in let k : height (frames_under a fs) ≡ height fs = rw (t, u) at e in omega (arith, low, k))
-    | inr u ↦ (let k : height (frames_under a fs) ≡ height (frames_under b fs) = rw (t, u) at e in under_same fs a b (there f fs a t ha) (there f fs b u hb) k)
-  ]
-]
+under_same (f ∷ fs) a b ha hb e = grind (arith, eqb-true, under_low, there, under_same fs a b)
 
 named_once : (fs : List Frame) (id : ℕ) → Has (identities fs) id → 1 ≤ frames_named id fs
 named_once [] id h = absurd h
-named_once (f ∷ fs) id h = ⊎_elim
-    (λ (t : (f.identity == id) ≡ true). (let e : frames_named id (f ∷ fs) ≡ 1 + frames_named id fs = rw t refl in omega (arith, e)))
-    (λ (t : (f.identity == id) ≡ false).
-    let e : frames_named id (f ∷ fs) ≡ 0 + frames_named id fs = rw t refl in
-    let l = named_once fs id (there f fs id t h) in
-    omega (arith, e, l))
-    (cases_Bool (f.identity == id))
+named_once (f ∷ fs) id h = grind (arith, named_once fs id)
 
 -- a slot and a height below its size, from their sum
 parted : (k l size a b : ℕ) → a < size → b < size → k * size + a ≡ l * size + b → (k ≡ l) × (a ≡ b)
@@ -101,12 +78,7 @@ module _ (x : Storage) (cpu : Cpu) (plan : Placement) (s : Session) (m : Session
       ∙ slot_address cpu.core cpu.regs (eye t runs.task) (slot_of plan m.constants.number p.task.number) (height (frames_under f p.task.frames)) (live_slot plan s.jobs m p.task h.holds.fits.rows runs.member p.there).0
 
   low_height : (u : Task) (f : ℕ) (p : Owner u f) → height (frames_under f p.task.frames) < plan.size
-  low_height u f p =
-      let low = under_low f p.task.frames p.has in
-      let order = member_in_order s m o has_m in
-      let high = (all_in (TaskInOrder (IsSegment m.constants) m.constants m.progress.job) m.progress.job.tasks p.task order.tasks.tasks (keyed_has (λ (v : Task). v.number) p.task.number m.progress.job.tasks p.task p.there).0).not_higher in
-      let size = h.holds.fits.sizes m has_m in
-      omega (arith, low, high, size)
+  low_height u f p = grind (arith, under_low, has_m, all_in, keyed_has)
 
   same_task : (a b : Task) → Live a → Live b → a.number ≡ b.number → a ≡ b
   same_task a b la lb e = same_Some a b (sym la ∙ ap (λ (n : ℕ). keyed (λ (v : Task). v.number) n m.progress.job.tasks) e ∙ lb)
@@ -130,8 +102,7 @@ module _ (x : Storage) (cpu : Cpu) (plan : Placement) (s : Session) (m : Session
       let both = sym (address_is u f p) ∙ e ∙ address_is v g q in
       let parts = parted (slot_of plan m.constants.number p.task.number) (slot_of plan m.constants.number q.task.number) plan.size (height (frames_under f p.task.frames)) (height (frames_under g q.task.frames)) (low_height u f p) (low_height v g q) (omega (arith, both)) in
       let same = same_slot p.task q.task p.there q.there parts.0 in
-      let has_g : Has (identities p.task.frames) g = (let P : Task → Type 0 = λ z. Has (identities z.frames) g in subst P (sym same) q.has) in
-      under_same p.task.frames f g p.has has_g (parts.1 ∙ ap (λ (z : Task). height (frames_under g z.frames)) (sym same))
+      grind (arith, under_same)
 
   -- and one frame has one address
   pub same_address : (u v : Task) (lu : Live u) (lv : Live v) (f : ℕ) → NamesEntered (reach_of m.progress.job u) f → NamesEntered (reach_of m.progress.job v) f → 1 < f → frame_address plan m u f ≡ frame_address plan m v f

@@ -1,59 +1,36 @@
 -- The one argument of a call, and the rows of AWAIT, STATUS, WAIT and CAUSE by it.
-use Rattle.std.proofs.Common.{◌≡◌, ◌≢◌, ℕ, suc, ℤ, List, [], ◌∷◌, length, Ok, Err, refl, sym, ◌∙◌, ap, false, subst}
-use Rattle.std.specs.List.{AllByRecursion}
+use Rattle.std.proofs.Common.{◌≡◌, ◌≢◌, suc, ℤ, List, [], ◌∷◌, length, Ok, Err, refl, sym, ◌∙◌, ap, false, arith}
 use Rattle.b67_word.specs.Tagged.{Tagged}
 use Rattle.b67_word.specs.declared.faults.Fault.TheVariants.{InvalidOperand}
-use Rattle.b67_model.specs.Common.{Answer, ◌>>=◌, End, follow_reference, Word, Operand, Name, Ref, Row, Element, Original, Proc, Intrinsic, operand, number, Task, SessionJob, OperatorContext, top, is_critical, is_original, awaits, answers, status_of, waits_at, causes}
-use Rattle.b67_model.specs.Words as Words
+use Rattle.b67_model.specs.Common.{◌>>=◌, End, follow_reference, Word, Operand, number, Task, SessionJob, OperatorContext, top, is_critical, is_original, awaits, answers, status_of, waits_at, causes}
 use Rattle.b67_model.specs.Words.{whole}
 use Rattle.b67_model.specs.Intrinsics as rows
 use Rattle.b67_stack.specs.declared.Cpu.{Cpu}
 use Rattle.b67_stack.specs.Represents.{Storage}
 use Rattle.b67_layout.specs.Common.{Placement, cells, GivesTop}
-use Rattle.b67_layout.proofs.PlainOperands.{plain_operand}
 use Rattle.b67_mcp_call.specs.Calls.{IsCall, MayCut, operand_number}
 use Rattle.b67_mcp_call.proofs.Ones.{count, one, value_is}
 use Rattle.b67_mcp_waits.specs.Arguments.{number_given, end_given}
 
 -- the rows, by what the argument gives
 pub await_is : (h : OperatorContext) (arguments : List Word) → rows.await h arguments ≡ (number_given arguments >>= awaits h)
-await_is h [] = refl
-await_is h (w ∷ []) = refl
-await_is h (w ∷ v ∷ more) = refl
+await_is h arguments = grind arith
 
 pub status_is : (h : OperatorContext) (arguments : List Word) → rows.status h arguments ≡ (number_given arguments >>= λ n. answers h h.job (Operand (status_of h.job n) ∷ []) [] Rattle.std.specs.Prelude.None)
-status_is h [] = refl
-status_is h (w ∷ []) = refl
-status_is h (w ∷ v ∷ more) = refl
+status_is h arguments = grind arith
 
 pub wait_is : (h : OperatorContext) (arguments : List Word) → rows.wait h arguments ≡ (end_given h arguments >>= waits_at h)
-wait_is h [] = refl
-wait_is h (w ∷ []) = refl
-wait_is h (w ∷ v ∷ more) = refl
+wait_is h arguments = grind arith
 
 pub cause_is : (h : OperatorContext) (arguments : List Word) → rows.cause h arguments ≡ (end_given h arguments >>= causes h)
-cause_is h [] = refl
-cause_is h (w ∷ []) = refl
-cause_is h (w ∷ v ∷ more) = refl
+cause_is h arguments = grind arith
 
 -- a whole number is no original, and neither is a reference that ends somewhere
 whole_plain : (w : Word) (n : ℤ) → whole w ≡ Ok n → is_original w ≡ false
-whole_plain w n e = by (operand w) refl e
-  where
-    by : (o : Answer ℕ) → operand w ≡ o → (o >>= number) ≡ Ok n → is_original w ≡ false
-    by (Ok bits) is q = plain_operand w bits is
-    by (Err fault) is q = absurd cc
+whole_plain w n e = grind arith
 
 end_plain : (h : OperatorContext) (w : Word) (e : End) → follow_reference h w ≡ Ok e → is_original w ≡ false
-end_plain h (Operand bits) e q = refl
-end_plain h (Name c) e q = refl
-end_plain h (Ref g o) e q = refl
-end_plain h (Row a) e q = refl
-end_plain h (Element a i) e q = refl
-end_plain h (Original a) e q = absurd (let z : ⊥ = cc in z)
-end_plain h (Proc g l p) e q = refl
-end_plain h (Intrinsic n) e q = refl
-end_plain h (Words.Segment n) e q = refl
+end_plain h w e q = grind arith
 
 module _ (m : SessionJob) (t : Task) (r : Word) (arguments : List Word) (call : IsCall t r arguments) where
   -- another number of arguments than one
@@ -78,9 +55,7 @@ module _ (m : SessionJob) (t : Task) (r : Word) (arguments : List Word) (call : 
   number_is x plan cpu two v g = value_is m t r arguments call x plan cpu two v g ∙ ap number_given (sym (one m t r arguments call two).arguments_are)
 
   may_one : (two : length (cells t) ≡ 2) → is_original (one m t r arguments call two).argument ≡ false → is_critical m.progress.job (top t.frames).identity ≡ false → MayCut m t
-  may_one two plain free =
-      let P : List Word → Type 0 = λ ws. AllByRecursion (λ (w : Word). is_original w ≡ false) ws in
-      record { marked = call.marked; free = free; plain = subst P (sym (one m t r arguments call two).cells_are) (plain, (call.plain, tt)) }
+  may_one two plain free = grind arith
 
   two_number : (n : ℤ) → number_given arguments ≡ Ok n → length (cells t) ≡ 2
   two_number n e = by arguments e (count m t r arguments call)

@@ -1,5 +1,5 @@
 -- The task of a number, which lives or doesn't.
-use Rattle.std.proofs.Common.{◌≡◌, ℕ, ◌<◌, ℤ, List, [], map, None, Ok, true, false, refl, sym, ◌∙◌, ap, subst}
+use Rattle.std.proofs.Common.{◌≡◌, ℕ, ◌<◌, ℤ, List, [], map, None, Ok, true, false, refl, sym, ◌∙◌, ap, subst, arith}
 use Rattle.std.specs.Prelude.{pos, negsuc}
 use Rattle.std.proofs.lemmas.Bool.{eqb-true}
 use Rattle.b67_lemmas.proofs.Members.{any_has, falls_low, has_map}
@@ -26,20 +26,14 @@ live_number plan s m t o runs (pos n) e =
       is = refl;
       low = subst (λ (k : ℕ). k < m.progress.job.next_task) (sym same) (falls_low m.progress.job.next_task (map (λ (v : Task). v.number) m.progress.job.tasks) u.number falls (has_map (λ (v : Task). v.number) m.progress.job.tasks u i));
     }
-live_number plan s m t o runs (negsuc n) e =
-    let (u, i, is) = any_has (λ (v : Task). names_task (negsuc n) v.number) m.progress.job.tasks e in
-    absurd (let w : ⊥ = (let z : false ≡ true = is in cc) in w)
+live_number plan s m t o runs (negsuc n) e = grind (arith, any_has)
 
 module _ (h : OperatorContext) (arguments : List Word) (z : ℤ) (given : number_given arguments ≡ Ok z) where
   pub await_waits : (n : ℕ) → z ≡ pos n → is_live h.job z ≡ true → rows.await h arguments ≡ Ok (Waits (Awaits n))
-  await_waits n e live =
-      let there : is_live h.job (pos n) ≡ true = ap (is_live h.job) (sym e) ∙ live in
-      let last : awaits h (pos n) ≡ Ok (Waits (Awaits n)) = rw there refl in
-      await_is h arguments ∙ ap (λ (a : Answer ℤ). a >>= awaits h) given ∙ ap (awaits h) e ∙ last
+  await_waits n e live = grind arith
 
   free_of : (y : ℤ) → is_live h.job y ≡ false → awaits h y ≡ answers h h.job [] [] None
-  free_of (pos n) e = rw e refl
-  free_of (negsuc n) e = refl
+  free_of y e = grind arith
 
   pub await_free : is_live h.job z ≡ false → rows.await h arguments ≡ answers h h.job [] [] None
   await_free e = await_is h arguments ∙ ap (λ (a : Answer ℤ). a >>= awaits h) given ∙ free_of z e

@@ -4,7 +4,6 @@ use Rattle.std.proofs.Common.{◌≡◌, ◌≢◌, ℕ, ◌+◌, ◌-◌, ◌<�
 use Rattle.std.specs.Prelude.{option_map}
 use Rattle.std.specs.List.{AllByRecursion}
 use Rattle.std.proofs.Math.ListN.{length-set}
-use Rattle.std.proofs.lemmas.Bool.{ne_eqb}
 use Rattle.std.proofs.lemmas.List.{length-map}
 use Rattle.b67_word.specs.Tagged.{word}
 use Rattle.b67_word.specs.declared.couples.Place.{Place}
@@ -15,7 +14,7 @@ use Rattle.b67_lemmas.proofs.Members.{falls_low, has_map, length_change}
 use Rattle.b67_model.specs.Common.{AtCell, Word, Operand, Frame, Marked, Task, Job, SessionJob, top, below_top, with_task, with_cell, Goes, is_critical, is_original, answered, woken_at, wakes, causes, Session, IsSegment, Known, known_of, known_numbers, outer_of, IsEntered, NamesEntered, TasksInOrder}
 use Rattle.b67_stack.specs.declared.Cpu.{Cpu}
 use Rattle.b67_stack.specs.Represents.{Storage}
-use Rattle.b67_layout.specs.Common.{IsInOrderButCounts, Placement, IsRunning, frame_address, RepresentsSession, here, with_job}
+use Rattle.b67_layout.specs.Common.{IsInOrderButCounts, Placement, IsRunning, RepresentsSession, here, with_job}
 use Rattle.b67_layout.proofs.Common.{running_in_order, member-same, with_job-twice}
 use Rattle.b67_layout_step.proofs.Frames.{put_frames, put_job, with_cell_is}
 use Rattle.b67_layout_step.proofs.Mapped.{put_task, keyed_put, critical_put}
@@ -46,12 +45,10 @@ not_top (g ∷ fs) outer bound f some marked falls names e = by names.among
     by (inr k) = let low : f < g.identity = falls_low g.identity (known_numbers (map known_of fs ++ outer)) f falls.1 (has_map (λ (z : Known). z.0) (map known_of fs ++ outer) (f, names.standing) k) in omega (arith, low, e)
 
 top_put : (id i : ℕ) (w : Word) (fs : List Frame) → (top fs).identity ≢ id → top (put_frames id i w fs) ≡ top fs
-top_put id i w [] ne = refl
-top_put id i w (f ∷ fs) ne = let no = ne_eqb f.identity id ne in rw no refl
+top_put id i w fs ne = grind arith
 
 below_put : (id i : ℕ) (w : Word) (fs : List Frame) → (top fs).identity ≢ id → below_top (put_frames id i w fs) ≡ put_frames id i w (below_top fs)
-below_put id i w [] ne = refl
-below_put id i w (f ∷ fs) ne = let no = ne_eqb f.identity id ne in rw no refl
+below_put id i w fs ne = grind arith
 
 module _ (x : Storage) (told : Option (List (List ℕ))) (k : Machine) (plan : Placement) (s : Session) (m : SessionJob) (t : Task) (o : IsInOrderButCounts s) (h : MachineRepresents x told k plan s) (runs : IsRunning plan s.jobs m t) (q : Place)
     (found : CellFound) (f offset bits : ℕ) (e : IsFoundCell plan m t k.cpu.core q found f offset bits) where
@@ -77,14 +74,7 @@ module _ (x : Storage) (told : Option (List (List ℕ))) (k : Machine) (plan : P
   stored = record k.cpu { core = slice_set k.cpu.core found.at (word 0 1) }
 
   cell : IsCellAt (Scenes.scene [] x k.cpu.core k.cpu.regs k.cpu.critical plan s m t o h.session.holds runs) q found.at f offset (Operand bits)
-  cell = record {
-    address = e.at ∙ ap (λ (n : ℕ). n + found.offset) e.mark ∙ ap (λ (n : ℕ). frame_address plan m t f + n) e.offset_is;
-    names = e.names;
-    found = e.cell_is;
-    word = word 0 bits;
-    there = e.there;
-    stands = ((refl, λ z. omega (arith, z)), e.small);
-  }
+  cell = grind arith
 
   stands_stored : RepresentsSession x stored plan (with_job s m job1)
   stands_stored = RepresentsSession-store x k.cpu plan s m t o h.session runs q found.at f offset bits 1 cell
@@ -161,16 +151,14 @@ module _ (x : Storage) (told : Option (List (List ℕ))) (k : Machine) (plan : P
     row_made = let free = may.free in rw free refl
 
     pub made_count : length made.tasks ≡ length m.progress.job.tasks
-    made_count =
-        ap (λ (j : Job). length j.tasks) (sym made_is) ∙ length_change (λ (v : Task). v.number) t.number (answered (here m2 t2 q) []) job2.tasks ∙ count2
+    made_count = grind (arith, made_is, length_change, count2)
 
     -- and without the call
     pub stands_made : (tasks : Tasks) → tasks ≡ record k.tasks { rows = tasks.rows } → tasks.rows.items ≡ map (woken_row m.constants.number found.mark found.offset) k.tasks.rows.items
         → (cpu : Cpu) → cpu.core ≡ stored.core → RepresentsSession x cpu plan (with_job s2 m2 (job_cut m2 t2 q)) → MachineRepresents x told (record k { cpu = cpu; tasks = tasks }) plan (with_job s m made)
     stands_made tasks rest items cpu core session =
         let whole = machine_cut plan s2 m2 t2 order2 runs2 may2 q x told (record k { cpu = stored; tasks = tasks }) (stands_caused tasks rest items) cpu core session in
-        let P : Session → Type 0 = λ z. MachineRepresents x told (record k { cpu = cpu; tasks = tasks }) plan z in
-        subst (λ (j : Job). P (with_job s m j)) made_is (subst P (with_job-twice s m job2 (job_cut m2 t2 q)) whole)
+        grind (arith, made_is, with_job-twice)
 
 pub row_critical : (m : SessionJob) (t : Task) (q : Place) (f offset bits : ℕ) → is_critical m.progress.job (top t.frames).identity ≡ true → causes (here m t q) (AtCell f offset bits) ≡ Err CriticalBlock
 row_critical m t q f offset bits c = rw c refl

@@ -1,5 +1,5 @@
 -- The tables once a cell is caused: they show the job with its number there, and its waiters ready.
-use Rattle.std.proofs.Common.{◌≡◌, ◌≢◌, ℕ, zero, suc, ◌-◌, ◌<◌, List, [], ◌∷◌, map, Option, Some, None, refl, sym, ◌∙◌, ap, Bool, true, false, ◌==◌, ◌&&◌, ◌⊎◌, inl, inr, subst}
+use Rattle.std.proofs.Common.{◌≡◌, ◌≢◌, ℕ, zero, suc, ◌-◌, ◌<◌, List, [], ◌∷◌, map, Option, Some, None, refl, sym, ◌∙◌, ap, Bool, true, false, ◌==◌, ◌&&◌, ◌⊎◌, inl, inr, subst, arith}
 use Rattle.std.specs.Prelude.{if◌then◌else◌, option_map}
 use Rattle.std.specs.List.{slice_get}
 use Rattle.std.proofs.lemmas.Bool.{cases_eq, eq-eqb, ne_eqb}
@@ -35,9 +35,7 @@ flip a b = elim (cases_eq a b) [ inl e ↦ eq-eqb a b e ∙ sym (eq-eqb b a (sym
 -- the slots of the rows stay, and the running row
 slots_same : (job mark offset : ℕ) (rs : List TaskRow) → map (λ (r : rows.TaskRow). r.slot) (map task_row (map (woken_row job mark offset) rs)) ≡ map (λ (r : rows.TaskRow). r.slot) (map task_row rs)
 slots_same job mark offset [] = refl
-slots_same job mark offset (r ∷ rs) =
-    ap (λ (n : ℕ). n ∷ map (λ (z : rows.TaskRow). z.slot) (map task_row (map (woken_row job mark offset) rs))) (row_slot job mark offset r)
-    ∙ ap (λ (l : List ℕ). r.slot ∷ l) (slots_same job mark offset rs)
+slots_same job mark offset (r ∷ rs) = grind (arith, slots_same job mark offset rs)
 
 running_same : (plan : Placement) (job mark offset : ℕ) (rs : List TaskRow) (i n : ℕ) → RunningRow plan (slice_get (map task_row rs) i) n → RunningRow plan (slice_get (map task_row (map (woken_row job mark offset) rs)) i) n
 running_same plan job mark offset [] zero n r = r
@@ -142,13 +140,7 @@ module _ (x : Storage) (cpu : Cpu) (plan : Placement) (s : Session) (m : Session
     ]
 
     member_back : (y : SessionJob) → Has s2.jobs y → (Has s.jobs y × (number_of y ≢ m.constants.number)) ⊎ (y ≡ after)
-    member_back y i = elim (change-has number_of m.constants.number (λ (z : SessionJob). record z { progress = record m.progress { job = job2 } }) s.jobs m runs.member y i) [
-      | inr e ↦ inr e
-      | inl k ↦ elim (cases_eq (number_of y) m.constants.number) [
-        | inr ne ↦ inl (k, ne)
-        | inl e ↦ inr (same_Some y after (sym (keyed_member 1 s2.jobs y after_order.numbered i) ∙ ap (λ (n : ℕ). keyed number_of n s2.jobs) e ∙ found_after))
-      ]
-    ]
+    member_back y i = grind (arith, change-has, keyed_member, found_after)
 
     has_changed : (u : Task) → Has m.progress.job.tasks u → Has job2.tasks (change u)
     has_changed u i = has_map (wake_task (woken_at f offset)) (put_job m.progress.job f (offset - 2) w).tasks (put_task f (offset - 2) w u) (has_map (put_task f (offset - 2) w) m.progress.job.tasks u i)
@@ -211,5 +203,4 @@ module _ (x : Storage) (cpu : Cpu) (plan : Placement) (s : Session) (m : Session
                 running = running_same plan m.constants.number mark offset tasks.rows.items tasks.running tasks.running n.running;
               });
         } in
-        let moved : Q tasks new.rows.items = subst (λ (l : List TaskRow). Q tasks l) (sym items) base in
-        subst (λ (z : Tasks). Q z new.rows.items) (sym rest) moved
+        grind arith

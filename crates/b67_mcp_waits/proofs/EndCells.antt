@@ -6,7 +6,7 @@ use Rattle.b67_word.specs.declared.faults.Fault.{Fault}
 use Rattle.b67_word.specs.declared.faults.Fault.TheVariants.{InvalidOperand}
 use Rattle.b67_ctl.specs.declared.registers.Regs.{Regs}
 use Rattle.std.proofs.lemmas.Bool.{eq-eqb, ne_eqb}
-use Rattle.b67_model.specs.Common.{Answer, ◌>>=◌, Waits, waits_at, causes, answers, End, AtCell, AtElement, AtArray, AtProc, AtIntrinsic, follow, follow_reference, Word, Operand, Name, Ref, Row, Element, Original, Proc, Intrinsic, WaitsAt, Task, SessionJob, Session}
+use Rattle.b67_model.specs.Common.{Answer, ◌>>=◌, Waits, waits_at, causes, answers, End, AtCell, follow, follow_reference, Word, Operand, Name, Ref, Row, Element, Original, Proc, Intrinsic, WaitsAt, Task, SessionJob, Session}
 use Rattle.b67_model.specs.Words as Words
 use Rattle.b67_stack.specs.declared.Cpu.{Cpu}
 use Rattle.b67_stack.specs.Represents.{Storage}
@@ -26,15 +26,7 @@ use Rattle.b67_mcp_waits.specs.Arguments.{end_given, CellAtEnd, IsFoundCell, Fin
 module _ {core : List Tagged} {r : Regs} (a : RunningContext core r) (q : Place) where
   -- a word that is no reference
   pub no_reference : (at owner : ℕ) (w : Tagged) (v : Word) → StandsFor a at owner w v → (w.tag ≡ 1 → ⊥) → CellAtEnd a q (Err InvalidOperand) (follow_reference (here a.member a.task q) v)
-  no_reference at owner w (Operand bits) s other = refl
-  no_reference at owner w (Name c) s other = absurd (other (ap (λ (z : Tagged). z.tag) s.0.0))
-  no_reference at owner w (Ref g o) s other = absurd (other (ap (λ (z : Tagged). z.tag) s.0.0))
-  no_reference at owner w (Row b) s other = refl
-  no_reference at owner w (Element b i) s other = refl
-  no_reference at owner w (Original b) s other = refl
-  no_reference at owner w (Proc g l p) s other = refl
-  no_reference at owner w (Intrinsic n) s other = refl
-  no_reference at owner w (Words.Segment n) s other = refl
+  no_reference at owner w v s other = grind arith
 
   -- a reference is followed as any word
   pub same_follow : (at owner : ℕ) (w : Tagged) (v : Word) → StandsFor a at owner w v → w.tag ≡ 1 → follow (here a.member a.task q) v ≡ follow_reference (here a.member a.task q) v
@@ -49,51 +41,17 @@ module _ {core : List Tagged} {r : Regs} (a : RunningContext core r) (q : Place)
   same_follow at owner w (Words.Segment n) s tag = refl
 
   pub at_cell : (at : ℕ) (y : Answer End) → EndMeets a q (Ok (end.Cell at)) y → CellAtEnd a q (Ok at) y
-  at_cell at (Ok (AtCell f offset bits)) e = e
-  at_cell at (Ok (AtElement n i)) e = e
-  at_cell at (Ok (AtArray n)) e = e
-  at_cell at (Ok (AtProc f g l p)) e = e
-  at_cell at (Ok (AtIntrinsic n)) e = e
-  at_cell at (Err y) e = e
+  at_cell at y e = grind arith
 
   pub at_fault : (fault : Fault) (y : Answer End) → EndMeets a q (Err fault) y → CellAtEnd a q (Err fault) y
-  at_fault fault (Ok (AtCell f offset bits)) e = e
-  at_fault fault (Ok (AtElement n i)) e = absurd e
-  at_fault fault (Ok (AtArray n)) e = absurd e
-  at_fault fault (Ok (AtProc f g l p)) e = absurd e
-  at_fault fault (Ok (AtIntrinsic n)) e = absurd e
-  at_fault fault (Err y) e = e
+  at_fault fault y e = grind arith
 
   abbrev pub IsOther : ends.End → Type 0
   IsOther (end.Cell at) = ⊥
   IsOther _ = Unit {0}
 
   pub at_other : (found : ends.End) → IsOther found → (y : Answer End) → EndMeets a q (Ok found) y → CellAtEnd a q (Err InvalidOperand) y
-  at_other (end.Cell at) k y e = absurd k
-  at_other (end.Element original i) k (Ok (AtCell f offset bits)) e = absurd e
-  at_other (end.Element original i) k (Ok (AtElement n j)) e = refl
-  at_other (end.Element original i) k (Ok (AtArray n)) e = refl
-  at_other (end.Element original i) k (Ok (AtProc f g l p)) e = refl
-  at_other (end.Element original i) k (Ok (AtIntrinsic n)) e = refl
-  at_other (end.Element original i) k (Err y) e = absurd e
-  at_other (end.Array original) k (Ok (AtCell f offset bits)) e = absurd e
-  at_other (end.Array original) k (Ok (AtElement n j)) e = refl
-  at_other (end.Array original) k (Ok (AtArray n)) e = refl
-  at_other (end.Array original) k (Ok (AtProc f g l p)) e = refl
-  at_other (end.Array original) k (Ok (AtIntrinsic n)) e = refl
-  at_other (end.Array original) k (Err y) e = absurd e
-  at_other (end.Proc at) k (Ok (AtCell f offset bits)) e = absurd e
-  at_other (end.Proc at) k (Ok (AtElement n j)) e = refl
-  at_other (end.Proc at) k (Ok (AtArray n)) e = refl
-  at_other (end.Proc at) k (Ok (AtProc f g l p)) e = refl
-  at_other (end.Proc at) k (Ok (AtIntrinsic n)) e = refl
-  at_other (end.Proc at) k (Err y) e = absurd e
-  at_other (end.Intrinsic i) k (Ok (AtCell f offset bits)) e = absurd e
-  at_other (end.Intrinsic i) k (Ok (AtElement n j)) e = refl
-  at_other (end.Intrinsic i) k (Ok (AtArray n)) e = refl
-  at_other (end.Intrinsic i) k (Ok (AtProc f g l p)) e = refl
-  at_other (end.Intrinsic i) k (Ok (AtIntrinsic n)) e = refl
-  at_other (end.Intrinsic i) k (Err y) e = absurd e
+  at_other found k y e = grind arith
 
   -- the cell that was found
   pub record CellHere (at : ℕ) (y : Answer End) : Type 0 where
@@ -104,30 +62,18 @@ module _ {core : List Tagged} {r : Regs} (a : RunningContext core r) (q : Place)
     pub cell : IsCellAt a q at f offset (Operand bits)
 
   pub cell_here : (at : ℕ) (y : Answer End) → CellAtEnd a q (Ok at) y → CellHere at y
-  cell_here at (Ok (AtCell f offset bits)) e = record { f = f; offset = offset; bits = bits; is = refl; cell = e }
-  cell_here at (Ok (AtElement n i)) e = absurd e
-  cell_here at (Ok (AtArray n)) e = absurd e
-  cell_here at (Ok (AtProc f g l p)) e = absurd e
-  cell_here at (Ok (AtIntrinsic n)) e = absurd e
-  cell_here at (Err y) e = absurd e
+  cell_here at y e = grind arith
 
 -- the argument's end is that of the word on top
 pub end_is : (x : Storage) (plan : Placement) (m : SessionJob) (t : Task) (reference : Word) (arguments : List Word) (call : IsCall t reference arguments) (q : Place) (w : Tagged) → length (cells t) ≡ 2 → (k : TopFollowed x plan m t w)
     → end_given (here m t q) arguments ≡ follow_reference (here m t q) k.word
 end_is x plan m t reference arguments call q w two k =
     let o = one m t reference arguments call two in
-    let same : k.word ∷ k.rest ≡ o.argument ∷ reference ∷ [] = sym k.is ∙ o.cells_are in
-    let is : k.word ≡ o.argument = cc in
-    ap (end_given (here m t q)) o.arguments_are ∙ ap (follow_reference (here m t q)) (sym is)
+    grind arith
 
 module _ (x : Storage) (cpu : Cpu) (plan : Placement) (s : Session) (m : SessionJob) (t : Task) (o : IsInOrderButCounts s) (h : RepresentsSession x cpu plan s) (runs : IsRunning plan s.jobs m t) (q : Place) where
   pub finds_fault : (fault : Fault) (y : Answer End) → CellAtEnd (here_scene x cpu plan s m t o h runs) q (Err fault) y → FindsOperand plan m t cpu.core q (Err fault) y
-  finds_fault fault (Ok (AtCell f offset bits)) e = e
-  finds_fault fault (Ok (AtElement n i)) e = e
-  finds_fault fault (Ok (AtArray n)) e = e
-  finds_fault fault (Ok (AtProc f g l p)) e = e
-  finds_fault fault (Ok (AtIntrinsic n)) e = e
-  finds_fault fault (Err y) e = e
+  finds_fault fault y e = grind arith
 
   pub finds_cell : (at mark : ℕ) (y : Answer End) (k : CellHere (here_scene x cpu plan s m t o h runs) q at y) → mark ≡ frame_address plan m t k.f → FindsOperand plan m t cpu.core q (Ok (record { at = at; mark = mark; offset = at - mark })) y
   finds_cell at mark y k e =
@@ -154,28 +100,13 @@ module _ (x : Storage) (cpu : Cpu) (plan : Placement) (s : Session) (m : Session
     pub cell : IsFoundCell plan m t cpu.core q found f offset bits
 
   pub found_here : (found : CellFound) (y : Answer End) → FindsOperand plan m t cpu.core q (Ok found) y → FoundHere found y
-  found_here found (Ok (AtCell f offset bits)) e = record { f = f; offset = offset; bits = bits; is = refl; cell = e }
-  found_here found (Ok (AtElement n i)) e = absurd e
-  found_here found (Ok (AtArray n)) e = absurd e
-  found_here found (Ok (AtProc f g l p)) e = absurd e
-  found_here found (Ok (AtIntrinsic n)) e = absurd e
-  found_here found (Err y) e = absurd e
+  found_here found y e = grind arith
 
   pub wait_fault : (fault : Fault) (y : Answer End) → FindsOperand plan m t cpu.core q (Err fault) y → (y >>= waits_at (here m t q)) ≡ Err fault
-  wait_fault fault (Ok (AtCell f offset bits)) e = absurd e
-  wait_fault fault (Ok (AtElement n i)) e = ap Err (sym e)
-  wait_fault fault (Ok (AtArray n)) e = ap Err (sym e)
-  wait_fault fault (Ok (AtProc f g l p)) e = ap Err (sym e)
-  wait_fault fault (Ok (AtIntrinsic n)) e = ap Err (sym e)
-  wait_fault fault (Err y) e = ap Err (sym e)
+  wait_fault fault y e = grind arith
 
   pub cause_fault : (fault : Fault) (y : Answer End) → FindsOperand plan m t cpu.core q (Err fault) y → (y >>= causes (here m t q)) ≡ Err fault
-  cause_fault fault (Ok (AtCell f offset bits)) e = absurd e
-  cause_fault fault (Ok (AtElement n i)) e = ap Err (sym e)
-  cause_fault fault (Ok (AtArray n)) e = ap Err (sym e)
-  cause_fault fault (Ok (AtProc f g l p)) e = ap Err (sym e)
-  cause_fault fault (Ok (AtIntrinsic n)) e = ap Err (sym e)
-  cause_fault fault (Err y) e = ap Err (sym e)
+  cause_fault fault y e = grind arith
 
   -- the row of WAIT at a cell that holds 0, and at another
   pub wait_zero : (f offset bits : ℕ) → bits ≡ 0 → waits_at (here m t q) (AtCell f offset bits) ≡ Ok (Waits (WaitsAt f offset))

@@ -1,9 +1,8 @@
 -- A call that was made, over the whole machine, and one that changes nothing.
-use Rattle.std.proofs.Common.{◌≡◌, ℕ, ◌+◌, ◌≤◌, List, [], ◌∷◌, length, Option, None, Ok, Err, refl, sym, arith, true, false}
-use Rattle.std.proofs.lemmas.Bool.{le-leb}
+use Rattle.std.proofs.Common.{◌≡◌, ℕ, ◌+◌, ◌≤◌, List, [], ◌∷◌, Option, None, Ok, Err, refl, arith, true, false}
 use Rattle.b67_word.specs.declared.couples.Place.{Place}
 use Rattle.b67_word.specs.declared.faults.Fault.TheVariants.{CriticalBlock}
-use Rattle.b67_model.specs.Common.{Word, Frame, Task, SessionJob, height, top, below_top, with_top_cells, Goes, is_critical, answers, Session, number_of}
+use Rattle.b67_model.specs.Common.{Word, Frame, Task, SessionJob, height, top, below_top, with_top_cells, Goes, is_critical, answers, Session}
 use Rattle.b67_stack.specs.Represents.{Storage}
 use Rattle.b67_layout.specs.Common.{IsInOrderButCounts, Placement, IsRunning, RunsSome, here}
 use Rattle.b67_task_tables.specs.declared.tables.Machine.{Machine}
@@ -23,42 +22,27 @@ call_some k r = record { runs = runs_some k r.runs; reference = r.reference; arg
 -- the tables show the job of the running task
 pub has_job : (x : Storage) (told : Option (List (List ℕ))) (k : Machine) (plan : Placement) (s : Session) (m : SessionJob) (t : Task) → IsInOrderButCounts s → MachineRepresents x told k plan s → IsRunning plan s.jobs m t
     → (job : ℕ) → job ≡ m.constants.number → HasJob plan s m k.tasks job
-has_job x told k plan s m t o h runs job e = record {
-  holds = record { ordered = o; fits = h.session.holds.fits.rows; few = h.session.holds.fits.few; shows = h.tables };
-  member = (keyed_has number_of m.constants.number s.jobs m runs.member).0;
-  number = sym e;
-}
+has_job x told k plan s m t o h runs job e = grind (arith, keyed_has)
 
 lower : (fs : List Frame) → height (below_top fs) ≤ height fs
-lower [] = omega arith
-lower (f ∷ below) = omega arith
+lower fs = grind arith
 
 pub marked_words : (f : Frame) → 1 ≤ Rattle.b67_model.specs.State.words_of f
-marked_words f = by f.standing where
-  by : (q : Rattle.b67_model.specs.State.Standing) → 1 ≤ Rattle.b67_model.specs.State.head_words q + length f.cells
-  by Rattle.b67_model.specs.State.Marked = omega arith
-  by (Rattle.b67_model.specs.State.Entered level environment back) = omega arith
+marked_words f = grind arith
 
 one_more : (fs : List Frame) (w : Word) → height (with_top_cells fs (w ∷ (top fs).cells)) ≤ height fs + 1
-one_more [] w = omega arith
-one_more (f ∷ below) w = omega arith
+one_more fs w = grind arith
 
 lower_one : (fs : List Frame) (w : Word) → height (with_top_cells (below_top fs) (w ∷ (top (below_top fs)).cells)) ≤ height fs
-lower_one [] w = omega arith
-lower_one (f ∷ below) w = omega (arith, marked_words f, one_more below w)
+lower_one fs w = grind arith
 
 module _ (m : SessionJob) (t : Task) (next : Place) where
   pub answers_critical : (words : List Word) → is_critical m.progress.job (top t.frames).identity ≡ true → answers (here m t next) m.progress.job words [] None ≡ Err CriticalBlock
   answers_critical words c = rw c refl
 
   pub answers_cut : is_critical m.progress.job (top t.frames).identity ≡ false → height t.frames ≤ m.constants.stack_size → answers (here m t next) m.progress.job [] [] None ≡ Ok (Goes (job_cut m t next) [] None)
-  answers_cut c fits =
-      let low : height (below_top t.frames) ≤ m.constants.stack_size = omega (arith, lower t.frames, fits) in
-      rw c (rw (le-leb (height (below_top t.frames)) m.constants.stack_size low) refl)
+  answers_cut c fits = grind arith
 
   pub answers_one : (w : Word) → is_critical m.progress.job (top t.frames).identity ≡ false → height t.frames ≤ m.constants.stack_size
       → answers (here m t next) m.progress.job (w ∷ []) [] None ≡ Ok (Goes (job_answered m t w next m.progress.job.numbers) [] None)
-  answers_one w c fits =
-      let fs : List Frame = with_top_cells (below_top t.frames) (w ∷ (top (below_top t.frames)).cells) in
-      let low : height fs ≤ m.constants.stack_size = omega (arith, lower_one t.frames w, fits) in
-      rw c (rw (le-leb (height fs) m.constants.stack_size low) refl)
+  answers_one w c fits = grind arith

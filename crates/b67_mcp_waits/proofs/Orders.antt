@@ -1,20 +1,16 @@
 -- A session whose job has other tasks is in order but for its counts, if these are.
-use Rattle.std.proofs.Common.{◌≡◌, ℕ, ◌-◌, ◌^◌, ◌<◌, List, [], ◌∷◌, flat_map, reverse, length, Option, Some, None, Ok, refl, sym, ◌∙◌, ap, arith, inl, inr, unwrap_or, subst, ◌==◌, ◌&&◌, ◌⊎◌}
-use Rattle.std.specs.Prelude.{nat_lt}
-use Rattle.std.specs.List.{slice_get}
+use Rattle.std.proofs.Common.{◌≡◌, ℕ, ◌-◌, ◌^◌, ◌<◌, List, [], ◌∷◌, flat_map, length, Option, Some, Ok, refl, sym, ◌∙◌, ap, arith, unwrap_or, subst, ◌==◌, ◌&&◌, ◌⊎◌}
 use Rattle.std.specs.Option.{ok_or}
-use Rattle.std.proofs.lemmas.Bool.{cases_Bool}
 use Rattle.std.proofs.lemmas.Bool.Decides.{eqb_tells}
 use Rattle.b67_word.specs.declared.couples.Place.{Place}
 use Rattle.b67_word.specs.declared.faults.Fault.TheVariants.{InvalidAddress}
 use Rattle.b67_lemmas.proofs.Members.{all_in, keyed_has, keyed_left, length_change, total_change}
 use Rattle.b67_lemmas.proofs.Keyed.{change_is, all_change}
 use Rattle.b67_lemmas.proofs.Sums.{sum_total}
-use Rattle.b67_model.specs.Common.{Answer, Word, Operand, Frame, Condition, Ready, Awaits, WaitsAt, Task, Job, SessionJob, mcp, no_frame, frame, cell, cell_of, first_offset, with_cell, woken_at, number_of, Session, IsSegment, TasksInOrder, NumberedFrom}
+use Rattle.b67_model.specs.Common.{Answer, Word, Operand, Frame, Condition, Ready, Task, Job, SessionJob, mcp, no_frame, frame, cell, with_cell, woken_at, number_of, Session, IsSegment, TasksInOrder, NumberedFrom}
 use Rattle.b67_model.specs.Keyed.{keyed, change_keyed}
 use Rattle.b67_law_order.proofs.Looks.{found_frame}
 use Rattle.b67_law_order.proofs.Maps.{HoldsOperand, cell_stored, map_good, frames_refl}
-use Rattle.b67_law_order.proofs.Stores.{operand_is}
 use Rattle.b67_layout.specs.Common.{JobInOrderButCounts, IsInOrderButCounts, here, with_job}
 use Rattle.b67_layout.proofs.LeftSettles.{numbered_course}
 use Rattle.b67_mcp_waits.proofs.Waking.{wake_job}
@@ -42,13 +38,10 @@ order_with s m job member o good next same =
     })
 
 woken_same : (f offset : ℕ) (c : Condition) → (woken_at f offset c ≡ c) ⊎ (woken_at f offset c ≡ Ready)
-woken_same f offset Ready = inl refl
-woken_same f offset (Awaits n) = inl refl
-woken_same f offset (WaitsAt g other) = elim (cases_Bool ((f == g) && (offset == other))) [ inl t ↦ inr (rw t refl) | inr t ↦ inl (rw t refl) ]
+woken_same f offset c = grind arith
 
 some_ok : (o : Option Word) (w : Word) → ◌≡◌ {A = Answer Word} (ok_or o InvalidAddress) (Ok w) → o ≡ Some w
-some_ok (Some v) w e = (let same : v ≡ w = cc in ap Some same)
-some_ok None w e = absurd (let z : ⊥ = cc in z)
+some_ok o w e = grind arith
 
 module _ (m : SessionJob) (t : Task) (q : Place) (order : TasksInOrder (IsSegment m.constants) m.constants m.progress.job) (f offset bits : ℕ) (own : 1 < f) (found : cell (here m t q) f offset ≡ Ok (Operand bits)) where
   -- whichever live frame has the identity holds an operand there
@@ -57,14 +50,7 @@ module _ (m : SessionJob) (t : Task) (q : Place) (order : TasksInOrder (IsSegmen
       let here_g : frame (here m t q) f ≡ g = subst (λ (i : ℕ). frame (here m t q) i ≡ g) is
       (ap (λ (z : Option Frame). unwrap_or z no_frame) (keyed_left (λ (x : Frame). x.identity) g.identity (flat_map (λ (v : Task). v.frames) m.progress.job.tasks) (m.constants.dictionary ∷ mcp ∷ []) g
       (found_frame (IsSegment m.constants) m.constants m.progress.job order g (record { task = u; live = live; among = among })))) in
-      let some : cell_of g offset ≡ Some (Operand bits) = some_ok (cell_of g offset) (Operand bits) (subst (λ (z : Frame). ◌≡◌ {A = Answer Word} (ok_or (cell_of z offset) InvalidAddress) (Ok (Operand bits))) here_g found) in
-      let two : first_offset g ≡ 2 = elim (eqb_tells g.identity 0) [ inl z ↦ absurd (omega (arith, z.1, is, own)) | inr z ↦ rw z.0 refl ] in
-      let there : slice_get (reverse g.cells) (offset - 2) ≡ Some (Operand bits) = elim (cases_Bool (nat_lt offset (first_offset g))) [
-        | inl b ↦ absurd (let no : ◌≡◌ {A = Option Word} None (Some (Operand bits)) = rw b at some in let z : ⊥ = cc in z)
-        | inr b ↦ (let at : slice_get (reverse g.cells) (offset - first_offset g) ≡ Some (Operand bits) = rw b at some in subst (λ (i : ℕ). slice_get (reverse g.cells) (offset - i) ≡ Some (Operand bits)) two at)
-      ] in
-      let same : Operand bits ≡ w = (let e : Some (Operand bits) ≡ Some w = sym there ∙ k in cc) in
-      operand_is w bits same
+      grind (arith, eqb_tells)
 
   -- the job is in order with 1 stored there, and with its waiters ready
   pub caused_order : TasksInOrder (IsSegment m.constants) m.constants (wake_job (woken_at f offset) (with_cell m.progress.job f offset (Operand 1)))

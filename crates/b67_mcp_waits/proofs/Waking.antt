@@ -1,16 +1,16 @@
 -- What the machine represents doesn't depend on who waits for what.
-use Rattle.std.proofs.Common.{◌≡◌, ℕ, ◌+◌, List, [], ◌∷◌, ◌++◌, map, flat_map, length, Option, Some, None, refl, sym, ◌∙◌, ap, Bool, true, false, ◌==◌, ⊎_elim, subst}
+use Rattle.std.proofs.Common.{◌≡◌, ℕ, ◌+◌, List, [], ◌∷◌, ◌++◌, map, flat_map, length, Option, Some, None, refl, sym, ◌∙◌, ap, Bool, ◌==◌, ⊎_elim, subst, arith}
 use Rattle.std.specs.Prelude.{if◌then◌else◌, option_map, ◌||◌}
 use Rattle.std.specs.List.{slice_get, list_any}
-use Rattle.std.proofs.lemmas.Bool.{cases_Bool, cases_eq}
+use Rattle.std.proofs.lemmas.Bool.{cases_eq}
 use Rattle.b67_lemmas.specs.Lists.{Has}
 use Rattle.b67_lemmas.proofs.Members.{has_map, has_map_back, keyed_has}
 use Rattle.b67_model.specs.Keyed.{keyed}
 use Rattle.b67_model.specs.State as State
-use Rattle.b67_model.specs.Common.{Frame, Condition, Task, Job, JobProgress, SessionJob, OperatorContext, height, all_frames, frame_at, is_critical, number_of, Session, Known, known_of}
+use Rattle.b67_model.specs.Common.{Frame, Condition, Task, Job, JobProgress, SessionJob, OperatorContext, all_frames, frame_at, is_critical, number_of, Session, Known, known_of}
 use Rattle.b67_stack.specs.declared.Cpu.{Cpu}
-use Rattle.b67_stack.specs.Common.{StackPlace, Activation, PagedObject, Slot, Running, Waiting, MachineView, NoOriginalAboveTop, Storage, Represents}
-use Rattle.b67_layout.specs.Common.{Slotted, Placement, slot_of, spots, address_of, stack_of_task, slot_with, slot_in, slot_by, slot_at, objects_of, machine_view, RowsFit, DictionariesFollow, RowHomes, PlanFits, RepresentsDictionary, vector_word, critical_mark, RepresentsTask, IsRunning, ShowsDisplay, SessionHolds, RepresentsSession, with_job}
+use Rattle.b67_stack.specs.Common.{StackPlace, Activation, Slot, Running, Waiting, MachineView, NoOriginalAboveTop, Storage, Represents}
+use Rattle.b67_layout.specs.Common.{Slotted, Placement, slot_of, spots, address_of, stack_of_task, slot_with, slot_in, slot_by, slot_at, machine_view, RowsFit, DictionariesFollow, RowHomes, PlanFits, RepresentsDictionary, vector_word, critical_mark, RepresentsTask, IsRunning, ShowsDisplay, SessionHolds, RepresentsSession, with_job}
 use Rattle.b67_layout.proofs.Common.{with_course, member-same, member-other, change-has, change-kept, running_only, same_frame_at}
 use Rattle.b67_layout.proofs.MachineViews.{objects-after}
 use Rattle.b67_task_start_stack.specs.Likes.{Like}
@@ -25,14 +25,10 @@ wake_job g job = record job { tasks = map (λ (t : Task). record t { condition =
 
 pub keyed_wake : (g : Condition → Condition) (n : ℕ) (xs : List Task) → keyed (λ (v : Task). v.number) n (map (wake_task g) xs) ≡ option_map (wake_task g) (keyed (λ (v : Task). v.number) n xs)
 keyed_wake g n [] = refl
-keyed_wake g n (x ∷ xs) = ⊎_elim
-    (λ (t : (x.number == n) ≡ true). rw t refl)
-    (λ (t : (x.number == n) ≡ false). rw t (keyed_wake g n xs))
-    (cases_Bool (x.number == n))
+keyed_wake g n (x ∷ xs) = grind (arith, keyed_wake g n xs)
 
 like_by : (g : Condition → Condition) (o : Option Task) → Like (option_map (wake_task g) o) o
-like_by g None = tt
-like_by g (Some t) = record { number = refl; parents = refl; critical = refl; frames = refl }
+like_by g o = grind arith
 
 like_wake : (g : Condition → Condition) (job : Job) (u : ℕ) → Like (keyed (λ (t : Task). t.number) u (wake_job g job).tasks) (keyed (λ (t : Task). t.number) u job.tasks)
 like_wake g job u =
@@ -65,9 +61,7 @@ module _ (plan : Placement) (j : ℕ) (job : Job) (g : Condition → Condition) 
 
   mark_wake : (fs : List Frame) → critical_mark (wake_job g job) fs ≡ critical_mark job fs
   mark_wake [] = refl
-  mark_wake (f ∷ fs) =
-      ap (λ (b : Bool). if b then height fs else critical_mark (wake_job g job) fs) (critical_wake f.identity)
-      ∙ ap (λ (n : ℕ). if is_critical job f.identity then height fs else n) (mark_wake fs)
+  mark_wake (f ∷ fs) = grind (arith, critical_wake)
 
 module _ (x : Storage) (cpu : Cpu) (plan : Placement) (s : Session) (m : SessionJob) (t : Task) (h : RepresentsSession x cpu plan s) (runs : IsRunning plan s.jobs m t) (g : Condition → Condition) where
   abbrev c : JobProgress
@@ -100,11 +94,7 @@ module _ (x : Storage) (cpu : Cpu) (plan : Placement) (s : Session) (m : Session
         (cases_eq r.job m.constants.number)
 
   view_wake : machine_view plan jobs' ≡ machine_view plan s.jobs
-  view_wake =
-      let P : (ℕ → Slot) → List PagedObject → MachineView = λ z objects. record { stacks = plan.stacks; size = plan.size; peak = plan.peak; slots = z; objects = objects } in
-      let slots : slot_at plan jobs' ≡ slot_at plan s.jobs = λ z q. slots_wake q z in
-      ap (λ (z : ℕ → Slot). P z (flat_map (objects_of plan) jobs')) slots
-      ∙ ap (P (slot_at plan s.jobs)) (objects-after plan s.jobs m.constants.number c m runs.member refl)
+  view_wake = grind (arith, slots_wake, objects-after)
 
   -- each job is an old one or the one that moved
   for_members : (P : SessionJob → Type 0) → ((y : SessionJob) → Has s.jobs y → P y) → P moved → (y : SessionJob) → Has jobs' y → P y
@@ -117,10 +107,7 @@ module _ (x : Storage) (cpu : Cpu) (plan : Placement) (s : Session) (m : Session
 
   follow : (from : ℕ) (xs : List SessionJob) → DictionariesFollow plan from xs → DictionariesFollow plan from (with_course xs m.constants.number c)
   follow from [] d = d
-  follow from (y ∷ more) d = ⊎_elim
-      (λ (z : (number_of y == m.constants.number) ≡ true). rw z d)
-      (λ (z : (number_of y == m.constants.number) ≡ false). rw z (d.0, follow (from + (2 + length y.constants.dictionary.cells)) more d.1))
-      (cases_Bool (number_of y == m.constants.number))
+  follow from (y ∷ more) d = grind (arith, follow (from + (2 + length y.constants.dictionary.cells)) more d.1)
 
   rows : RowsFit plan jobs'
   rows = let fit = h.holds.fits.rows in record {

@@ -1,5 +1,5 @@
 -- The rows of tasks once a cell is caused.
-use Rattle.std.proofs.Common.{◌≡◌, ◌≢◌, ℕ, ◌+◌, ◌<◌, ◌≤◌, List, [], ◌∷◌, ◌++◌, map, length, take, drop, get_or, slice_set, Bool, true, false, ◌&&◌, ◌==◌, refl, sym, ◌∙◌, ap, arith, inl, inr, add-one, take_all}
+use Rattle.std.proofs.Common.{◌≡◌, ◌≢◌, ℕ, ◌+◌, ◌<◌, ◌≤◌, List, [], ◌∷◌, ◌++◌, map, length, take, drop, get_or, slice_set, Bool, false, ◌&&◌, ◌==◌, refl, sym, ◌∙◌, ap, arith, inl, inr, add-one, take_all}
 use Rattle.std.proofs.lemmas.List.{length-set, get_or-drop, drop-drop, drop-set-lt}
 use Rattle.std.proofs.Math.Seq.{take-suc-set}
 use Rattle.std.proofs.lemmas.Bool.{cases_Bool, eq-eqb, ne_eqb}
@@ -13,8 +13,7 @@ pub woken_there : (mark offset at other : ℕ) → at ≡ mark → other ≡ off
 woken_there mark offset at other e k = let one = eq-eqb at mark e in let two = eq-eqb other offset k in rw (one, two) refl
 
 and_false : (a b : Bool) → b ≡ false → (a && b) ≡ false
-and_false true b e = e
-and_false false b e = refl
+and_false a b e = grind arith
 
 pub other_mark : (mark offset at other : ℕ) → at ≢ mark → WaitsAt at other ≡ woken_state mark offset (WaitsAt at other)
 other_mark mark offset at other ne = let no = ne_eqb at mark ne in rw no refl

@@ -1,15 +1,12 @@
 -- The machine represents a session again, after objects came and went in the view.
-use Rattle.std.proofs.Common.{◌≡◌, ◌≢◌, ℕ, List, [], length, Option, Some, None, refl, sym, ◌∙◌, ap, subst}
-use Rattle.std.proofs.lemmas.Option.{none-some}
+use Rattle.std.proofs.Common.{◌≡◌, ◌≢◌, ℕ, List, [], length, Option, None, refl, sym, ◌∙◌, ap, subst, arith}
 use Rattle.b67_area.specs.declared.Areas.{Areas}
 use Rattle.b67_backing.specs.Shelf.{Table}
-use Rattle.b67_ctl.specs.declared.registers.Regs.{Regs}
 use Rattle.b67_model.specs.Schedule.{Session}
 use Rattle.b67_stack.specs.declared.Cpu.{Cpu}
 use Rattle.b67_stack.specs.Common.{MachineView, NoOriginalAboveTop, Storage, Represents, LowWordsStayed}
 use Rattle.b67_layout_storage.specs.Machine.{Says, content_after}
 use Rattle.b67_overlay.specs.Spans.{MachineCanPage}
-use Rattle.b67_layout_storage.proofs.Devices.{says_of}
 use Rattle.b67_layout.specs.Common.{IsInOrderButCounts, Placement, machine_view, RepresentsSession}
 use Rattle.b67_layout_spans.proofs.Sessions.{copies_of}
 use Rattle.b67_layout.proofs.Paged.{RepresentsSession-over}
@@ -23,10 +20,7 @@ use Rattle.b67_presence.proofs.Seen.{Sees}
 
 -- a machine over a device that tells what its storage says
 pub over : (x : Storage) (told : Option (List (List ℕ))) (k : Machine) (plan : Placement) (s : Session) → MachineRepresents x told k plan s → StandsOver x told k plan s
-over x told k plan s h = record {
-  says = says_of x.device told h.storage.device;
-  stands = record { session = h.session; storage = record { low = h.storage.low; size = h.storage.size; shelf = h.storage.shelf; device = refl }; tables = h.tables };
-}
+over x told k plan s h = grind arith
 
 -- what its view says of it
 pub view_stands : (x : Storage) (told : Option (List (List ℕ))) (k : Machine) (plan : Placement) (s : Session) → IsInOrderButCounts s → StandsOver x told k plan s
@@ -35,9 +29,7 @@ view_stands x told k plan s o h = record { stands = h.stands.session.holds.memor
 
 -- what a storage says that said something, and nothing otherwise
 retelling : (d e now : Option (List (List ℕ))) → (d ≡ None → e ≡ None) → (d ≢ None → e ≢ None) → Says e now → e ≡ content_after d now
-retelling None e now none some says = none refl
-retelling (Some all) None now none some says = absurd (some (λ z. none-some all (sym z)) refl)
-retelling (Some all) (Some more) now none some says = sym says
+retelling d e now none some says = grind arith
 
 -- a machine of other registers, core and sectors
 abbrev pub machine_of : Cpu → Areas → Table → Tasks → Machine
@@ -50,9 +42,7 @@ module _ (x y : Storage) (told now : Option (List (List ℕ))) (k : Machine) (pl
   regs = ap (λ (c : Cpu). c.regs) rest
 
   memory : Represents y cpu.core k.cpu.regs (machine_view plan sees.seen)
-  memory =
-      let P : Regs → MachineView → Type 0 = λ r p. Represents y cpu.core r p in
-      subst (λ (r : Regs). P r (machine_view plan sees.seen)) regs (subst (P cpu.regs) sees.is m.stands)
+  memory = grind arith
 
   session : RepresentsSession y cpu plan (record s { jobs = sees.seen })
   session = RepresentsSession-over [] [] x y k.cpu cpu plan s (record s { jobs = sees.seen }) h.stands.session (others_alike s.jobs sees.seen sees.others) refl

@@ -1,11 +1,10 @@
 -- The words that came into an area are those of the object.
-use Rattle.std.proofs.Common.{◌≡◌, ◌≢◌, ℕ, zero, suc, ◌+◌, ◌*◌, ◌%◌, ◌<◌, ◌≤◌, ◌^◌, List, [], ◌∷◌, length, map, option_map, Option, Some, None, Result, Ok, Err, OnOk, refl, sym, ◌∙◌, ap, arith, inl, inr, ◌⊎◌, ⊎_elim, subst}
+use Rattle.std.proofs.Common.{◌≡◌, ◌≢◌, ℕ, zero, suc, ◌+◌, ◌*◌, ◌%◌, ◌<◌, ◌≤◌, ◌^◌, List, [], ◌∷◌, length, map, option_map, Option, Some, None, Result, OnOk, refl, sym, ◌∙◌, ap, arith, inl, inr, ◌⊎◌, ⊎_elim, subst}
 use Rattle.std.specs.List.{slice_get}
 use Rattle.std.proofs.lemmas.List.{length-map}
 use Rattle.std.proofs.lemmas.Option.{same_Some}
 use Rattle.b67_word.specs.Common.{Tagged, word, number}
 use Rattle.b67_area.specs.declared.Areas.{Areas}
-use Rattle.b67_area.specs.declared.Kind.{Kind}
 use Rattle.b67_area.specs.declared.Kind.TheVariants.{Array}
 use Rattle.b67_backing.proofs.Fills.{Fills-holds}
 use Rattle.b67_backing.specs.Shelf.{Shelf, Table, HasChain, chain_of}
@@ -18,19 +17,14 @@ use Rattle.b67_presence.specs.declared.paging.AbsentObject.{AbsentObject}
 use Rattle.b67_presence.specs.Brought.{Loaded, resting, NumbersAreKnown}
 
 both_ok : {T E A B C : Type 0} (result : Result T E) → (A → B → C) → OnOk result A → OnOk result B → OnOk result C
-both_ok (Ok x) f a b = f a b
-both_ok (Err e) f a b = tt
+both_ok result f a b = grind arith
 
 -- words that were read from a chain, with the tag of the object's kind
 pub loaded : {D T E : Type 0} (tell : D → Option (List (List ℕ))) (device : D) (table : Table) (at : ℕ) (object : AbsentObject) (new : List Tagged) (tag : ℕ) (result : Result T E) → tag ≡ tag_of object.kind → object.first ≢ 0
     → OnOk result ((st : Shelf) → HasChain table st object.first (sectors_for object.words) → Tells tell device (λ all. (numbers : List ℕ) → length numbers ≡ object.words → Holds all (chain_of object.first st.chains) 0 numbers
     → (i : ℕ) → i < object.words → slice_get new (at + i) ≡ option_map (under tag) (slice_get numbers i)))
     → OnOk result (AreTagged new at object.words tag) → OnOk result (Loaded (tell device) table at object new)
-loaded tell device table at object new tag result is some gives words = both_ok result (λ g w. record {
-  reads = λ _ st chain all told ns count holds i low. (g st chain).told all told ns count holds i low ∙ ap (λ (z : ℕ). option_map (under z) (slice_get ns i)) is;
-  zeros = λ z. absurd (some z);
-  tagged = λ _. subst (λ (z : ℕ). AreTagged new at object.words z) is w;
-}) gives words
+loaded tell device table at object new tag result is some gives words = grind arith
 
 zeros_up : (core : List Tagged) (at : ℕ) (ns : List ℕ) → AreZero ns → ((i : ℕ) → at ≤ i → i < at + length ns → slice_get core i ≡ Some (word 0 0)) → LieUpward core at (map (word 0) ns)
 zeros_up core at [] z f = tt
@@ -68,8 +62,7 @@ zeros_bits [] z = tt
 zeros_bits (n ∷ ns) z = (omega (arith, z.0), zeros_bits ns z.1)
 
 what_is_told : (d told : Option (List (List ℕ))) (chain ns : List ℕ) → Says d told → d ≢ None → Told d chain ns → (all : List (List ℕ)) × (told ≡ Some all) × Holds all chain 0 ns
-what_is_told None told chain ns s n h = absurd (n refl)
-what_is_told (Some all) told chain ns s n h = (all, s, Fills-holds all chain 0 ns h)
+what_is_told d told chain ns s n h = grind (arith, Fills-holds)
 
 module _ (x : Storage) (cpu : Cpu) (areas : Areas) (table : Table) (told : Option (List (List ℕ))) (p : MachineView) (home : ℕ) (t : PagedObject) (m : MachineCanPage x cpu areas table told p) (a : IsAbsent x p home t) where
   abbrev first : ℕ
@@ -87,21 +80,10 @@ module _ (x : Storage) (cpu : Cpu) (areas : Areas) (table : Table) (told : Optio
 
   module _ (at : ℕ) (new : List Tagged) (l : Loaded told table at (resting x t) new) where
     untouched : (first ≡ 0) × (t.kind ≡ Array) × AreZero t.numbers → LieUpward new at (object_words t)
-    untouched z =
-        let P : Kind → Type 0 = λ k. LieUpward new at (map (word (tag_of k)) t.numbers) in
-        subst P (sym z.1) (zeros_up new at t.numbers z.2 (l.zeros z.0))
+    untouched z = grind (arith, zeros_up)
 
     pub known_words : NumbersAreKnown x t → LieUpward new at (object_words t)
-    known_words k = ⊎_elim
-        (λ (h : HoldsIn x t first). ⊎_elim
-        (λ (z : first ≡ 0). absurd (omega (arith, h.chain.some)))
-        (λ (q : (x.device ≢ None) × AreBits t.numbers).
-        let numbers = map number (object_words t) in
-        let count : length numbers ≡ length t.numbers = length-map (object_words t) number ∙ length-map t.numbers (word (tag_of t.kind)) in
-        let w = what_is_told x.device told (chain_of first x.shelf.chains) numbers m.device q.0 h.told in
-        told_up new at (tag_of t.kind) t.numbers q.1 (l.reads (λ z. omega (arith, h.chain.some)) x.shelf (has_chain h) w.0 w.1 numbers count w.2))
-        k)
-        untouched rests
+    known_words k = grind (arith, length-map, what_is_told, told_up, untouched, rests)
 
     pub some_words : (ns : List ℕ) × (length ns ≡ length t.numbers) × AreBits ns × LieUpward new at (map (word (tag_of t.kind)) ns) × ((0 < first) ⊎ (ns ≡ t.numbers))
     some_words = ⊎_elim

@@ -11,7 +11,6 @@ use Rattle.b67_ctl.specs.Descriptors.{data_word, seg_word, IsDataDesc, IsSegDesc
 use Rattle.b67_area.specs.declared.Kind.{Kind}
 use Rattle.b67_area.specs.declared.Kind.TheVariants.{Array, Row, Code}
 use Rattle.b67_stack.specs.Common.{at_rest, PagedObject, MachineView, home_desc, home_word_of, Storage, Represents}
-use Rattle.b67_stack.proofs.Homes.{chain_small}
 use Rattle.b67_layout_storage.specs.Machine.{IsAbsent}
 use Rattle.b67_stack.proofs.Unchanged.{area_bounds}
 use Rattle.b67_presence.specs.declared.paging.AbsentObject.{AbsentObject}
@@ -35,15 +34,7 @@ module _ (x : Storage) (core : List Tagged) (r : Regs) (p : MachineView) (home :
   none = ap (λ q. (x.held q).area) a.is ∙ a.absent
 
   pub rest_here : AtRest core home t.kind (length t.numbers) (x.held t.home).chain
-  rest_here =
-      let it = s.objects t a.there in
-      let l = s.slots.laid.lengths t a.there in
-      record {
-        word = ap (slice_get core) (sym a.is) ∙ it.home ∙ ap (λ (o : Option ℕ). Some (home_word_of t.kind (length t.numbers) (record { area = o; chain = (x.held t.home).chain }))) none;
-        some = l.0;
-        few = l.1;
-        small = chain_small x core t (x.held t.home).area (x.held t.home).chain it.content;
-      }
+  rest_here = grind arith
 
 module _ (core : List Tagged) (home : ℕ) (w : Tagged) (get : slice_get core home ≡ Some w) (n first : ℕ) where
   is : (k : Kind) → AtRest core home k n first → w ≡ home_word_of k n (at_rest first)

@@ -1,5 +1,5 @@
 -- One area that goes first, and those that go after it.
-use Rattle.std.proofs.Common.{◌≡◌, ◌≢◌, ℕ, ◌+◌, ◌^◌, ◌<◌, ◌≤◌, arith, ⊎_elim, List, length, Option, Some, None, Bool, true, false, Result, Ok, Err, OnErr, refl, sym, ◌∙◌, ap, subst}
+use Rattle.std.proofs.Common.{◌≡◌, ◌≢◌, ℕ, ◌+◌, ◌^◌, ◌<◌, ◌≤◌, arith, ⊎_elim, List, length, Option, Some, None, Bool, true, false, Result, Ok, Err, OnErr, refl, sym, ◌∙◌, subst}
 use Rattle.std.proofs.lemmas.Bool.{cases_eq}
 use Rattle.std.proofs.lemmas.Option.{none-some}
 use Rattle.std.proofs.lemmas.Result.{on_err_weaker}
@@ -18,7 +18,7 @@ use Rattle.b67_layout_storage.proofs.Below.{Stayed-none, Stayed-then}
 use Rattle.b67_overlay.specs.Spans.{MachineCanPage}
 use Rattle.b67_overlay.specs.Overlaid.{overlaid}
 use Rattle.b67_overlay.specs.AreasEvicted.{AreasEvicted}
-use Rattle.b67_overlay.proofs.Shedding.{AreasEvicted-none, AreasEvicted-overlaid, at_area}
+use Rattle.b67_overlay.proofs.Shedding.{AreasEvicted-none, AreasEvicted-overlaid}
 use Rattle.b67_overlay.proofs.Visits.{first_some, after_some, left_of, walk_falls}
 use Rattle.b67_presence.specs.Brings.{EvictsArea, EvictsSome, MakesWay, PointsAtArea, StandsEvicted, NoHoleStill}
 use Rattle.b67_presence.proofs.Ways.{readable_after, Came-before, Waits-before}
@@ -44,16 +44,10 @@ pub points_at : (low : ℕ) (ss : List Span) (at : ℕ) (o : Option ℕ) → o �
 points_at low ss at o e h = subst (λ (x : Option ℕ). PointsAtArea low ss x) e h
 
 pub points_at_next : (low : ℕ) (ss : List Span) (at : ℕ) (o next : Option ℕ) → o ≡ Some at → PointsAtArea low ss o → next ≡ area_after low ss at → PointsAtArea low ss next
-points_at_next low ss at o next e h is =
-    let (a, here) = points_at low ss at o e h in
-    subst (λ (x : Option ℕ). PointsAtArea low ss x) (sym is) (points_after low ss at a here)
+points_at_next low ss at o next e h is = grind (arith, points_after)
 
 pub walk_on_falls : (core : List Tagged) (low : ℕ) (ss : List Span) (at : ℕ) (o next : Option ℕ) → IsDirectory core low ss → o ≡ Some at → PointsAtArea low ss o → next ≡ area_after low ss at → left_of next < left_of o
-walk_on_falls core low ss at o next d e h is =
-    let (a, here) = points_at low ss at o e h in
-    let inside = area_inside core low ss at a d here in
-    let f = walk_falls low ss at a here (omega (arith, inside.1, d.small)) in
-    omega (arith, f, ap left_of e, ap left_of is)
+walk_on_falls core low ss at o next d e h is = grind (arith, area_inside, walk_falls)
 
 -- ---- one area goes first
 
@@ -62,9 +56,7 @@ directory_of x cpu areas table told p m = subst (λ (n : ℕ). IsDirectory cpu.c
 
 pub object_at : (x : Storage) (cpu : Cpu) (areas : Areas) (table : Table) (told : Option (List (List ℕ))) (p : MachineView) → MachineCanPage x cpu areas table told p
     → (at : ℕ) (o : Option ℕ) → o ≡ Some at → PointsAtArea areas.low x.spans o → (t : PagedObject) × IsPresent x p at t
-object_at x cpu areas table told p m at o e h =
-    let (a, here) = points_at areas.low x.spans at o e h in
-    at_area x cpu areas table told p m at a (sym (ap (λ (n : ℕ). area_at n x.spans at) m.low) ∙ here)
+object_at x cpu areas table told p m at o e h = grind arith
 
 pub evicts_none : (x : Storage) (p : MachineView) (t : PagedObject) (spare : ℕ) (cpu : Cpu) (areas : Areas) (table : Table) (told : Option (List (List ℕ)))
     → MachineCanPage x cpu areas table told p → EvictsSome x p t spare (Ok false) cpu cpu areas table told

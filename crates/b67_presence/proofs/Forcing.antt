@@ -14,14 +14,12 @@ use Rattle.b67_stack.proofs.Helds.{held-same, held-other}
 use Rattle.b67_overlay.specs.AreasEvicted.{AreasEvicted}
 use Rattle.b67_presence.specs.Brought.{brought}
 use Rattle.b67_presence.specs.Brings.{PlacedAfterEviction, StandsEvicted, IsCode, BothIn, MayWait, IsAlone}
-use Rattle.b67_presence.proofs.Rooms.{one_hole, first_room}
+use Rattle.b67_presence.proofs.Rooms.{one_hole}
 use Rattle.b67_presence.proofs.Resort.{Reads-none, there_after, differ}
 
 -- with no area left there is room for what core has room for
 pub room_alone : (y : Storage) (cpu : Cpu) (areas : Areas) (table : Table) (told : Option (List (List ℕ))) (p : MachineView) (n : ℕ) → MachineCanPage y cpu areas table told p → IsAlone y 0 → y.low + (n + 2) ≤ length cpu.core → HasHole (n + 2) y.spans
-room_alone y cpu areas table told p n m alone fits =
-    let (h, is, e) = one_hole cpu.core y.low y.spans m.stands.directory (λ b i f. let z : ⊥ = omega (arith, alone b i f, (area_inside cpu.core y.low y.spans b i m.stands.directory f).0) in z) (omega arith) in
-    first_room (n + 2) h y.spans is (omega arith)
+room_alone y cpu areas table told p n m alone fits = grind (arith, one_hole, area_inside)
 
 pub code_after : (x y : Storage) (p : MachineView) (code spare : ℕ) (c : PagedObject) → AreasEvicted x y spare → IsCode x p code spare c → IsCode y p code spare c
 code_after x y p code spare c s k = record { there = k.there; is = k.is; kind = k.kind; present = ap (λ (h : Location). h.area) (s.spared code k.present) ∙ k.present }
@@ -79,16 +77,7 @@ both_before x y p spare t c new after table' now s b = record {
 }
 
 pub wait_before : (x y : Storage) (p : MachineView) (spare : ℕ) (t c : PagedObject) (new : Cpu) (after : Areas) (table' : Table) (now : Option (List (List ℕ))) → AreasEvicted x y spare → MayWait y p t c new after table' now → MayWait x p t c new after table' now
-wait_before x y p spare t c new after table' now s b = record {
-  storage = b.storage;
-  machine_view = b.machine_view;
-  low = b.low ∙ s.low;
-  untold = λ e. b.untold (s.untold e);
-  told_still = λ n. b.told_still (s.told n);
-  lacks = b.lacks;
-  reads = record { numbers = b.reads.numbers; count = b.reads.count; bits = b.reads.bits; is = b.reads.is; same = λ n. b.reads.same (s.told n) };
-  stands = b.stands;
-}
+wait_before x y p spare t c new after table' now s b = grind arith
 
 -- two refusals with the same numbers
 pub same_need : (n s need size : ℕ) → n ≡ need → s ≡ size → ◌≡◌ {A = Result (Unit {0}) SpaceFault} (Err (NoCore n s)) (Err (NoCore need size))

@@ -1,15 +1,13 @@
 -- Sessions with other numbers: what they share.
-use Rattle.std.proofs.Common.{◌≡◌, ℕ, ◌+◌, List, [], ◌∷◌, length, map, refl, sym, ◌∙◌, ap, subst, inl, inr}
+use Rattle.std.proofs.Common.{◌≡◌, ℕ, ◌+◌, List, [], ◌∷◌, length, map, refl, sym, ◌∙◌, ap, subst, inl, inr, arith}
 use Rattle.std.specs.Prelude.{sum_by}
 use Rattle.std.specs.List.{AllByRecursion}
 use Rattle.std.proofs.lemmas.List.Sums.{sum_by-cons}
 use Rattle.b67_lemmas.specs.Lists.{Has}
-use Rattle.b67_model.specs.Common.{Array, Segment, Condition, Ready, Awaits, WaitsAt, Task, SessionJob, Session, sectors_for, sectors_of, sectors, IsSegment, SegmentInOrder, ArrayInOrder}
-use Rattle.b67_layout.specs.Common.{JobInOrderButCounts, IsInOrderButCounts, Placement, slot_of, spot_in, address_of, WaitsAtCell, TaskRow, JobRow, shown, critical_disp, TaskShows, JobShows, JobsShow}
+use Rattle.b67_model.specs.Common.{Array, Segment, Condition, Task, SessionJob, Session, sectors_for, sectors, IsSegment, SegmentInOrder, ArrayInOrder}
+use Rattle.b67_layout.specs.Common.{JobInOrderButCounts, IsInOrderButCounts, Placement, TaskRow, JobRow, shown, critical_disp, TaskShows, JobShows, JobsShow}
 use Rattle.b67_law_order.specs.Weaker.{Renumbers, Recoded, Refilled, OtherNumbers, AllOtherNumbers}
 use Rattle.b67_law_order.proofs.Sessions.{recoded_count}
-use Rattle.b67_stack.specs.Stacks.{StackPlace}
-use Rattle.b67_layout.proofs.Alike.{outer_same}
 use Rattle.b67_task_tables.specs.declared.tables.Tasks.{Tasks}
 use Rattle.b67_task_tables.specs.Tables.{job_row, TasksShow}
 
@@ -43,15 +41,7 @@ recoded_then (x ∷ xs) (y ∷ ys) [] h k = absurd k
 
 refilled_then : (xs ys zs : List Array) → Refilled xs ys → Refilled ys zs → Refilled xs zs
 refilled_then [] [] [] h k = tt
-refilled_then (x ∷ xs) (y ∷ ys) (z ∷ zs) h k = (
-  record {
-    identity = k.0.identity ∙ h.0.identity;
-    owner = k.0.owner ∙ h.0.owner;
-    writable = k.0.writable ∙ h.0.writable;
-    numbers = renumbers_then x.numbers y.numbers z.numbers h.0.numbers k.0.numbers;
-  },
-  refilled_then xs ys zs h.1 k.1,
-)
+refilled_then (x ∷ xs) (y ∷ ys) (z ∷ zs) h k = grind (arith, refilled_then xs ys zs h.1 k.1)
 refilled_then [] [] (z ∷ zs) h k = absurd k
 refilled_then [] (y ∷ ys) zs h k = absurd h
 refilled_then (x ∷ xs) [] zs h k = absurd h
@@ -65,11 +55,7 @@ with_numbers m segments arrays = record m {
 }
 
 pub other_then : (m n y : SessionJob) → OtherNumbers m n → OtherNumbers n y → OtherNumbers m y
-other_then m n y h k = record {
-  segments = recoded_then m.constants.segments n.constants.segments y.constants.segments h.segments k.segments;
-  arrays = refilled_then m.progress.job.arrays n.progress.job.arrays y.progress.job.arrays h.arrays k.arrays;
-  rest = k.rest ∙ ap (λ (z : SessionJob). with_numbers z y.constants.segments y.progress.job.arrays) h.rest;
-}
+other_then m n y h k = grind (arith, recoded_then, refilled_then)
 
 pub others_then : (ms ns ys : List SessionJob) → AllOtherNumbers ms ns → AllOtherNumbers ns ys → AllOtherNumbers ms ys
 others_then [] [] [] h k = tt
@@ -97,44 +83,16 @@ others_back (m ∷ ms) [] h n i = absurd h
 -- the tables show no numbers
 module _ (plan : Placement) (m n : SessionJob) (h : OtherNumbers m n) where
   shown_same : (t : Task) (c : Condition) → shown plan m.constants.number (record m.progress.job { arrays = n.progress.job.arrays }) t c ≡ shown plan m.constants.number m.progress.job t c
-  shown_same t Ready = refl
-  shown_same t (Awaits i) = refl
-  shown_same t (WaitsAt frame offset) =
-      ap (λ (o : ℕ → StackPlace). WaitsAtCell (address_of plan (spot_in (slot_of plan m.constants.number t.number) o t.frames frame)) offset)
-      (outer_same plan m.constants.number m.progress.job (record m.progress.job { arrays = n.progress.job.arrays }) refl t.critical t.parents)
+  shown_same t c = grind arith
 
   critical_same : (c : ℕ) (parents : List ℕ) → critical_disp plan m.constants.number (record m.progress.job { arrays = n.progress.job.arrays }) c parents ≡ critical_disp plan m.constants.number m.progress.job c parents
-  critical_same c [] = refl
-  critical_same c (parent ∷ more) = refl
+  critical_same c parents = grind arith
 
   task_shows : (t : Task) (row : TaskRow) → TaskShows plan m t row → TaskShows plan n t row
-  task_shows t row s =
-      let P : SessionJob → Type 0 = λ z. TaskShows plan z t row in
-      let it : TaskShows plan (with_numbers m n.constants.segments n.progress.job.arrays) t row = record {
-        job = s.job;
-        number = s.number;
-        slot = s.slot;
-        parent = s.parent;
-        critical = s.critical ∙ sym (critical_same t.critical t.parents);
-        state = s.state ∙ sym (shown_same t t.condition);
-        segment = s.segment;
-        place = s.place;
-      } in
-      subst P (sym h.rest) it
+  task_shows t row s = grind (arith, shown_same)
 
   job_shows : (row : JobRow) → JobShows plan m row → JobShows plan n row
-  job_shows row s =
-      let P : SessionJob → Type 0 = λ z. JobShows plan z row in
-      let it : JobShows plan (with_numbers m n.constants.segments n.progress.job.arrays) row = record {
-        dictionary = s.dictionary;
-        segments = s.segments ∙ sym (recoded_count m.constants.segments n.constants.segments h.segments);
-        rows = s.rows;
-        limit = s.limit;
-        made = s.made;
-        next_task = s.next_task;
-        numbers = s.numbers;
-      } in
-      subst P (sym h.rest) it
+  job_shows row s = grind (arith, recoded_count)
 
   has_task : (t : Task) → Has m.progress.job.tasks t → Has n.progress.job.tasks t
   has_task t i = let P : SessionJob → Type 0 = λ z. Has z.progress.job.tasks t in subst P (sym h.rest) i
@@ -200,6 +158,4 @@ array_sectors [] (y ∷ ys) h = absurd h
 array_sectors (x ∷ xs) [] h = absurd h
 
 pub others_sectors : (ms ns : List SessionJob) → AllOtherNumbers ms ns → sectors ns ≡ sectors ms
-others_sectors ms ns h = others_sum sectors_of (λ m n o.
-    ap (λ (k : ℕ). k + sum_by (λ (a : Array). sectors_for (length a.numbers)) n.progress.job.arrays) (segment_sectors m.constants.segments n.constants.segments o.segments)
-    ∙ ap (λ (k : ℕ). sum_by (λ (g : Segment). sectors_for (length g.code)) m.constants.segments + k) (array_sectors m.progress.job.arrays n.progress.job.arrays o.arrays)) ms ns h
+others_sectors ms ns h = grind (arith, others_sum, segment_sectors, array_sectors)

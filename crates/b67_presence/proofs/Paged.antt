@@ -1,5 +1,5 @@
 -- The machine after an object was brought in, by what the calls tell.
-use Rattle.std.proofs.Common.{◌≡◌, ℕ, ◌+◌, ◌<◌, List, length, Option, Some, None, refl, sym, ◌∙◌, ap, ⊎_elim, slice_set, subst}
+use Rattle.std.proofs.Common.{◌≡◌, ℕ, ◌+◌, ◌<◌, List, length, Option, Some, None, refl, sym, ◌∙◌, ap, ⊎_elim, slice_set, subst, arith}
 use Rattle.b67_word.specs.Tagged.{Tagged}
 use Rattle.b67_area.specs.declared.Areas.{Areas}
 use Rattle.b67_area.specs.declared.Kind.{Kind}
@@ -20,8 +20,7 @@ use Rattle.b67_presence.proofs.Contents.{known_words, some_words}
 use Rattle.b67_presence.proofs.Placing.{Placed, Kept, Freed, brought_in, given_back, below_in, below_back, without_here, directory2, area_here, bounds}
 
 pub Says-on : (d told new : Option (List (List ℕ))) → ((all : List (List ℕ)) → told ≡ Some all → new ≡ Some all) → Says d told → Says d new
-Says-on None told new f s = tt
-Says-on (Some all) told new f s = f all s
+Says-on d told new f s = grind arith
 
 -- what an area that was placed and filled needs to be kept or freed
 pub record Ready (low : ℕ) (ss : List Span) (core new : List Tagged) (home at : ℕ) (object : AbsentObject) : Type 0 where
@@ -76,9 +75,7 @@ module _ (x : Storage) (cpu : Cpu) (areas after : Areas) (table : Table) (told n
     word_at z = home_word_of z.kind z.words (record { area = Some at; chain = z.first })
 
     st' : Steps x.low x.spans cpu.core c1 c2 c3 home at (resting x t)
-    st' =
-        let P : ℕ → AbsentObject → Type 0 = λ n z. Steps n x.spans cpu.core c1 c2 c3 home at z in
-        subst (λ (z : AbsentObject). P x.low z) is (subst (λ (n : ℕ). P n object) m.low st)
+    st' = grind arith
 
     l' : Loaded told table at (resting x t) c2
     l' = let P : AbsentObject → Type 0 = λ z. Loaded told table at z c2 in subst P is l

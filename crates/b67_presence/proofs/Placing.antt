@@ -16,7 +16,7 @@ use Rattle.b67_area.proofs.Laws.{area_inside, hole-area, OnlyHoles-area, OnlyHol
 use Rattle.b67_area.proofs.Separation.{IsDirectory-area_words, IsDirectory-set_below}
 use Rattle.b67_ctl.specs.declared.registers.Regs.{Regs}
 use Rattle.b67_backing.specs.Held.{OnlyWords}
-use Rattle.b67_stack.specs.Common.{Location, LieUpward, PagedObject, MachineView, slot_base, home_word_of, object_words, tag_of, AreZero, Storage, Content, KeptChain, AbsentContent, HoldsIn, info_of, Represents, LowWordsStayed, with_held, ChainStays}
+use Rattle.b67_stack.specs.Common.{Location, LieUpward, PagedObject, MachineView, slot_base, home_word_of, object_words, tag_of, AreZero, Storage, Content, KeptChain, AbsentContent, HoldsIn, info_of, Represents, LowWordsStayed, ChainStays}
 use Rattle.b67_stack.proofs.Lies.{Upward-same}
 use Rattle.b67_layout_storage.specs.Machine.{IsAbsent}
 use Rattle.b67_layout_storage.proofs.Below.{stacks_low, not_heads}
@@ -215,5 +215,4 @@ module _ (x : Storage) (core : List Tagged) (r : Regs) (p : MachineView) (home :
       pub brought_in : LieUpward c2 at (object_words t) → Represents (brought x t at) c4 r p
       brought_in up =
           let d = Represents-reheld x core c4 r p t h spans x.shelf x.device a.there s (reheld up) in
-          let P : ℕ → Type 0 = λ q. Represents (record x { held = with_held x.held t.home h; spans = keeping x.low at first (fill (fresh t.kind (length t.numbers) q) x.spans) }) c4 r p in
-          subst P (sym a.is) d
+          grind arith

@@ -4,7 +4,7 @@ use Rattle.std.proofs.lemmas.Option.{none-some}
 use Rattle.b67_area.specs.declared.Areas.{Areas}
 use Rattle.b67_backing.specs.Shelf.{Table}
 use Rattle.b67_backing.specs.declared.SpaceFault.{SpaceFault}
-use Rattle.b67_model.specs.Common.{Task, SessionJob, code_of, Session}
+use Rattle.b67_model.specs.Common.{Task, SessionJob, Session}
 use Rattle.b67_layout.specs.Common.{IsInOrderButCounts, Placement, array_object, machine_view, IsRunning}
 use Rattle.b67_stack.specs.declared.Cpu.{Cpu}
 use Rattle.b67_stack.specs.declared.What.{What}
@@ -12,7 +12,7 @@ use Rattle.b67_stack.specs.declared.What.TheVariants as what
 use Rattle.b67_stack.specs.Common.{Location, PagedObject, Storage, LowWordsStayed}
 use Rattle.b67_layout_storage.specs.Machine.{IsAbsent, HasHole}
 use Rattle.b67_overlay.specs.Spans.{MachineCanPage}
-use Rattle.b67_stack.proofs.Helds.{held-same, held-other}
+use Rattle.b67_stack.proofs.Helds.{held-other}
 use Rattle.b67_layout_storage.proofs.Below.{Stayed-none}
 use Rattle.b67_overlay.specs.AreasEvicted.{AreasEvicted, IsShortBy}
 use Rattle.b67_overlay.proofs.Shedding.{AreasEvicted-none}
@@ -35,9 +35,7 @@ array_none : (x : Storage) (plan : Placement) (m : SessionJob) (t : Task) (home 
 array_none x plan m t home words w = ap (λ (q : ℕ). (x.held q).area) (sym w.home_is) ∙ w.absent
 
 pub array_lacks : (x y : Storage) (plan : Placement) (m : SessionJob) (t : Task) (home words spare : ℕ) → IsArrayWanted x plan m t home words → AreasEvicted x y spare → Lacks y (what.Array home) plan m t
-array_lacks x y plan m t home words spare w s =
-    let none = array_none x plan m t home words w in
-    inr (ap (λ (h : Location). h.area) (s.resting home none) ∙ none)
+array_lacks x y plan m t home words spare w s = grind arith
 
 module _ (x : Storage) (told now : Option (List (List ℕ))) (k : Machine) (plan : Placement) (s : Session) (o : IsInOrderButCounts s) (h : StandsOver x told k plan s) (cpu : Cpu) (areas : Areas) (table : Table)
     (rest : cpu ≡ record k.cpu { core = cpu.core }) (len : length cpu.core ≡ length k.cpu.core) (same_areas : areas ≡ k.areas) (stayed : LowWordsStayed (machine_view plan s.jobs) k.cpu.core cpu.core) where
@@ -93,16 +91,10 @@ module _ (x : Storage) (told now : Option (List (List ℕ))) (k : Machine) (plan
 
   -- an object that was brought into a hole is there, and every area is where it was
   areas_placed : (home : ℕ) (t : PagedObject) → IsAbsent x (machine_view plan s.jobs) home t → (at : ℕ) → AreasStay x (brought x t at)
-  areas_placed home t b at =
-      let g : Location = record { area = Some at; chain = (x.held t.home).chain } in
-      let none : (x.held t.home).area ≡ None = ap (λ (q : ℕ). (x.held q).area) b.is ∙ b.absent in
-      let all : AreasStay x (brought x t at) = λ q some. ap (λ (z : Location). z.area) (held-other x.held t.home g q (λ e. some (ap (λ (n : ℕ). (x.held n).area) e ∙ none))) in
-      all
+  areas_placed home t b at = grind arith
 
   placed_there : (t : PagedObject) (at : ℕ) → ((brought x t at).held t.home).area ≡ Some at
-  placed_there t at =
-      let g : Location = record { area = Some at; chain = (x.held t.home).chain } in
-      ap (λ (z : Location). z.area) (held-same x.held t.home g)
+  placed_there t at = grind arith
 
   pub in_place_code : (m : SessionJob) (t : Task) (runs : IsRunning plan s.jobs m t) (d : ℕ) → d ≡ t.segment + 1 → code_area x plan m t ≡ None → ReadIn x (machine_view plan s.jobs) (code_found plan s m t o runs).object cpu areas table now
       → BringsInPlace x now (machine_of cpu areas table k.tasks) plan s m t (what.Code d)
@@ -143,18 +135,11 @@ no_room_code y plan s m t d c none full = (none, λ room. full (subst (λ (n : �
 
 pub no_room_array : (x y : Storage) (plan : Placement) (s : Session) (m : SessionJob) (t : Task) (home words q at : ℕ) (c : CodeObject plan s m t) (w : IsArrayWanted x plan m t home words) → AreasEvicted x y at → IsCode x (machine_view plan s.jobs) q at c.object
     → (HasHole (length w.array.numbers + 2) y.spans → ⊥) → HasNoRoom y (what.Array home) words plan m t
-no_room_array x y plan s m t home words q at c w e code full =
-    let here : (x.held (plan.dictionary m.constants.number + 1 + t.segment)).area ≡ Some at = ap (λ (n : ℕ). (x.held n).area) (sym c.home ∙ code.is) ∙ code.present in
-    let none = array_none x plan m t home words w in (
-      λ gone. none-some at (sym gone ∙ ap (λ (l : Location). l.area) (e.spared (plan.dictionary m.constants.number + 1 + t.segment) here) ∙ here),
-      ap (λ (l : Location). l.area) (e.resting home none) ∙ none,
-      λ room. full (subst (λ (n : ℕ). HasHole (n + 2) y.spans) w.words_are room),
-    )
+no_room_array x y plan s m t home words q at c w e code full = grind arith
 
 -- where nothing was changed
 wanted_lacks : (x y : Storage) (plan : Placement) (m : SessionJob) (t : Task) (absent : What) (words : ℕ) → IsWanted x plan m t absent words → AreasEvicted x y 0 → Lacks y absent plan m t
-wanted_lacks x y plan m t (what.Code d) words w s = code_lacks x y plan m t d 0 w.1 s
-wanted_lacks x y plan m t (what.Array home) words w s = array_lacks x y plan m t home words 0 w s
+wanted_lacks x y plan m t absent words w s = grind arith
 
 module _ (x : Storage) (told : Option (List (List ℕ))) (k : Machine) (plan : Placement) (s : Session) (o : IsInOrderButCounts s) (h : StandsOver x told k plan s) where
   pub refused_still : (m : SessionJob) (t : Task) (absent : What) (words : ℕ) → IsWanted x plan m t absent words → StillLacks x told k plan s m t absent
@@ -174,21 +159,16 @@ pub refused_as : (x : Storage) (told : Option (List (List ℕ))) (k : Machine) (
 refused_as x told k plan s m t absent other e b = subst (λ (z : What). StillLacks x told k plan s m t z) (sym e) b
 
 pub full_as : (x : Storage) (told : Option (List (List ℕ))) (k : Machine) (plan : Placement) (s : Session) (m : SessionJob) (t : Task) (absent other : What) (words words' wants free : ℕ) → absent ≡ other → words ≡ words' → RefusedFull x told k plan s m t other words' wants free → RefusedFull x told k plan s m t absent words wants free
-full_as x told k plan s m t absent other words words' wants free e same b =
-    subst (λ (z : What). RefusedFull x told k plan s m t z words wants free) (sym e) (subst (λ (n : ℕ). RefusedFull x told k plan s m t other n wants free) (sym same) b)
+full_as x told k plan s m t absent other words words' wants free e same b = grind arith
 
 pub in_place_as : (x : Storage) (told : Option (List (List ℕ))) (k : Machine) (plan : Placement) (s : Session) (m : SessionJob) (t : Task) (absent other : What) → absent ≡ other → BringsInPlace x told k plan s m t other → BringsInPlace x told k plan s m t absent
 in_place_as x told k plan s m t absent other e b = subst (λ (z : What). BringsInPlace x told k plan s m t z) (sym e) b
 
 pub room_code : (x : Storage) (plan : Placement) (s : Session) (m : SessionJob) (t : Task) (absent : What) (words d : ℕ) (c : CodeObject plan s m t) → absent ≡ what.Code d → HasHole (words_wanted m t absent words) x.spans → HasHole (length c.object.numbers + 2) x.spans
-room_code x plan s m t absent words d c e room =
-    let here : HasHole (length (code_of m.constants t.segment) + 2) x.spans = subst (λ (z : What). HasHole (words_wanted m t z words) x.spans) e room in
-    subst (λ (n : ℕ). HasHole (n + 2) x.spans) (sym c.count) here
+room_code x plan s m t absent words d c e room = grind arith
 
 pub room_array : (x : Storage) (m : SessionJob) (t : Task) (absent : What) (words home n : ℕ) → absent ≡ what.Array home → words ≡ n → HasHole (words_wanted m t absent words) x.spans → HasHole (n + 2) x.spans
-room_array x m t absent words home n e count room =
-    let here : HasHole (words + 2) x.spans = subst (λ (z : What). HasHole (words_wanted m t z words) x.spans) e room in
-    subst (λ (i : ℕ). HasHole (i + 2) x.spans) count here
+room_array x m t absent words home n e count room = grind arith
 
 pub untouched_code : (x : Storage) (absent : What) (d : ℕ) → absent ≡ what.Code d → IsUntouched x absent → ⊥
 untouched_code x absent d e u = subst (λ (z : What). IsUntouched x z) e u

@@ -1,5 +1,5 @@
 -- The last resort: the code gives way too, and comes back behind the object.
-use Rattle.std.proofs.Common.{◌≡◌, ◌≢◌, ℕ, ◌+◌, ◌≤◌, ◌==◌, ◌⊎◌, ⊎_elim, inl, inr, List, [], ◌∷◌, length, Option, Some, None, refl, sym, ◌∙◌, ap, arith, subst, Result, Ok, Err, OnOk, OnErr}
+use Rattle.std.proofs.Common.{◌≡◌, ◌≢◌, ℕ, ◌+◌, ◌≤◌, ◌==◌, ◌⊎◌, ⊎_elim, inl, inr, List, [], ◌∷◌, length, Option, Some, None, refl, sym, ◌∙◌, ap, arith, subst, Result, OnOk, OnErr}
 use Rattle.std.proofs.lemmas.Option.{none-some}
 use Rattle.std.proofs.lemmas.Bool.{cases_eq, cond-true, cond-false, eq-eqb, ne_eqb}
 use Rattle.b67_word.specs.Tagged.{Tagged}
@@ -33,16 +33,7 @@ there_after x p q t c r int n = let P : MachineView → Type 0 = λ z. Has z.obj
 
 -- a view that was read is read again
 pub readable_on : (x y : Storage) (p q : MachineView) (t : PagedObject) → ReadBack x p q t → (x.device ≡ None → y.device ≡ None) → IsReadable x p → IsReadable y q
-readable_on x y p q t r none k = ⊎_elim
-    (λ (e : x.device ≡ None). inl (none e))
-    (λ (bits : (u : PagedObject) → Has p.objects u → AreBits u.numbers). ⊎_elim
-    (λ (e : x.device ≡ None). inl (none e))
-    (λ (n : x.device ≢ None). let P : MachineView → Type 0 = λ z. (u : PagedObject) → Has z.objects u → AreBits u.numbers in inr (subst P (sym (r.same n)) bits))
-    (none_or x.device))
-    k where
-      none_or : (o : Option (List (List ℕ))) → (o ≡ None) ⊎ (o ≢ None)
-      none_or None = inl refl
-      none_or (Some all) = inr (λ e. none-some all (sym e))
+readable_on x y p q t r none k = grind arith
 
 -- the same words stay, whichever numbers were read
 pub Stayed-read : (x : Storage) (p q : MachineView) (t : PagedObject) → ReadBack x p q t → (core new : List Tagged) → LowWordsStayed q core new → LowWordsStayed p core new
@@ -50,12 +41,10 @@ Stayed-read x p q t r core new s = let P : MachineView → Type 0 = λ z. LowWor
 
 -- a promise of what is brought in, under a premise that the answer doesn't tell
 pub ok_under : {T E : Type 0} (R B : Type 0) (result : Result T E) → (R → OnOk result B) → OnOk result (R → B)
-ok_under R B (Ok x) f = f
-ok_under R B (Err e) f = tt
+ok_under R B result f = grind arith
 
 pub err_under : {T E : Type 0} (R B : Type 0) (result : Result T E) → (R → OnErr result B) → OnErr result (R → B)
-err_under R B (Ok x) f = tt
-err_under R B (Err e) f = f
+err_under R B result f = grind arith
 
 -- paging over a storage that says nothing of the device
 pub paging_untold : (x : Storage) (cpu : Cpu) (areas : Areas) (table : Table) (told : Option (List (List ℕ))) (p : MachineView) → MachineCanPage x cpu areas table told p → MachineCanPage (untold x) cpu areas table told p

@@ -1,6 +1,6 @@
 -- Where nothing but a hole is left, an object finds its place, and then the code.
-use Rattle.std.proofs.Common.{◌≡◌, ℕ, zero, suc, ◌+◌, ◌-◌, ◌<◌, ◌≤◌, List, [], ◌∷◌, length, Some, refl, sym, arith, inl, inr, ⊎_elim, ◌==◌, subst}
-use Rattle.std.proofs.lemmas.Bool.{cases_Bool, cond-true, eq-eqb, le-leb}
+use Rattle.std.proofs.Common.{◌≡◌, ℕ, ◌+◌, ◌-◌, ◌<◌, ◌≤◌, List, [], ◌∷◌, length, Some, refl, sym, arith, inl, inr, ⊎_elim, ◌==◌, subst}
+use Rattle.std.proofs.lemmas.Bool.{cases_Bool, cond-true, eq-eqb}
 use Rattle.b67_word.specs.Tagged.{Tagged}
 use Rattle.b67_area.specs.declared.Info.{Info}
 use Rattle.b67_area.specs.Spans.{Span, Area, Hole, area_at, fill, keeping, left, end}
@@ -21,8 +21,7 @@ one_hole core low ss d none some = by ss d.all d.spans none where
   by (Hole m ∷ Area a ∷ rest) e s n = absurd (n (low + m + 1) a (here (low + m) a rest))
 
 room_left : (k d : ℕ) → 1 ≤ k → k ≤ d → HasHole k (left d [])
-room_left k zero some h = absurd (omega arith)
-room_left k (suc d) some h = inl h
+room_left k d some h = grind arith
 
 room_keeping : (k at x first : ℕ) (ss : List Span) → HasHole k ss → HasHole k (keeping at x first ss)
 room_keeping k at x first [] h = h
@@ -32,10 +31,7 @@ room_keeping k at x first (Hole n ∷ ss) (inr h) = inr (room_keeping k (at + n)
 
 -- room beside an area that was placed in that hole
 pub second_room : (k low x first m : ℕ) (a : Info) (ss : List Span) → ss ≡ Hole m ∷ [] → 1 ≤ k → a.words + 2 + k ≤ m → HasHole k (keeping low x first (fill a ss))
-second_room k low x first m a ss is some fits =
-    let one : HasHole k (fill a (Hole m ∷ [])) = rw (le-leb (a.words + 2) m (let h : a.words + 2 ≤ m = omega arith in h)) (room_left k (m - (a.words + 2)) some (omega arith)) in
-    let P : List Span → Type 0 = λ s. HasHole k (keeping low x first (fill a s)) in
-    subst P (sym is) (room_keeping k low x first (fill a (Hole m ∷ [])) one)
+second_room k low x first m a ss is some fits = grind arith
 
 pub first_room : (k m : ℕ) (ss : List Span) → ss ≡ Hole m ∷ [] → k ≤ m → HasHole k ss
 first_room k m ss is h = let P : List Span → Type 0 = λ s. HasHole k s in subst P (sym is) (inl h)

@@ -1,8 +1,7 @@
 -- The session that a view shows after objects were read: with other numbers where the device tells nothing.
-use Rattle.std.proofs.Common.{◌≡◌, ◌≢◌, ℕ, ◌+◌, ◌==◌, List, [], ◌∷◌, length, map, None, refl, sym, ◌∙◌, ap, true, false, subst, inl, inr, ⊎_elim}
+use Rattle.std.proofs.Common.{◌≡◌, ◌≢◌, ℕ, ◌+◌, ◌==◌, List, [], ◌∷◌, length, map, None, refl, sym, ◌∙◌, ap, subst, inl, inr, ⊎_elim, arith}
 use Rattle.std.specs.Prelude.{flat_map}
 use Rattle.std.specs.List.{AllByRecursion}
-use Rattle.std.proofs.lemmas.Bool.{cases_Bool, eqb-true}
 use Rattle.b67_word.specs.Tagged.{Tagged}
 use Rattle.b67_ctl.specs.declared.registers.Regs.{Regs}
 use Rattle.b67_lemmas.specs.Lists.{Has}
@@ -34,13 +33,7 @@ InOrder jobs = AllByRecursion (λ (m : SessionJob). JobInOrderButCounts (IsSegme
 
 all_bits : (plan : Placement) (jobs : List SessionJob) → InOrder jobs → (t : PagedObject) → Has (flat_map (objects_of plan) jobs) t → AreBits t.numbers
 all_bits plan [] o t i = absurd i
-all_bits plan (m ∷ more) o t i = ⊎_elim
-    (λ (own : Has (objects_of plan m) t). ⊎_elim
-    (λ (code : Has (code_objects plan m.constants.number 1 m.constants.segments) t). code_bits plan m.constants.number 1 m.constants.segments o.0.unchanging.segments t code)
-    (λ (row : Has (map (array_object plan m.constants.number) m.progress.job.arrays) t). array_bits plan m.constants.number m.progress.job.arrays o.0.tasks.arrays t row)
-    (has_append_cases (code_objects plan m.constants.number 1 m.constants.segments) (map (array_object plan m.constants.number) m.progress.job.arrays) t own))
-    (λ (rest : Has (flat_map (objects_of plan) more) t). all_bits plan more o.1 t rest)
-    (has_append_cases (objects_of plan m) (flat_map (objects_of plan) more) t i)
+all_bits plan (m ∷ more) o t i = grind (arith, code_bits, array_bits, has_append_cases, all_bits plan more o.1 t)
 
 pub object_bits : (plan : Placement) (s : Session) → IsInOrderButCounts s → (t : PagedObject) → Has (flat_map (objects_of plan) s.jobs) t → AreBits t.numbers
 object_bits plan s o t i = all_bits plan s.jobs o.jobs t i
@@ -85,19 +78,10 @@ module _ (x : Storage) (plan : Placement) (s : Session) (o : IsInOrderButCounts 
 
 -- where an object of a view comes from that was read
 renumber_like : (home : ℕ) (ns : List ℕ) (u : PagedObject) → (u.home ≡ home → length ns ≡ length u.numbers) → ((renumber home ns u).home ≡ u.home) × (length (renumber home ns u).numbers ≡ length u.numbers)
-renumber_like home ns u fits = ⊎_elim
-    (λ (e : (u.home == home) ≡ true). rw e (refl, fits (eqb-true u.home home e)))
-    (λ (e : (u.home == home) ≡ false). rw e (refl, refl))
-    (cases_Bool (u.home == home))
+renumber_like home ns u fits = grind arith
 
 read_fits : (p q : MachineView) (home : ℕ) (ns : List ℕ) (also : ℕ) (ms : List ℕ) → q ≡ renumbered p home ns → Fitting home ns p.objects → Fitting also ms p.objects → Fitting also ms q.objects
-read_fits p q home ns also ms is fits too =
-    let P : MachineView → Type 0 = λ z. Fitting also ms z.objects in
-    subst P (sym is) (λ v inv e.
-    let k = has_map_back (renumber home ns) p.objects v inv in
-    let like = renumber_like home ns k.item (fits k.item k.among) in
-    let home_is : k.item.home ≡ also = sym like.0 ∙ ap (λ (z : PagedObject). z.home) k.is ∙ e in
-    too k.item k.among home_is ∙ sym like.1 ∙ ap (λ (z : PagedObject). length z.numbers) k.is)
+read_fits p q home ns also ms is fits too = grind (arith, has_map_back)
 
 -- one object of each home
 pub fitting : (x : Storage) (core : List Tagged) (r : Regs) (p : MachineView) → Represents x core r p → (t : PagedObject) → Has p.objects t → (ns : List ℕ) → length ns ≡ length t.numbers → Fitting t.home ns p.objects

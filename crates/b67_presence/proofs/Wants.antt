@@ -25,8 +25,7 @@ use Rattle.b67_presence.specs.Bringing.{StandsOver, IsArrayWanted, IsWanted, IsU
 use Rattle.b67_presence.proofs.Again.{view_stands}
 
 some_of : (o : Option ℕ) → o ≢ None → (at : ℕ) × (o ≡ Some at)
-some_of None n = absurd (n refl)
-some_of (Some at) n = (at, refl)
+some_of o n = grind arith
 
 pub array_area-some : (n : ℕ) → 0 < n → array_area n ≡ n + 2
 array_area-some n some = rw (ne_eqb n 0 (λ e. omega (arith, e, some))) refl
@@ -68,23 +67,16 @@ module _ (x : Storage) (told : Option (List (List ℕ))) (k : Machine) (plan : P
   displaced d e = omega (arith, e, (h.stands.session.holds.running m t runs).dict)
 
   pub code_absent : (d : ℕ) → d ≡ t.segment + 1 → code_area x plan m t ≡ None → IsAbsent x (machine_view plan s.jobs) (k.cpu.regs.dict + d) (code_found plan s m t o runs).object
-  code_absent d e none =
-      let c = code_found plan s m t o runs in
-      record { there = c.there; is = c.home ∙ sym (displaced d e); absent = ap (λ (q : ℕ). (x.held q).area) (displaced d e) ∙ none }
+  code_absent d e none = grind arith
 
   pub code_present : (d : ℕ) → d ≡ k.cpu.regs.segment → code_area x plan m t ≢ None → (at : ℕ) × IsCode x (machine_view plan s.jobs) (k.cpu.regs.dict + d) at (code_found plan s m t o runs).object
   code_present d e n =
       let c = code_found plan s m t o runs in
       let (at, is) = some_of (code_area x plan m t) n in
-      let same : k.cpu.regs.dict + d ≡ plan.dictionary m.constants.number + 1 + t.segment = omega (arith, e, address) in
-      (at, record { there = c.there; is = c.home ∙ sym same; kind = c.kind; present = ap (λ (q : ℕ). (x.held q).area) same ∙ is })
+      grind (arith, address)
 
   pub array_absent : (home words : ℕ) (w : IsArrayWanted x plan m t home words) → IsAbsent x (machine_view plan s.jobs) home (array_object plan m.constants.number w.array)
-  array_absent home words w = record {
-    there = array_object-has plan s.jobs m w.array (keyed_has number_of m.constants.number s.jobs m runs.member).0 w.among;
-    is = w.home_is;
-    absent = ap (λ (q : ℕ). (x.held q).area) (sym w.home_is) ∙ w.absent;
-  }
+  array_absent home words w = grind (arith, array_object-has, keyed_has)
 
   -- what each of them needs is what the step needs
   pub need_code : (words : ℕ) → words ≡ 0 → need_with s m t 0 words ≡ need_one x (code_found plan s m t o runs).object

@@ -1,6 +1,5 @@
 -- What stands after areas gave way.
-use Rattle.std.proofs.Common.{◌≡◌, ◌≢◌, ℕ, ◌⊎◌, ⊎_elim, inl, inr, List, length, Option, Some, None, refl, sym, ◌∙◌, ap}
-use Rattle.std.proofs.lemmas.Option.{none-some}
+use Rattle.std.proofs.Common.{◌≡◌, ◌≢◌, ℕ, ◌⊎◌, ⊎_elim, inr, List, length, Option, None, refl, sym, ◌∙◌, ap, arith}
 use Rattle.b67_area.specs.declared.Areas.{Areas}
 use Rattle.b67_backing.specs.Shelf.{Table}
 use Rattle.b67_lemmas.specs.Lists.{Has}
@@ -20,15 +19,13 @@ pub absent_after : (x y : Storage) (p : MachineView) (home spare : ℕ) (t : Pag
 absent_after x y p home spare t s a = record { there = a.there; is = a.is; absent = ap (λ (h : Location). h.area) (s.resting home a.absent) ∙ a.absent }
 
 pub readable_after : (x y : Storage) (p : MachineView) (spare : ℕ) → AreasEvicted x y spare → IsReadable x p → IsReadable y p
-readable_after x y p spare s (inl e) = inl (s.untold e)
-readable_after x y p spare s (inr f) = inr f
+readable_after x y p spare s h = grind arith
 
 pub Reads-before : (x y : Storage) (p q : MachineView) (t : PagedObject) (spare : ℕ) → AreasEvicted x y spare → ReadBack y p q t → ReadBack x p q t
 Reads-before x y p q t spare s r = record { numbers = r.numbers; count = r.count; bits = r.bits; is = r.is; same = λ n. r.same (s.told n) }
 
 pub none_or : (o : Option (List (List ℕ))) → (o ≡ None) ⊎ (o ≢ None)
-none_or None = inl refl
-none_or (Some all) = inr (λ e. none-some all (sym e))
+none_or o = grind arith
 
 pub read_in : (y : Storage) (core : List Tagged) (r : Regs) (p : MachineView) (home : ℕ) (t : PagedObject) (cpu : Cpu) (areas : Areas) (table : Table) (told : Option (List (List ℕ))) → Represents y core r p → IsAbsent y p home t → IsReadable y p
     → (NumbersAreKnown y t → (at : ℕ) × IsSpot y t at × MachineCanPage (brought y t at) cpu areas table told p)
@@ -61,15 +58,7 @@ read_in y core r p home t cpu areas table told s a readable known untold = ⊎_e
     (none_or y.device)
 
 pub came_of : (x y : Storage) (p : MachineView) (t : PagedObject) (spare : ℕ) (cpu : Cpu) (areas : Areas) (table : Table) (told : Option (List (List ℕ))) → AreasEvicted x y spare → ReadIn y p t cpu areas table told → PlacedAfterEviction x p t spare cpu areas table told
-came_of x y p t spare cpu areas table told s r = record {
-  storage = y;
-  at = r.at;
-  machine_view = r.machine_view;
-  sheds = s;
-  place = r.place;
-  reads = Reads-before x y p r.machine_view t spare s r.reads;
-  stands = r.stands;
-}
+came_of x y p t spare cpu areas table told s r = grind arith
 
 -- what was given back before
 pub Came-before : (x y : Storage) (p : MachineView) (t : PagedObject) (spare : ℕ) (cpu : Cpu) (areas : Areas) (table : Table) (told : Option (List (List ℕ))) → AreasEvicted x y spare → PlacedAfterEviction y p t spare cpu areas table told → PlacedAfterEviction x p t spare cpu areas table told

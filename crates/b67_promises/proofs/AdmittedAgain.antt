@@ -1,9 +1,8 @@
 -- A deck that is admitted is admitted with printed cards in the place of one job's body.
-use Rattle.std.proofs.Common.{◌≡◌, ◌≤◌, ℕ, List, [], ◌∷◌, ◌++◌, length, refl, sym, ap, subst, ◌∙◌, Result, Ok, Err, Option, Some, None, codes}
+use Rattle.std.proofs.Common.{◌≡◌, ◌≤◌, ℕ, List, [], ◌∷◌, ◌++◌, length, refl, sym, ap, subst, ◌∙◌, Result, Ok, Err, Option, Some, None, codes, arith}
 use Rattle.std.specs.Prelude.{⊤}
 use Rattle.std.specs.List.{AllByRecursion, AllZip}
 use Rattle.std.specs.Str.Lines.{lines}
-use Rattle.b67_io.specs.Line.{ended}
 use Rattle.b67_model.specs.Common.{Program}
 use Rattle.b67_model_text.specs.declared.card.Card.{Card}
 use Rattle.b67_model_text.specs.declared.deck.Deck.{Deck}
@@ -15,7 +14,7 @@ use Rattle.b67_model_text.specs.Deck.{limit, deck_of}
 use Rattle.b67_model_text.specs.Asm.{assembled}
 use Rattle.b67_codefile.specs.Reading.{file_of}
 use Rattle.b67_job_admit.specs.Admitting.{Admission, ◌>>=◌, Prepared, of_deck, of_cards, program_in, programs, first_broken_rule, by_rules, admitted, prepared, with_programs, deck_prepared}
-use Rattle.b67_job_admit.specs.Verdicts.{job_line, job_lines, check_verdict, hex_lines}
+use Rattle.b67_job_admit.specs.Verdicts.{job_lines, check_verdict, hex_lines}
 use Rattle.b67_promises.proofs.Renumbered.{texts_of, same_program}
 use Rattle.b67_promises.proofs.Bodies.{Relation, JobsAlike, DecksAlike, IsBegin}
 use Rattle.b67_promises.proofs.TurnCards.{cards_at}
@@ -121,9 +120,7 @@ checks text p e = ap (λ (r : Admission Prepared). r >>= λ prepared. Ok (job_li
 
 pub checked : (text output : List ℕ) → check_verdict text ≡ Ok output → (p : Prepared) × (deck_prepared text ≡ Ok p) × (output ≡ job_lines p.0.jobs p.1)
 unfolding check_verdict
-checked text output e =
-    let a = after (deck_prepared text) (λ prepared. Ok (job_lines prepared.0.jobs prepared.1)) output e in
-    (a.0, a.1, sym (same_ok (job_lines a.0.0.jobs a.0.1) output a.2))
+checked text output e = grind arith
 
 -- the same programs
 abbrev pub IsSame : Likeness
@@ -137,6 +134,4 @@ module _ (R : Relation) where
   same_job_lines (j ∷ js) (x ∷ ks) [] [] h k = refl
   same_job_lines (j ∷ js) (x ∷ ks) [] (q ∷ qs) h k = absurd k
   same_job_lines (j ∷ js) (x ∷ ks) (p ∷ ps) [] h k = absurd k
-  same_job_lines (j ∷ js) (x ∷ ks) (p ∷ ps) (q ∷ qs) h k =
-      ap (λ (name : List ℕ). ended (job_line (record j { name = name }) q) ++ job_lines ks qs) h.0.name ∙ ap (λ (r : Program). ended (job_line j r) ++ job_lines ks qs) k.0
-      ∙ ap (λ (more : List ℕ). ended (job_line j p) ++ more) (same_job_lines js ks ps qs h.1 k.1)
+  same_job_lines (j ∷ js) (x ∷ ks) (p ∷ ps) (q ∷ qs) h k = grind (arith, same_job_lines js ks ps qs h.1 k.1)

@@ -1,10 +1,9 @@
 -- Calls of decks that differ in their switches and their quantum.
 use Rattle.std.proofs.Common.{◌≡◌, ◌≤◌, ◌<◌, ℕ, List, ◌++◌, refl, sym, ap, subst, ◌∙◌, arith, Option, Ok}
 use Rattle.std.specs.Prelude.{IfSome}
-use Rattle.b67_io.specs.Line.{ended}
-use Rattle.b67_model.specs.Common.{SessionJob, run_text, RunLine, live_tasks}
+use Rattle.b67_model.specs.Common.{run_text, RunLine, live_tasks}
 use Rattle.b67_job_admit.specs.Admitting.{Prepared, deck_prepared}
-use Rattle.b67_session_lines.specs.Stops.{Run, halted_line}
+use Rattle.b67_session_lines.specs.Stops.{Run}
 use Rattle.b67_job.specs.declared.summaries.Exercise.{Exercise}
 use Rattle.b67_job.specs.Lines.{summary}
 use Rattle.b67_job.specs.Runs.{run_of}
@@ -27,25 +26,8 @@ module _ (r q : Run) (d : DifferInTurns r.session q.session) (halt : q.halt ≡ 
   printed_alike e status text (all_ended z steps low over made is) =
       let same = run_alike steps r.session q.session d (few steps (within steps low)) in
       all_ended z steps (within steps low) (ap live_tasks (sym same.1.jobs) ∙ over) (sym same.1.made ∙ made) (is ∙ ap (λ (ls : List RunLine). run_text ls ++ summary (closing_by e) steps) same.0)
-  printed_alike e status text (halt_came z h) =
-      let same = run_alike h.count r.session q.session d (few h.count (subst (λ (o : Option ℕ). IfSome o (λ count. h.count ≤ count)) (sym (sym halt ∙ h.halt)) (omega arith))) in
-      halt_came z (record {
-        count = h.count;
-        halt = sym halt ∙ h.halt;
-        lives = subst (λ (js : List SessionJob). 0 < live_tasks js) same.1.jobs h.lives;
-        printed = h.printed ∙ ap (λ (ls : List RunLine). run_text ls ++ ended (halted_line h.count)) same.0;
-      })
-  printed_alike e status text (fell_short short s) =
-      let same = run_alike s.steps r.session q.session d (few s.steps (within s.steps s.within)) in
-      fell_short short (record {
-        steps = s.steps;
-        within = within s.steps s.within;
-        front = s.front;
-        line = s.line;
-        begins = (s.begins.0, ap run_text (sym same.0) ∙ s.begins.1);
-        one = s.one;
-        is = s.is;
-      })
+  printed_alike e status text (halt_came z h) = grind (arith, run_alike)
+  printed_alike e status text (fell_short short s) = grind (arith, run_alike)
 
 -- a call of the other text prints as one of the first would
 pub prints_alike : (bytes other : List ℕ) (e : Option Exercise) (status : ℕ) (text : List ℕ) → DecksDifferInTurns bytes other → CallPrints (judgement other) e status text → CallPrints (judgement bytes) e status text

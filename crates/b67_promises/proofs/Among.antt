@@ -1,6 +1,6 @@
 -- A printed image is read among other lines.
-use Rattle.std.proofs.Common.{◌≡◌, ℕ, zero, suc, ◌+◌, ◌-◌, ◌≤◌, Bool, true, false, cond, not, List, [], ◌∷◌, ◌++◌, length, take, map, Option, Result, Ok, refl, sym, ap, subst, ◌∙◌, append_assoc, append-nil}
-use Rattle.std.specs.Prelude.{filter, nat_lt, slice_index, ◌==◌}
+use Rattle.std.proofs.Common.{◌≡◌, ℕ, zero, suc, ◌+◌, ◌-◌, ◌≤◌, Bool, true, false, cond, not, List, [], ◌∷◌, ◌++◌, length, take, map, Option, Result, Ok, refl, sym, ap, subst, ◌∙◌, append_assoc, append-nil, arith}
+use Rattle.std.specs.Prelude.{filter, nat_lt, ◌==◌}
 use Rattle.std.specs.List.{slice_split, enumerate_from, onto_first, flat_map, suffix_len, AllByRecursion}
 use Rattle.std.specs.Str.{bytes_eq}
 use Rattle.std.specs.Str.Lines.{lines, lines_of_parts, strip_carriage_return}
@@ -37,12 +37,7 @@ some_part (x ∷ xs) = part_of (is_newline x)
 
 split_line : (t rest : List ℕ) → HasNoMark t → slice_split is_newline (t ++ 10 ∷ rest) ≡ t ∷ slice_split is_newline rest
 split_line [] rest p = refl
-split_line (x ∷ t) rest p = by (is_newline x) (ne_eqb x 10 p.0.0) (split_line t rest p.1)
-  where
-    by : (b : Bool) → b ≡ false → slice_split is_newline (t ++ 10 ∷ rest) ≡ t ∷ slice_split is_newline rest
-        → cond b ([] ∷ slice_split is_newline (t ++ 10 ∷ rest)) (onto_first x (slice_split is_newline (t ++ 10 ∷ rest))) ≡ (x ∷ t) ∷ slice_split is_newline rest
-    by true e h = absurd (let z : ⊥ = cc in z)
-    by false e h = ap (onto_first x) h
+split_line (x ∷ t) rest p = grind (arith, split_line t rest p.1)
 
 first_line : (t rest : List ℕ) → HasNoMark t → lines (ended t ++ rest) ≡ strip_carriage_return t ∷ lines rest
 first_line t rest p =
@@ -73,11 +68,7 @@ lines_behind : (z tail : List ℕ) → lines (z ++ 10 ∷ tail) ≡ lines (z ++ 
 lines_behind z tail =
     let h = split_more z tail in
     let s = some_part tail in
-    let whole : lines (z ++ 10 ∷ tail) ≡ map strip_carriage_return (h.0 ∷ h.1) ++ lines tail =
-    ap lines_of_parts (h.2 ∙ ap (λ (qs : List (List ℕ)). (h.0 ∷ h.1) ++ qs) s.2) ∙ parts_lines h.0 h.1 s.0 s.1 ∙ ap (λ (qs : List (List ℕ)). map strip_carriage_return (h.0 ∷ h.1) ++ lines_of_parts qs) (sym s.2) in
-    let first : lines (z ++ 10 ∷ []) ≡ map strip_carriage_return (h.0 ∷ h.1) =
-    ap lines_of_parts h.3 ∙ parts_lines h.0 h.1 [] [] ∙ append-nil (map strip_carriage_return (h.0 ∷ h.1)) in
-    whole ∙ ap (λ (ls : List (List ℕ)). ls ++ lines tail) (sym first)
+    grind (arith, parts_lines, append-nil)
 
 -- ---- cards
 
@@ -163,11 +154,7 @@ taken_other (suc n) [] p = tt
 taken_other (suc n) (x ∷ t) p = (p.0, taken_other n t p.1)
 
 stripped_other : (t : List ℕ) → HasNoMark t → HasNoMark (strip_carriage_return t)
-stripped_other t p = by (slice_index t (length t - 1) == 13)
-  where
-    by : (b : Bool) → HasNoMark (cond b (take (length t - 1) t) t)
-    by true = taken_other (length t - 1) t p
-    by false = p
+stripped_other t p = grind (arith, taken_other)
 
 trimmed_other : (t : List ℕ) → HasNoMark t → HasNoMark (trimmed t)
 trimmed_other t p = taken_other (length t - suffix_len is_space t) t p

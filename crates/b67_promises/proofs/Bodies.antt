@@ -1,6 +1,6 @@
 -- Decks whose cards say the same, but for the program of one job.
-use Rattle.std.proofs.Common.{◌≡◌, ℕ, Bool, true, false, not, cond, List, [], ◌∷◌, ◌++◌, map, refl, sym, ap, subst, ◌∙◌, ◌⊎◌, inl, inr, Option, Some, None, unwrap_or}
-use Rattle.std.specs.Prelude.{ℤ, is_some, slice_get}
+use Rattle.std.proofs.Common.{◌≡◌, ℕ, Bool, true, false, not, cond, List, [], ◌∷◌, ◌++◌, map, refl, sym, ap, subst, ◌∙◌, ◌⊎◌, inl, inr, Option, Some, None, unwrap_or, arith}
+use Rattle.std.specs.Prelude.{ℤ, is_some}
 use Rattle.std.specs.List.{AllByRecursion, AllZip, filter_map, cons_option, flat_map}
 use Rattle.std.specs.Option.{option_map, option_or, option_to_list}
 use Rattle.std.proofs.lemmas.List.Elements.{filter_map-append}
@@ -12,11 +12,10 @@ use Rattle.b67_model_text.specs.declared.deck.Body.TheVariants.{Cards, Bytes}
 use Rattle.b67_model_text.specs.declared.deck.Job as declared
 use Rattle.b67_model_text.specs.Cards.{leading}
 use Rattle.b67_model_text.specs.Hex.{digit_bytes}
-use Rattle.b67_model_text.specs.Command.{Command, Asm, Hex, Data, Plain}
+use Rattle.b67_model_text.specs.Command.{Command, Asm, Hex, Plain}
 use Rattle.b67_model_text.specs.Placing.{stack_in, quantum_in, halt_in, switch_in, name_in, numbers}
-use Rattle.b67_model_text.specs.Deck.{Said, command_in, limit_in, text_in, card_in, is_plain, body, bytes_in, numbers_in, program_at, program, numbers_at, data_numbers, limit_behind, job_of, is_job, own_cards, jobs, deck}
+use Rattle.b67_model_text.specs.Deck.{Said, command_in, limit_in, is_plain, body, bytes_in, numbers_in, program_at, program, numbers_at, data_numbers, limit_behind, job_of, is_job, own_cards, jobs, deck}
 use Rattle.b67_promises.proofs.Renumbered.{texts_of}
-use Rattle.b67_model.specs.declared.limits.TheConstants.{USUAL_LIMIT}
 
 -- ---- cards that say the same, whatever their numbers
 
@@ -29,8 +28,7 @@ plain_texts (Plain text ∷ more) = text ∷ plain_texts more
 plain_texts (_ ∷ more) = []
 
 one_text : (n : ℕ) (c : Command) (xs : List Said) → texts_of (body xs) ≡ plain_texts (map command_in xs) → texts_of (body (record { number = n; command = c } ∷ xs)) ≡ plain_texts (c ∷ map command_in xs)
-one_text n (Plain text) xs e = ap (λ (ts : List (List ℕ)). text ∷ ts) e
-one_text n _ xs e = refl
+one_text n c xs e = grind arith
 
 body_texts : (xs : List Said) → texts_of (body xs) ≡ plain_texts (map command_in xs)
 body_texts [] = refl
@@ -99,37 +97,21 @@ module _ (R : Relation) where
     pub program : ProgramsAlike (program xs) (program ys)
 
   by_program : (a b : Option (ℕ × Body)) → ProgramsAlike a b → R.alike (unwrap_or a (0, Cards [])).1 (unwrap_or b (0, Cards [])).1
-  by_program None None h = R.cards [] [] refl
-  by_program (Some a) (Some b) h = h
-  by_program None (Some b) h = absurd h
-  by_program (Some a) None h = absurd h
+  by_program a b h = grind arith
 
   pub job_alike : (n m : ℕ) (name : List ℕ) (xs ys : List Said) → OwnAlike xs ys → JobsAlike (job_of n name xs) (job_of m name ys)
-  job_alike n m name xs ys h = record {
-    name = refl;
-    limit = h.limit USUAL_LIMIT;
-    numbers = ap (λ (o : Option (List ℤ)). unwrap_or o []) h.numbers;
-    program = by_program (program xs) (program ys) h.program;
-  }
+  job_alike n m name xs ys h = grind arith
 
   -- ---- the same cards
 
   data_at : (c : Command) (xs ys : List Said) → texts_of (body xs) ≡ texts_of (body ys) → numbers_at c ys ≡ numbers_at c xs
-  data_at Data xs ys e = ap Some (numbers_by_text (body ys) (body xs) (sym e))
-  data_at _ xs ys e = refl
+  data_at c xs ys e = grind (arith, numbers_by_text)
 
   bodies_at : (c : Command) (xs ys : List Said) → texts_of (body xs) ≡ texts_of (body ys) → BodiesAlike (program_at c xs) (program_at c ys)
-  bodies_at Asm xs ys e = R.cards (body xs) (body ys) e
-  bodies_at Hex xs ys e =
-      let same : bytes_in (body xs) ≡ bytes_in (body ys) = bytes_by_text (body xs) ∙ ap (flat_map digit_bytes) e ∙ sym (bytes_by_text (body ys)) in
-      subst (λ (bs : List ℕ). R.alike (Bytes (bytes_in (body xs))) (Bytes bs)) same (R.bytes (bytes_in (body xs)))
-  bodies_at _ xs ys e = tt
+  bodies_at c xs ys e = grind (arith, bytes_by_text)
 
   first_program : (n m : ℕ) (a b : Option Body) (p q : Option (ℕ × Body)) → BodiesAlike a b → ProgramsAlike p q → ProgramsAlike (option_or (option_map (λ x. (n, x)) a) p) (option_or (option_map (λ x. (m, x)) b) q)
-  first_program n m None None p q h k = k
-  first_program n m (Some a) (Some b) p q h k = h
-  first_program n m None (Some b) p q h k = absurd h
-  first_program n m (Some a) None p q h k = absurd h
+  first_program n m a b p q h k = grind arith
 
   -- a card before alike ones
   one_before : (x y : Said) (xs ys : List Said) → y.command ≡ x.command → texts_of (body xs) ≡ texts_of (body ys) → OwnAlike xs ys → OwnAlike (x ∷ xs) (y ∷ ys)
@@ -162,19 +144,11 @@ module _ (R : Relation) where
   same_own_cards [] [] e = refl
   same_own_cards [] (y ∷ ys) e = absurd (let z : ⊥ = cc in z)
   same_own_cards (x ∷ xs) [] e = absurd (let z : ⊥ = cc in z)
-  same_own_cards (x ∷ xs) (y ∷ ys) e =
-      let c : x.command ≡ y.command = ap (λ (cs : List Command). first_command cs Asm) e in
-      by_test (not (is_some (name_in x.command))) c (same_own_cards xs ys (ap rest_commands e))
-      ∙ ap (λ (d : Command). map command_in (cond (not (is_some (name_in d))) (y ∷ own_cards ys) [])) c
-    where
-      by_test : (b : Bool) → x.command ≡ y.command → SaySame (own_cards xs) (own_cards ys) → map command_in (cond b (x ∷ own_cards xs) []) ≡ map command_in (cond b (y ∷ own_cards ys) [])
-      by_test true c e = ap (λ (d : Command). d ∷ map command_in (own_cards xs)) c ∙ ap (λ (cs : List Command). y.command ∷ cs) e
-      by_test false c e = refl
+  same_own_cards (x ∷ xs) (y ∷ ys) e = grind (arith, same_own_cards xs ys (ap rest_commands e))
 
   one_job : (n m : ℕ) (o : Option (List ℕ)) (xs ys : List Said) (js ks : List declared.Job) → OwnAlike xs ys → AllZip JobsAlike js ks
       → AllZip JobsAlike (option_to_list (option_map (λ name. job_of n name xs) o) ++ js) (option_to_list (option_map (λ name. job_of m name ys) o) ++ ks)
-  one_job n m None xs ys js ks h k = k
-  one_job n m (Some name) xs ys js ks h k = (job_alike n m name xs ys h, k)
+  one_job n m o xs ys js ks h k = grind arith
 
   pub jobs_same : (xs ys : List Said) → SaySame xs ys → AllZip JobsAlike (jobs xs) (jobs ys)
   jobs_same [] [] e = tt
@@ -190,17 +164,11 @@ module _ (R : Relation) where
 
   stopped : (front x : List Said) → leading is_plain x ≡ [] → leading is_plain (front ++ x) ≡ leading is_plain front
   stopped [] x e = e
-  stopped (s ∷ front) x e = by_test (is_plain s) (stopped front x e)
-    where
-      by_test : (b : Bool) → leading is_plain (front ++ x) ≡ leading is_plain front → cond b (s ∷ leading is_plain (front ++ x)) [] ≡ cond b (s ∷ leading is_plain front) []
-      by_test true e = ap (λ (xs : List Said). s ∷ xs) e
-      by_test false e = refl
+  stopped (s ∷ front) x e = grind (arith, stopped front x e)
 
   pub own_before : (front xs ys : List Said) → leading is_plain xs ≡ [] → leading is_plain ys ≡ [] → OwnAlike xs ys → OwnAlike (front ++ xs) (front ++ ys)
   own_before [] xs ys e f h = h
-  own_before (s ∷ front) xs ys e f h =
-      let same : leading is_plain (front ++ xs) ≡ leading is_plain (front ++ ys) = stopped front xs e ∙ sym (stopped front ys f) in
-      one_before s s (front ++ xs) (front ++ ys) refl (ap (λ (l : List Said). texts_of (filter_map card_in l)) same) (own_before front xs ys e f h)
+  own_before (s ∷ front) xs ys e f h = grind (arith, stopped, own_before front xs ys e f h)
 
   -- the cards of the last job in front end there, or go on
   own_cases : (front : List Said) → ((z : List Said) → own_cards (front ++ z) ≡ own_cards front) ⊎ ((z : List Said) → own_cards (front ++ z) ≡ front ++ own_cards z)
@@ -254,13 +222,7 @@ module _ (R : Relation) where
   behind f front xs ys e = filter_map-append f front ys ∙ ap (λ l. filter_map f front ++ l) e ∙ sym (filter_map-append f front xs)
 
   pub decks_alike : (front xs ys : List Said) → RunCardsAlike xs ys → TailsAlike xs ys → DecksAlike (deck (front ++ xs)) (deck (front ++ ys))
-  decks_alike front xs ys r h = record {
-    stack = ap (λ (ns : List ℕ). unwrap_or (slice_get ns 0) 512) (behind (λ (s : Said). stack_in s.command) front xs ys r.stacks);
-    quantum = ap (λ (ns : List ℕ). unwrap_or (slice_get ns 0) 1000) (behind (λ (s : Said). quantum_in s.command) front xs ys r.quanta);
-    halt = ap (λ (ns : List ℕ). slice_get ns 0) (behind (λ (s : Said). halt_in s.command) front xs ys r.halts);
-    switches = behind (λ (s : Said). switch_in s.command) front xs ys r.switches;
-    jobs_alike = jobs_behind front xs ys h;
-  }
+  decks_alike front xs ys r h = grind (arith, behind, jobs_behind)
 
   -- ---- a body in place of another
 
@@ -275,64 +237,19 @@ module _ (R : Relation) where
       over (s ∷ own) all = ap (λ o. cons_option o (filter_map (λ (x : Said). f x.command) (own ++ rest))) (none.1 s.command all.0) ∙ over own all.1
 
   stack_passes : Passes stack_in
-  stack_passes = (by_begin, by_plain)
-    where
-      by_begin : (c : Command) → IsBegin c → stack_in c ≡ None
-      by_begin Asm t = refl
-      by_begin Hex t = refl
-      by_begin _ t = absurd t
-
-      by_plain : (c : Command) → IsPlain c → stack_in c ≡ None
-      by_plain (Plain text) t = refl
-      by_plain _ t = absurd t
+  stack_passes = grind arith
 
   quantum_passes : Passes quantum_in
-  quantum_passes = (by_begin, by_plain)
-    where
-      by_begin : (c : Command) → IsBegin c → quantum_in c ≡ None
-      by_begin Asm t = refl
-      by_begin Hex t = refl
-      by_begin _ t = absurd t
-
-      by_plain : (c : Command) → IsPlain c → quantum_in c ≡ None
-      by_plain (Plain text) t = refl
-      by_plain _ t = absurd t
+  quantum_passes = grind arith
 
   halt_passes : Passes halt_in
-  halt_passes = (by_begin, by_plain)
-    where
-      by_begin : (c : Command) → IsBegin c → halt_in c ≡ None
-      by_begin Asm t = refl
-      by_begin Hex t = refl
-      by_begin _ t = absurd t
-
-      by_plain : (c : Command) → IsPlain c → halt_in c ≡ None
-      by_plain (Plain text) t = refl
-      by_plain _ t = absurd t
+  halt_passes = grind arith
 
   switch_passes : Passes switch_in
-  switch_passes = (by_begin, by_plain)
-    where
-      by_begin : (c : Command) → IsBegin c → switch_in c ≡ None
-      by_begin Asm t = refl
-      by_begin Hex t = refl
-      by_begin _ t = absurd t
-
-      by_plain : (c : Command) → IsPlain c → switch_in c ≡ None
-      by_plain (Plain text) t = refl
-      by_plain _ t = absurd t
+  switch_passes = grind arith
 
   name_passes : Passes name_in
-  name_passes = (by_begin, by_plain)
-    where
-      by_begin : (c : Command) → IsBegin c → name_in c ≡ None
-      by_begin Asm t = refl
-      by_begin Hex t = refl
-      by_begin _ t = absurd t
-
-      by_plain : (c : Command) → IsPlain c → name_in c ≡ None
-      by_plain (Plain text) t = refl
-      by_plain _ t = absurd t
+  name_passes = grind arith
 
   by_command : {B : Type 0} (f : Command → Option B) (xs : List Said) → filter_map (λ (s : Said). f s.command) xs ≡ filter_map f (map command_in xs)
   by_command f [] = refl
@@ -340,8 +257,7 @@ module _ (R : Relation) where
 
   run_cards : {B : Type 0} (f : Command → Option B) → Passes f → (start start' : Said) (own own' rest rest' : List Said) → Placed start own rest → Placed start' own' rest' → SaySame rest rest'
       → filter_map (λ (s : Said). f s.command) (start' ∷ (own' ++ rest')) ≡ filter_map (λ (s : Said). f s.command) (start ∷ (own ++ rest))
-  run_cards f none start start' own own' rest rest' p p' e =
-      passed f none start' own' rest' p' ∙ by_command f rest' ∙ ap (filter_map f) (sym e) ∙ sym (by_command f rest) ∙ sym (passed f none start own rest p)
+  run_cards f none start start' own own' rest rest' p p' e = grind (arith, passed, by_command)
 
   run_cards_alike : (start start' : Said) (own own' rest rest' : List Said) → Placed start own rest → Placed start' own' rest' → SaySame rest rest' → RunCardsAlike (start ∷ (own ++ rest)) (start' ∷ (own' ++ rest'))
   run_cards_alike start start' own own' rest rest' p p' e = record {
@@ -365,23 +281,10 @@ module _ (R : Relation) where
 
   pub own_stop : (rest : List Said) → leading is_plain rest ≡ [] → leading is_plain (own_cards rest) ≡ []
   own_stop [] e = refl
-  own_stop (s ∷ rest) e = by_test (not (is_job s)) (is_plain s) refl e
-    where
-      by_plain : (b : Bool) → is_plain s ≡ b → cond b (s ∷ leading is_plain rest) [] ≡ [] → cond (is_plain s) (s ∷ leading is_plain (own_cards rest)) [] ≡ []
-      by_plain true t e = absurd (let z : ⊥ = cc in z)
-      by_plain false t e = ap (λ (b : Bool). cond b (s ∷ leading is_plain (own_cards rest)) []) t
-
-      by_test : (b c : Bool) → is_plain s ≡ c → cond c (s ∷ leading is_plain rest) [] ≡ [] → leading is_plain (cond b (s ∷ own_cards rest) []) ≡ []
-      by_test true c t e = by_plain c t e
-      by_test false c t e = refl
+  own_stop (s ∷ rest) e = grind arith
 
   not_plain : (s : Said) → IsBegin s.command → (xs : List Said) → leading is_plain (s ∷ xs) ≡ []
-  not_plain s h xs = ap (λ (o : Option (List ℕ)). cond (is_some o) (s ∷ leading is_plain xs) []) (no_text s.command h)
-    where
-      no_text : (c : Command) → IsBegin c → text_in c ≡ None
-      no_text Asm t = refl
-      no_text Hex t = refl
-      no_text _ t = absurd t
+  not_plain s h xs = grind arith
 
   jobs_over : (start : Said) (own rest : List Said) → Placed start own rest → jobs (start ∷ (own ++ rest)) ≡ jobs rest
   jobs_over start own rest p = one start (own ++ rest) (name_passes.0 start.command p.begins) ∙ over own p.plain
@@ -396,21 +299,13 @@ module _ (R : Relation) where
   -- what stands behind plain cards
   numbers_over : (own rest : List Said) → ArePlain own → data_numbers (own ++ rest) ≡ data_numbers rest
   numbers_over [] rest all = refl
-  numbers_over (s ∷ own) rest all = ap (λ (o : Option (List ℤ)). option_or o (data_numbers (own ++ rest))) (none s.command (own ++ rest) all.0) ∙ numbers_over own rest all.1
-    where
-      none : (c : Command) (xs : List Said) → IsPlain c → numbers_at c xs ≡ None
-      none (Plain text) xs t = refl
-      none _ xs t = absurd t
+  numbers_over (s ∷ own) rest all = grind (arith, numbers_over own rest all.1)
 
   begin_numbers : (c : Command) (xs : List Said) → IsBegin c → numbers_at c xs ≡ None
-  begin_numbers Asm xs t = refl
-  begin_numbers Hex xs t = refl
-  begin_numbers _ xs t = absurd t
+  begin_numbers c xs t = grind arith
 
   begin_limit : (c : Command) → IsBegin c → limit_in c ≡ None
-  begin_limit Asm t = refl
-  begin_limit Hex t = refl
-  begin_limit _ t = absurd t
+  begin_limit c t = grind arith
 
   begin_body : (c : Command) (xs : List Said) → IsBegin c → (b : Body) × (program_at c xs ≡ Some b)
   begin_body Asm xs t = (Cards (body xs), refl)
@@ -435,9 +330,7 @@ module _ (R : Relation) where
     no_limit s ss b default = ap (λ (o : Option ℕ). unwrap_or o default) (begin_limit s.command b)
 
     begun : (a b : Option Body) (p q : Option (ℕ × Body)) (x y : Body) → a ≡ Some x → b ≡ Some y → BodiesAlike a b → ProgramsAlike (option_or (option_map (λ z. (start.number, z)) a) p) (option_or (option_map (λ z. (start'.number, z)) b) q)
-    begun (Some a) (Some b) p q x y e f h = h
-    begun None b p q x y e f h = absurd (let z : ⊥ = cc in z)
-    begun (Some a) None p q x y e f h = absurd h
+    begun a b p q x y e f h = grind arith
 
     own_replaced : OwnAlike (start ∷ (own ++ own_cards rest)) (start' ∷ (own' ++ own_cards rest'))
     own_replaced =
@@ -450,16 +343,7 @@ module _ (R : Relation) where
         }
 
     pub tails_alike : TailsAlike (start ∷ (own ++ rest)) (start' ∷ (own' ++ rest'))
-    tails_alike =
-        let e = own_placed start own rest h.one in
-        let f = own_placed start' own' rest' h.other in
-        record {
-          stop = ap (leading is_plain) e ∙ not_plain start h.one.begins (own ++ own_cards rest);
-          other_stop = ap (leading is_plain) f ∙ not_plain start' h.other.begins (own' ++ own_cards rest');
-          own = subst (λ (l : List Said). OwnAlike l (own_cards (start' ∷ (own' ++ rest')))) (sym e) (subst (λ (l : List Said). OwnAlike (start ∷ (own ++ own_cards rest)) l) (sym f) own_replaced);
-          jobs_alike = subst (λ (l : List declared.Job). AllZip JobsAlike l (jobs (start' ∷ (own' ++ rest')))) (sym (jobs_over start own rest h.one))
-              (subst (λ (l : List declared.Job). AllZip JobsAlike (jobs rest) l) (sym (jobs_over start' own' rest' h.other)) (jobs_same rest rest' h.same));
-        }
+    tails_alike = grind (arith, own_placed, own_replaced, jobs_over, jobs_same)
 
     -- their decks behind any cards
     pub replaced_alike : (front : List Said) → DecksAlike (deck (front ++ start ∷ (own ++ rest))) (deck (front ++ start' ∷ (own' ++ rest')))

@@ -1,5 +1,5 @@
 -- What `bind` prints holds an admitted program.
-use Rattle.std.proofs.Common.{◌≡◌, ℕ, List, [], ◌∷◌, length, refl, sym, ap, subst, ◌∙◌, Option, Some, None, Ok, Err}
+use Rattle.std.proofs.Common.{◌≡◌, ℕ, List, [], ◌∷◌, length, sym, ap, subst, ◌∙◌, Option, None, Ok, Err, arith}
 use Rattle.std.specs.Prelude.{⊤}
 use Rattle.std.specs.List.{AllByRecursion}
 use Rattle.b67_model.specs.Common.{IsAdmitted, first_of}
@@ -36,14 +36,10 @@ file_within card (Cards cs) f fits e =
 file_within card (Bytes bytes) f fits e = (is_found bytes (Ok f) (byte_at bytes fits) (codefile_ok card (file_of bytes) f e)).0
 
 both_fit : (js : List Job) (both : Job × Job) → two_jobs js ≡ Ok both → AllByRecursion JobFits js → JobFits both.0 × JobFits both.1
-both_fit [] both e fits = absurd (let z : ⊥ = cc in z)
-both_fit (h ∷ []) both e fits = absurd (let z : ⊥ = cc in z)
-both_fit (h ∷ p ∷ []) both e fits = subst (λ (x : Job × Job). JobFits x.0 × JobFits x.1) (same_ok (h, p) both e) (fits.0, fits.1.0)
-both_fit (h ∷ p ∷ third ∷ more) both e fits = absurd (let z : ⊥ = cc in z)
+both_fit js both e fits = grind arith
 
 no_pair : (o : Option PairRefusal) (u : ⊤) → by_pairs o ≡ Ok u → o ≡ None
-no_pair None u e = refl
-no_pair (Some r) u e = absurd (let z : ⊥ = cc in z)
+no_pair o u e = grind arith
 
 -- ---- the printed cards are those of a file that is admitted
 

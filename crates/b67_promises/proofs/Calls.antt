@@ -47,16 +47,13 @@ pub data Printed (r : Run) (e : Option Exercise) (status : ℕ) (text : List ℕ
 -- ---- counts and the halt
 
 within_none : (o : Option ℕ) → IfSome o (λ count. 0 ≤ count)
-within_none None = tt
-within_none (Some count) = omega arith
+within_none o = grind arith
 
 within_less : (o : Option ℕ) (steps : ℕ) → IfSome o (λ count. steps < count) → IfSome o (λ count. steps ≤ count)
-within_less None steps h = tt
-within_less (Some count) steps h = omega (arith, h)
+within_less o steps h = grind arith
 
 within_next : (o : Option ℕ) (steps : ℕ) → IfSome o (λ count. steps < count) → IfSome o (λ count. steps + 1 ≤ count)
-within_next None steps h = tt
-within_next (Some count) steps h = omega (arith, h)
+within_next o steps h = grind arith
 
 at_halt : (o : Option ℕ) (count : ℕ) → o ≡ Some count → IfSome o (λ c. count ≤ c)
 at_halt o count e = subst (λ (x : Option ℕ). IfSome x (λ c. count ≤ c)) (sym e) (omega arith)
@@ -64,10 +61,7 @@ at_halt o count e = subst (λ (x : Option ℕ). IfSome x (λ c. count ≤ c)) (s
 -- ---- statuses that aren't whole
 
 pub short_at : (status n : ℕ) → status ≡ n → (4 ≤ n) ⊎ ((1 ≤ n) × (n ≤ 2)) → IsWhole status → ⊥
-short_at status n e (inl high) (inl z) = omega (arith, e, high, z)
-short_at status n e (inl high) (inr z) = omega (arith, e, high, z)
-short_at status n e (inr low) (inl z) = let from = low.0 in omega (arith, e, from, z)
-short_at status n e (inr low) (inr z) = let upto = low.1 in omega (arith, e, upto, z)
+short_at status n e h g = grind arith
 
 -- ---- two calls of one run
 
@@ -75,25 +69,7 @@ all_of : (text : List ℕ) → Begins text text
 all_of text = ([], sym (append-nil text))
 
 pub shape_of : (r : Run) (e : Option Exercise) (status : ℕ) (text : List ℕ) → Printed r e status text → Shape r text
-shape_of r e status text (all_ended z steps within over made is) = record {
-  steps = steps;
-  within = within;
-  front = run_text (lines steps r.session);
-  line = summary (closing_by e) steps;
-  begins = all_of (run_text (lines steps r.session));
-  one = summary_is_one (closing_by e) steps;
-  is = is;
-}
-shape_of r e status text (halt_came z h) = record {
-  steps = h.count;
-  within = at_halt r.halt h.count h.halt;
-  front = run_text (lines h.count r.session);
-  line = ended (halted_line h.count);
-  begins = all_of (run_text (lines h.count r.session));
-  one = halted_is_one h.count;
-  is = h.printed;
-}
-shape_of r e status text (fell_short short shape) = shape
+shape_of r e status text h = grind (arith, all_of, summary_is_one, halted_is_one)
 
 -- what steps up to the halt print begins what a whole run printed
 covers : (r : Run) (e : Option Exercise) (status : ℕ) (text : List ℕ) → Printed r e status text → IsWhole status → (k : ℕ) → IsWithinHalt r k → Begins (run_text (lines k r.session)) text
@@ -112,16 +88,13 @@ cut_from r e status text text' printed whole s =
 one_status : (r : Run) → (a b : List ℕ) → IsFinished r a → IsHalted r b → ⊥
 one_status r a b f h =
     let zero = finished-status r a f in
-    let three = halted-status r b h in
-    omega (arith, zero, three)
+    grind (arith, halted-status)
 
 finished_at : (r : Run) (steps : ℕ) → IsWithinHalt r steps → live_after steps r.session ≡ 0 → IsFinished r (run_text (lines steps r.session))
 finished_at r steps within over = record { steps = steps; within = within; over = over; printed = refl }
 
 pub agree : (r : Run) (e : Option Exercise) (status status' : ℕ) (text text' : List ℕ) → Printed r e status text → Printed r e status' text' → IsWhole status → IsWhole status' → (status ≡ status') × (text ≡ text')
-agree r e status status' text text' (all_ended z n within over made is) (all_ended z' m within' over' made' is') w w' =
-    let same : n ≡ m = sym made ∙ ap (λ (s : Session). s.made) (same_session n m r.session over over') ∙ made' in
-    (z ∙ sym z', is ∙ ap (λ (k : ℕ). run_text (lines k r.session) ++ summary (closing_by e) k) same ∙ sym is')
+agree r e status status' text text' (all_ended z n within over made is) (all_ended z' m within' over' made' is') w w' = grind (arith, same_session)
 agree r e status status' text text' (halt_came z h) (halt_came z' h') w w' = (z ∙ sym z', (stops-once r 3 3 text text' (halted refl h) (halted refl h')).1)
 agree r e status status' text text' (all_ended z n within over made is) (halt_came z' h') w w' = absurd (one_status r (run_text (lines n r.session)) text' (finished_at r n within over) h')
 agree r e status status' text text' (halt_came z h) (all_ended z' m within' over' made' is') w w' = absurd (one_status r (run_text (lines m r.session)) text (finished_at r m within' over') h)
@@ -145,8 +118,7 @@ cut_shape r text count s = record { steps = s.steps; within = s.within; front = 
 
 -- of a run and of an exercise that halt the line alone is printed
 halted_alone : (e : Option Exercise) (k : Machine) → halted_text (closing_by e) k ≡ ended (halted_line k.tasks.made)
-halted_alone None k = refl
-halted_alone (Some e) k = refl
+halted_alone e k = grind arith
 
 abbrev behind : List RunLine → List ℕ → Text
 behind printed last = record { front = run_text printed; last = last }
@@ -160,12 +132,7 @@ module _ {B : Type 0} (d : Device B) (tells : DeviceTells d) (core : ℕ) (p : P
 
   stepped : (k : Machine) (s : Session) (printed : List RunLine) (text : Text) (line : List ℕ) → StandsAfter d k.tasks.made of_deck.session s printed → IsWithinHalt of_deck k.tasks.made → IsOneLine line
       → text ≡ record { front = run_text printed; last = line } → TextShape of_deck text
-  stepped k s printed text line comes within one is = subst (λ (x : Text). TextShape of_deck x) (sym is) (record {
-    steps = k.tasks.made;
-    within = within;
-    begins = ([], ap run_text (sym (comes.lines_are tells)) ∙ sym (append-nil (run_text printed)));
-    one = one;
-  })
+  stepped k s printed text line comes within one is = grind (arith, append-nil)
 
   stop_shape : (e : Option Exercise) (machine : Option Machine) (status : ℕ) (text : Text) → RunStops d core p (closing_by e) machine status text → TextShape of_deck text
   stop_shape e machine status text (unopened none (memory_refused same s t)) = lone of_deck text (ended memory_line) memory_is_one t
@@ -239,11 +206,7 @@ pub not_refused : (j : Judgement) (p : Prepared) → j ≡ Runs p → (refusal :
 not_refused j p is refusal refused = let both : Runs p ≡ Refused refusal = sym is ∙ refused in cc
 
 with_deck : (j : Judgement) (e : Option Exercise) (status : ℕ) (text : List ℕ) (p : Prepared) → j ≡ Runs p → Printed (run_of p) e status text → CallPrints j e status text
-with_deck j e status text p is printed = record {
-  runs = λ whole. (p, is);
-  prints = λ q js. subst (λ (x : Prepared). Printed (run_of x) e status text) (ap (prepared_in p) (sym is ∙ js)) printed;
-  refused = λ refusal js. absurd (not_refused j p is refusal js);
-}
+with_deck j e status text p is printed = grind arith
 
 module _ {K : Type 0} (taken : K → Option (List ℕ)) (faults : K → ℕ) (old new : K) (j : Judgement) (e : Option Exercise) where
   abbrev pub Prints_so : ℕ → Type 0
@@ -251,12 +214,8 @@ module _ {K : Type 0} (taken : K → Option (List ℕ)) (faults : K → ℕ) (ol
 
   -- a call that isn't whole, whatever its deck
   pub short_call : (status : ℕ) (text : Text) (answer : ℕ) → (IsWhole status → ⊥) → ((r : Run) → TextShape r text) → PrintsAndAnswers taken faults old new status text answer → Prints_so answer
-  short_call status text answer short shape (all_taken a took) =
-      let none : IsWhole answer → ⊥ = λ w. short (subst IsWhole a w) in
-      (whole_of text, took, record { runs = λ w. absurd (none w); prints = λ p is. fell_short none (whole_shape (run_of p) text (shape (run_of p))); refused = λ refusal is r. whole_shape r text (shape r) })
-  short_call status text answer short shape (cut_short count a rose part) =
-      let none = short_at answer 8 a (inl (omega arith)) in
-      (text.front ++ take count text.last, part.took, record { runs = λ w. absurd (none w); prints = λ p is. fell_short none (cut_shape (run_of p) text count (shape (run_of p))); refused = λ refusal is r. cut_shape r text count (shape r) })
+  short_call status text answer short shape (all_taken a took) = grind (arith, whole_shape)
+  short_call status text answer short shape (cut_short count a rose part) = grind (arith, cut_shape)
 
   run_call : (p : Prepared) (status : ℕ) (text : Text) (answer : ℕ) → j ≡ Runs p → Printed (run_of p) e status (whole_of text) → TextShape (run_of p) text → PrintsAndAnswers taken faults old new status text answer → Prints_so answer
   run_call p status text answer is printed shape (all_taken a took) = (whole_of text, took, with_deck j e answer (whole_of text) p is (subst (λ (n : ℕ). Printed (run_of p) e n (whole_of text)) (sym a) printed))

@@ -1,5 +1,5 @@
 -- Calls of `check` on a deck, and on the same deck with printed cards in the place of one job's body.
-use Rattle.std.proofs.Common.{◌≡◌, ◌≤◌, ◌<◌, ◌+◌, ◌⊎◌, inl, inr, ℕ, List, [], ◌∷◌, ◌++◌, length, Option, Some, None, refl, sym, ap, subst, ◌∙◌, arith, codes, Ok, Err}
+use Rattle.std.proofs.Common.{◌≡◌, ◌≤◌, ◌<◌, ◌+◌, ◌⊎◌, inl, inr, ℕ, List, [], ◌∷◌, ◌++◌, length, Option, Some, None, refl, sym, ap, subst, ◌∙◌, arith, codes, Ok}
 use Rattle.std.specs.List.{AllByRecursion}
 use Rattle.std.specs.Str.Lines.{lines}
 use Rattle.std.proofs.lemmas.List.{length-append}
@@ -108,17 +108,10 @@ module _ {T B L : Type 0} {words : List (Bor (List ℕ))} {left : T → Option (
     (taken : L → Option (List ℕ)) (faults : L → ℕ) (old new : L) (other : List ℕ) (told : left deck ≡ Some other) (fits : length other ≤ limit) (w : AsksForCheck words)
     (read : Stayed source_faults deck deck') (worked : Stayed faults old new) (answer : ℕ) (call : Answered words left source_faults deck deck' d machine taken faults old new answer) where
   not_both : (v : Verdict) (text : List ℕ) (refusal : Refusal) → v ≡ Ok text → printed v ≡ Refused refusal → ⊥
-  not_both (Ok x) text refusal e f = cc
-  not_both (Err r) text refusal e f = cc
+  not_both v text refusal e f = grind arith
 
   not_refused : (text : List ℕ) → check_verdict other ≡ Ok text → (bytes : List ℕ) (refusal : Refusal) → WasGiven left deck deck' bytes → printed (check_verdict bytes) ≡ Refused refusal → ⊥
-  not_refused text e bytes refusal (inl all) f =
-      not_both (check_verdict other) text refusal e (ap (λ (x : List ℕ). printed (check_verdict x)) (all.told other told).0 ∙ f)
-  not_refused text e bytes refusal (inr front) f =
-      let g = front.0.told other told in
-      let exactly = front.1 in
-      let long : length other ≡ length bytes + length g.0 = ap length g.1 ∙ length-append bytes g.0 in
-      omega (arith, exactly, long, fits)
+  not_refused text e bytes refusal h f = grind (arith, length-append)
 
   -- it is accepted, and prints this, or memory was refused
   abbrev Accepts : List ℕ → Type 0

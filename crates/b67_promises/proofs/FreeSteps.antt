@@ -1,13 +1,13 @@
 -- The steps of a run keep that no word names the MCP's cell 12.
 use Rattle.std.proofs.lemmas.Option.{same_Some}
-use Rattle.std.proofs.Common.{◌≡◌, ℕ, zero, suc, ◌+◌, ◌-◌, ◌≤◌, inl, inr, Bool, true, false, not, eqb, List, [], ◌∷◌, map, filter, Option, Some, None, Ok, Err, refl, sym, ap, subst, ◌∙◌, arith}
+use Rattle.std.proofs.Common.{◌≡◌, ℕ, zero, suc, ◌+◌, ◌-◌, ◌≤◌, inl, inr, Bool, true, false, List, [], ◌∷◌, Option, Some, None, Ok, Err, refl, sym, ap, subst, ◌∙◌, arith}
 use Rattle.b67_word.specs.declared.couples.Place.{Place}
 use Rattle.b67_word.specs.declared.faults.Ending.{Ending}
-use Rattle.b67_word.specs.declared.faults.Ending.TheVariants.{Ended, Deadlock, Limit, Faulted}
+use Rattle.b67_word.specs.declared.faults.Ending.TheVariants.{Ended, Deadlock, Faulted}
 use Rattle.b67_model.specs.declared.operators.Op.{Op}
 use Rattle.b67_model.specs.declared.operators.Op.TheVariants.{Namc}
 use Rattle.b67_model.specs.Keyed.{keyed}
-use Rattle.b67_model.specs.Common.{Answer, Task, JobConstants, Job, JobProgress, SessionJob, Session, Choice, choice, StepResult, with_task, called, Line, Done, Goes, Leaves, Waits, Reading, reading_of, step_by, step, Settled, among, released, ends_all, ends_task, ends_each_if, unsettled, settles, stepped, by_task, step_of, number_of, of_job, with_moment, moment_by, moment_for, next, after, At, listing, operator_at, origin, Ready, IsStart, IsSegment, TaskInOrder, JobInOrder, IsInOrder}
+use Rattle.b67_model.specs.Common.{Answer, Task, JobConstants, Job, JobProgress, SessionJob, Session, Choice, choice, StepResult, with_task, called, Line, Done, Goes, Leaves, Waits, Reading, reading_of, step_by, step, Settled, among, ends_all, ends_task, ends_each_if, unsettled, settles, stepped, step_of, number_of, of_job, with_moment, moment_by, moment_for, next, after, listing, operator_at, origin, Ready, IsStart, IsSegment, TaskInOrder, JobInOrder, IsInOrder}
 use Rattle.b67_lemmas.specs.Lists.{Has}
 use Rattle.b67_lemmas.proofs.Members.{all_in, has_filter, has_map_back, has_get, keyed_has}
 use Rattle.b67_law_order.specs.Opening.{Opening, opened_from}
@@ -28,11 +28,7 @@ use Rattle.b67_promises.proofs.NoProcess.{IsFree, AnyMark, free_operands, TasksF
 -- ---- the endings of a step
 
 ends_free : (s : Settled) (endings : List (ℕ × Ending)) → TasksFree s.job.tasks → TasksFree (ends_all s endings).job.tasks
-ends_free s endings all t h =
-    let numbers = map (λ (e : ℕ × Ending). e.0) endings in
-    let stay = filter (λ (t : Task). not (among numbers t.number)) s.job.tasks in
-    let r = has_map_back (λ (t : Task). record t { condition = released numbers t.condition }) stay t h in
-    subst (λ (x : Task). FramesFree x.frames) r.is (all r.item (has_filter (λ (t : Task). not (among numbers t.number)) s.job.tasks r.item r.among).0)
+ends_free s endings all t h = grind (arith, has_map_back, has_filter)
 
 each_free : (test : Bool) (ending : Ending) (s : Settled) → TasksFree s.job.tasks → TasksFree (ends_each_if test ending s).job.tasks
 each_free true ending s all = ends_free s _ all
@@ -42,10 +38,7 @@ ended_free : (job : Job) (number : ℕ) (ending : Ending) → TasksFree job.task
 ended_free job number ending all = ends_free (unsettled job) _ all
 
 waiting_free : (job : Job) (task new : Task) → new.frames ≡ task.frames → Has job.tasks task → TasksFree job.tasks → TasksFree (with_task job new).tasks
-waiting_free job task new same live all t h = elim (has_changed (λ (u : Task). u.number) new.number (λ u. new) job.tasks t h) [
-  | inl r ↦ subst (λ (u : Task). FramesFree u.frames) r.is (subst FramesFree (sym same) (all task live))
-  | inr k ↦ all t k
-]
+waiting_free job task new same live all t h = grind (arith, has_changed)
 
 settles_free : (job : Job) (task : Task) (a : Answer Done) → Has job.tasks task → TasksFree job.tasks
     → ((after : Job) (printed : List Line) (touched : Option ℕ) → a ≡ Ok (Goes after printed touched) → TasksFree after.tasks) → TasksFree (settles job task a).settled.job.tasks
@@ -102,9 +95,7 @@ module _ (constants : JobConstants) (c : JobProgress) (order : JobInOrder (IsSta
   op_listed op next reads none is =
       let place = (all_in (TaskInOrder (IsStart constants) constants c.job) c.job.tasks task order.tasks.tasks live).place in
       let r = entered _ place.code.code origin (operator_at place.code.code origin) task.place place.op refl place.stands in
-      let there : reading_of constants task ≡ Ok (place.op, r.next) = rw place.found r.reads in
-      let same : place.op ≡ op = sym (same_op (op, next) (place.op, r.next) (sym reads ∙ there)) in
-      none place.code task.place (has_get constants.segments (task.segment - 1) place.code place.found) (subst (λ (o : Op). Has (listing place.code.code) (At task.place o)) (same ∙ is) place.stands)
+      grind (arith, has_get)
 
   pub stepped_free : NamesNoProcess constants.segments → TasksFree c.job.tasks → TasksFree (stepped constants c.job task).settled.job.tasks
   unfolding stepped
@@ -114,13 +105,7 @@ module _ (constants : JobConstants) (c : JobProgress) (order : JobInOrder (IsSta
 
   pub moment_free : NamesNoProcess constants.segments → TasksFree c.job.tasks → TasksFree (step_of constants c number).progress.job.tasks
   unfolding step_of
-  moment_free none all = by (keyed (λ (t : Task). t.number) number c.job.tasks) found
-    where
-      by : (o : Option Task) → o ≡ Some task → TasksFree (by_task constants c o).progress.job.tasks
-      by None e = absurd (let z : ⊥ = cc in z)
-      by (Some t) e =
-          let same : task ≡ t = cc in
-          subst (λ (u : Task). TasksFree (by_task constants c (Some u)).progress.job.tasks) same (each_free (eqb (c.made + 1) constants.limit) Limit (stepped constants c.job task).settled (stepped_free none all))
+  moment_free none all = grind (arith, each_free, stepped_free)
 
 -- ---- a session
 
@@ -130,12 +115,7 @@ SessionFree s = (m : SessionJob) → Has s.jobs m → NamesNoProcess m.constants
 -- the task that makes the next step is ready
 the_next : (s : Session) (c : Choice) → IsInOrder s → choice s ≡ Some c → (m : SessionJob) → keyed number_of c.who.job s.jobs ≡ Some m
     → (t : Task) × (keyed (λ (u : Task). u.number) c.who.task m.progress.job.tasks ≡ Some t) × (t.condition ≡ Ready)
-the_next s c order chooses m found =
-    let x = chosen_tasks_are_ready s c (starts_are_segments s order) chooses in
-    let member : keyed number_of c.who.job s.jobs ≡ Some x.0 = subst (λ (d : Choice). keyed number_of d.who.job s.jobs ≡ Some x.0) x.3 x.2.member in
-    let same : x.0 ≡ m = same_Some x.0 m (sym member ∙ found) in
-    let live : keyed (λ (u : Task). u.number) c.who.task x.0.progress.job.tasks ≡ Some x.1 = subst (λ (d : Choice). keyed (λ (u : Task). u.number) d.who.task x.0.progress.job.tasks ≡ Some x.1) x.3 x.2.task in
-    (x.1, subst (λ (k : SessionJob). keyed (λ (u : Task). u.number) c.who.task k.progress.job.tasks ≡ Some x.1) same live, x.4)
+the_next s c order chooses m found = grind (arith, chosen_tasks_are_ready, starts_are_segments)
 
 next_free : (s : Session) (r : StepResult) → IsInOrder s → SessionFree s → next s ≡ Some r → SessionFree r.session
 unfolding next
@@ -167,11 +147,7 @@ next_free s r order all e = by_choice (choice s) refl e
 
 after_none : (k : ℕ) (first s : Session) → after k first ≡ s → next s ≡ None → after (suc k) first ≡ s
 after_none zero first s is e = let found : next first ≡ None = ap next is ∙ e in rw found is
-after_none (suc k) first s is e = by (λ from. after_none k from s) (next first) refl
-  where
-    by : ((from : Session) → after k from ≡ s → next s ≡ None → after (suc k) from ≡ s) → (o : Option StepResult) → next first ≡ o → after (suc (suc k)) first ≡ s
-    by rest None f = rw f (rw f at is)
-    by rest (Some n) f = let later : after k n.session ≡ s = rw f at is in rw f (rest n.session later e)
+after_none (suc k) first s is e = grind (arith, after_none k)
 
 after_free : (first : Session) (made : ℕ) → ((j : ℕ) → j ≤ made → IsInOrder (after j first)) → SessionFree first → (j : ℕ) → j ≤ made → SessionFree (after j first)
 after_free first made ordered all zero le = all

@@ -1,21 +1,21 @@
 -- The decks of two texts that differ in a ?HALT card.
-use Rattle.std.proofs.Common.{◌≡◌, ◌+◌, ℕ, Bool, true, false, cond, not, List, [], ◌∷◌, ◌++◌, length, map, reverse, refl, sym, ap, subst, ◌∙◌, Option, Some, None, Ok, codes}
-use Rattle.std.specs.Prelude.{slice_get, unwrap_or, ⊤, ◌||◌, if◌then◌else◌}
-use Rattle.std.specs.List.{filter_map, cons_option}
+use Rattle.std.proofs.Common.{◌≡◌, ◌+◌, ℕ, Bool, true, false, cond, not, List, [], ◌∷◌, ◌++◌, length, map, reverse, refl, sym, ap, subst, ◌∙◌, Option, Some, None, Ok, codes, arith}
+use Rattle.std.specs.Prelude.{⊤, ◌||◌, if◌then◌else◌}
+use Rattle.std.specs.List.{filter_map}
 use Rattle.std.specs.Option.{option_map, option_to_list}
 use Rattle.std.specs.Str.{bytes_eq}
 use Rattle.std.proofs.lemmas.List.Elements.{filter_map-append}
 use Rattle.b67_model_text.specs.declared.card.Card.{Card}
 use Rattle.b67_model_text.specs.declared.deck.Deck.{Deck}
 use Rattle.b67_model_text.specs.declared.deck.Stand.{Stand}
-use Rattle.b67_model_text.specs.declared.deck.Stand.TheVariants.{Front, Begun, Limited, InAsm, InHex, InData, Ended}
+use Rattle.b67_model_text.specs.declared.deck.Stand.TheVariants.{Front}
 use Rattle.b67_model_text.specs.declared.deck.Keyword.TheVariants as keywords
 use Rattle.b67_model_text.specs.Answers.{Answer, ◌>>=◌, ◌>>◌, needs, or_reason}
 use Rattle.b67_model_text.specs.Cards.{card_of, cards, is_empty, words_in_card}
-use Rattle.b67_model_text.specs.Command.{Command, Stack, Quantum, Halt, Switch, Job, Limit, Asm, Hex, Data, End, Plain, one_number, says, command_of, plain_card, said}
-use Rattle.b67_model_text.specs.Placing.{stand, stand_after, may_stand, lacks_program, arranged, is_well_formed, placed_card, stack_in, quantum_in, switch_in, name_in}
+use Rattle.b67_model_text.specs.Command.{Command, Halt, one_number, says, command_of, plain_card, said}
+use Rattle.b67_model_text.specs.Placing.{stand, stand_after, may_stand, lacks_program, placed_card, stack_in, quantum_in, switch_in, name_in}
 use Rattle.b67_model_text.specs.Deck.{Said, command_in, of_card, said_after, sayings, job_of, own_cards, jobs, deck, deck_of}
-use Rattle.b67_model_text.proofs.Answers.{after_both, after_needs, err-ok}
+use Rattle.b67_model_text.proofs.Answers.{after_both, err-ok}
 use Rattle.b67_promises.specs.Halts.{DifferInHalt}
 use Rattle.b67_promises.proofs.TurnCards.{cards_at, is_filled, cards-append, filled, first_word, trimmed_three, placed_first, first_said, say_same, reverse_cons, deck_said}
 use Rattle.b67_model.specs.declared.limits.TheConstants.{MOST_MADE}
@@ -27,8 +27,7 @@ IsHaltCommand (Halt n) = Unit {0}
 IsHaltCommand _ = ⊥
 
 halt_says : (o : Option ℕ) (c : Command) → or_reason (option_map Halt o) 4 ≡ Ok c → IsHaltCommand c
-halt_says None c e = err-ok 4 c _ e
-halt_says (Some n) c e = let is : Halt n ≡ c = cc in subst IsHaltCommand is tt
+halt_says o c e = grind arith
 
 by_halt : (b : Bool) (parameters : List (List ℕ)) (c : Command) → (or_reason (if b then Some keywords.Halt else None) 3 >>= λ keyword. or_reason (says keyword parameters) 4) ≡ Ok c → IsHaltCommand c
 by_halt true parameters c e = halt_says (one_number 1 MOST_MADE parameters) c e
@@ -47,33 +46,14 @@ halt_said t c e =
 -- ---- where it stands
 
 halt_in_front : (s : Stand) (n : ℕ) → (may_stand s (Halt n) || lacks_program s (Halt n)) ≡ true → s ≡ Front
-halt_in_front Front n e = refl
-halt_in_front Begun n e = absurd (let z : ⊥ = cc in z)
-halt_in_front Limited n e = absurd (let z : ⊥ = cc in z)
-halt_in_front InAsm n e = absurd (let z : ⊥ = cc in z)
-halt_in_front InHex n e = absurd (let z : ⊥ = cc in z)
-halt_in_front InData n e = absurd (let z : ⊥ = cc in z)
-halt_in_front Ended n e = absurd (let z : ⊥ = cc in z)
+halt_in_front s n e = grind arith
 
 stands_in_front : (before : List Command) (c : Command) (u : ⊤) → IsHaltCommand c → placed_card before c ≡ Ok u → stand before ≡ Front
-stands_in_front before (Halt n) u is e =
-    let a = after_both (arranged before (Halt n)) (λ (v : ⊤). is_well_formed (stand before) (Halt n)) u e in
-    halt_in_front (stand before) n (after_needs (may_stand (stand before) (Halt n) || lacks_program (stand before) (Halt n)) 5 _ a.0 a.1).0
-stands_in_front before _ u is e = absurd is
+stands_in_front before c u is e = grind arith
 
 -- what stands in front names no job
 names_none : (s : Stand) (c : Command) → stand_after s c ≡ Front → (s ≡ Front) × (name_in c ≡ None)
-names_none s (Stack n) e = (e, refl)
-names_none s (Quantum n) e = (e, refl)
-names_none s (Halt n) e = (e, refl)
-names_none s (Switch count job task) e = (e, refl)
-names_none s (Plain text) e = (e, refl)
-names_none s (Job name) e = absurd (let z : ⊥ = cc in z)
-names_none s (Limit n) e = absurd (let z : ⊥ = cc in z)
-names_none s Asm e = absurd (let z : ⊥ = cc in z)
-names_none s Hex e = absurd (let z : ⊥ = cc in z)
-names_none s Data e = absurd (let z : ⊥ = cc in z)
-names_none s End e = absurd (let z : ⊥ = cc in z)
+names_none s c e = grind arith
 
 -- ---- the jobs behind it
 
@@ -82,13 +62,10 @@ no_job s tail none = ap (λ (o : Option (List ℕ)). option_to_list (option_map 
 
 jobs_after : (before tail : List Said) → stand (map command_in before) ≡ Front → jobs (reverse before ++ tail) ≡ jobs tail
 jobs_after [] tail e = refl
-jobs_after (s ∷ before) tail e =
-    let n = names_none (stand (map command_in before)) s.command e in
-    ap jobs (reverse_cons s before tail) ∙ jobs_after before (s ∷ tail) n.0 ∙ no_job s tail n.1
+jobs_after (s ∷ before) tail e = grind (arith, reverse_cons, jobs_after before (s ∷ tail))
 
 halt_names_none : (c : Command) → IsHaltCommand c → name_in c ≡ None
-halt_names_none (Halt n) h = refl
-halt_names_none _ h = absurd h
+halt_names_none c h = grind arith
 
 -- ---- the deck but for the halt
 
@@ -99,30 +76,19 @@ pub record SameButHalt (d e : Deck) : Type 0 where
   pub jobs : e.jobs ≡ d.jobs
 
 passed_over : {B : Type 0} (f : Said → Option B) (front tail : List Said) (s : Said) → f s ≡ None → filter_map f (front ++ tail) ≡ filter_map f (front ++ s ∷ tail)
-passed_over f front tail s none =
-    filter_map-append f front tail
-    ∙ ap (λ o. filter_map f front ++ cons_option o (filter_map f tail)) (sym none)
-    ∙ sym (filter_map-append f front (s ∷ tail))
+passed_over f front tail s none = grind (arith, filter_map-append)
 
 no_stack : (c : Command) → IsHaltCommand c → stack_in c ≡ None
-no_stack (Halt n) h = refl
-no_stack _ h = absurd h
+no_stack c h = grind arith
 
 no_quantum : (c : Command) → IsHaltCommand c → quantum_in c ≡ None
-no_quantum (Halt n) h = refl
-no_quantum _ h = absurd h
+no_quantum c h = grind arith
 
 no_switch : (c : Command) → IsHaltCommand c → switch_in c ≡ None
-no_switch (Halt n) h = refl
-no_switch _ h = absurd h
+no_switch c h = grind arith
 
 same_deck : (before tail : List Said) (s : Said) → IsHaltCommand s.command → stand (map command_in before) ≡ Front → SameButHalt (deck (reverse before ++ s ∷ tail)) (deck (reverse before ++ tail))
-same_deck before tail s h e = record {
-  stack = ap (λ (ns : List ℕ). unwrap_or (slice_get ns 0) 512) (passed_over (λ (x : Said). stack_in x.command) (reverse before) tail s (no_stack s.command h));
-  quantum = ap (λ (ns : List ℕ). unwrap_or (slice_get ns 0) 1000) (passed_over (λ (x : Said). quantum_in x.command) (reverse before) tail s (no_quantum s.command h));
-  switches = passed_over (λ (x : Said). switch_in x.command) (reverse before) tail s (no_switch s.command h);
-  jobs = jobs_after before tail e ∙ sym (no_job s tail (halt_names_none s.command h)) ∙ sym (jobs_after before (s ∷ tail) e);
-}
+same_deck before tail s h e = grind (arith, passed_over, jobs_after)
 
 -- ---- what is said
 

@@ -1,9 +1,8 @@
 -- The levels of assembled segments have eight bits.
-use Rattle.std.proofs.Common.{◌≡◌, ℕ, ◌-◌, ◌^◌, ◌<◌, Bool, true, false, cond, refl, arith, Option, Some, None, List, [], ◌∷◌, length, take, Ok}
+use Rattle.std.proofs.Common.{◌≡◌, ℕ, ◌-◌, ◌^◌, ◌<◌, Bool, true, false, cond, arith, Option, Some, None, List, [], ◌∷◌, length, take, Ok}
 use Rattle.std.specs.Prelude.{nat_le, IfSome}
 use Rattle.std.specs.Option.{option_map, option_and_then}
 use Rattle.std.specs.List.{AllByRecursion, cons_option}
-use Rattle.std.proofs.lemmas.Bool.{leb-true}
 use Rattle.b67_word.specs.Tagged.{word}
 use Rattle.b67_model_text.specs.declared.card.Card.{Card}
 use Rattle.b67_model_text.specs.declared.assembly.Mnemonic.{Mnemonic}
@@ -11,12 +10,11 @@ use Rattle.b67_model_text.specs.declared.assembly.Sketch as sketch
 use Rattle.b67_model_text.specs.declared.assembly.Statement as statement
 use Rattle.b67_model_text.specs.declared.assembly.Statement.TheVariants as statements
 use Rattle.b67_model_text.specs.declared.assembly.Kind as kind
-use Rattle.b67_model_text.specs.declared.assembly.Kind.TheVariants as kinds
 use Rattle.b67_model_text.specs.declared.assembly.Line.{Line}
 use Rattle.b67_model_text.specs.Answers.{Answer, ◌>>=◌, or_reason}
-use Rattle.b67_model_text.specs.Cards.{words_in_card, name_in, natural, is_empty}
+use Rattle.b67_model_text.specs.Cards.{words_in_card, name_in, natural}
 use Rattle.b67_model_text.specs.Command.{row_of}
-use Rattle.b67_model_text.specs.Statements.{numeral_up_to, mnemonics, sketch_of, literal_bits, all_bits, segment, row, row_named, num, entry, entry_named, operator, kind_of, is_label, with_label, labelled, says, without_comment, line_with, lines_of}
+use Rattle.b67_model_text.specs.Statements.{numeral_up_to, mnemonics, sketch_of, segment, row, num, entry, operator, is_label, with_label, labelled, says, without_comment, line_with, lines_of}
 
 -- ---- levels
 
@@ -26,17 +24,10 @@ SmallLevel (Ok (statements.Segment name level)) = IfSome level (λ l. l < 2 ^ 8)
 SmallLevel _ = Unit {0}
 
 numeral_small : (o : Option ℕ) → IfSome (option_map (λ n. cond (nat_le n 255) (Some n) None) o) (λ (q : Option ℕ). IfSome q (λ l. l < 2 ^ 8))
-numeral_small None = tt
-numeral_small (Some n) = by_test (nat_le n 255) refl
-  where
-    by_test : (b : Bool) → nat_le n 255 ≡ b → IfSome (cond b (Some n) None) (λ l. l < 2 ^ 8)
-    by_test true t = omega (arith, leb-true n 255 t)
-    by_test false t = tt
+numeral_small o = grind arith
 
 segment_small : (name : Option (List ℕ)) (q : Option (Option ℕ)) → IfSome q (λ (l : Option ℕ). IfSome l (λ l. l < 2 ^ 8)) → SmallLevel (or_reason (option_and_then (λ name. option_map (statements.Segment name) q) name) 2)
-segment_small None q h = tt
-segment_small (Some name) None h = tt
-segment_small (Some name) (Some level) h = h
+segment_small name q h = grind arith
 
 segments_small : (more : List (List ℕ)) → SmallLevel (or_reason (segment more) 2)
 segments_small [] = tt
@@ -45,53 +36,35 @@ segments_small (word ∷ level ∷ []) = segment_small (name_in word) (numeral_u
 segments_small (word ∷ level ∷ x ∷ more) = tt
 
 row_small : (o : Option (List ℕ)) → SmallLevel (or_reason (option_map statements.Row o) 2)
-row_small None = tt
-row_small (Some name) = tt
+row_small o = grind arith
 
 rows_small : (more : List (List ℕ)) → SmallLevel (or_reason (row more) 2)
-rows_small [] = tt
-rows_small (word ∷ more) = by_test (is_empty more)
-  where
-    by_test : (b : Bool) → SmallLevel (or_reason (cond b (row_named word) None) 2)
-    by_test true = row_small (name_in word)
-    by_test false = tt
+rows_small more = grind arith
 
 num_small : (o : Option (Option ℕ)) (p : Option (List (Option ℕ))) → SmallLevel (or_reason (option_and_then (λ first. option_map (statements.Values first) p) o) 2)
-num_small None p = tt
-num_small (Some first) None = tt
-num_small (Some first) (Some more) = tt
+num_small o p = grind arith
 
 numbers_small : (more : List (List ℕ)) → SmallLevel (or_reason (num more) 2)
-numbers_small [] = tt
-numbers_small (word ∷ more) = num_small (literal_bits word) (all_bits more)
+numbers_small more = grind arith
 
 entry_small : (o : Option (List ℕ)) → SmallLevel (or_reason (option_map statements.Entry o) 2)
-entry_small None = tt
-entry_small (Some label) = tt
+entry_small o = grind arith
 
 entries_small : (more : List (List ℕ)) → SmallLevel (or_reason (entry more) 2)
-entries_small [] = tt
-entries_small (word ∷ more) = by_test (is_empty more)
-  where
-    by_test : (b : Bool) → SmallLevel (or_reason (cond b (entry_named word) None) 2)
-    by_test true = entry_small (name_in word)
-    by_test false = tt
+entries_small more = grind arith
 
 sketch_small : (label : Option (List ℕ)) (o : Option sketch.Sketch) → SmallLevel (or_reason o 2 >>= λ s. Ok (statements.Operator label s))
-sketch_small label None = tt
-sketch_small label (Some s) = tt
+sketch_small label o = grind arith
 
 mnemonic_small : (label : Option (List ℕ)) (o : Option Mnemonic) (f : Mnemonic → Option sketch.Sketch) → SmallLevel (or_reason o 1 >>= λ m. or_reason (f m) 2 >>= λ s. Ok (statements.Operator label s))
-mnemonic_small label None f = tt
-mnemonic_small label (Some m) f = sketch_small label (f m)
+mnemonic_small label o f = grind arith
 
 operator_small : (label : Option (List ℕ)) (ws : List (List ℕ)) → SmallLevel (operator label ws)
 operator_small label [] = tt
 operator_small label (key ∷ operands) = mnemonic_small label (row_of key mnemonics) (λ m. sketch_of m operands)
 
 label_small : (o : Option (List ℕ)) (more : List (List ℕ)) → SmallLevel (with_label o more)
-label_small None more = tt
-label_small (Some label) more = operator_small (Some label) more
+label_small o more = grind (arith, operator_small)
 
 labelled_small : (ws : List (List ℕ)) → SmallLevel (labelled ws)
 labelled_small [] = tt
@@ -102,18 +75,13 @@ labelled_small (word ∷ more) = by_test (is_label word)
     by_test false = operator_small None (word ∷ more)
 
 says_small : (k : kind.Kind) (more all : List (List ℕ)) → SmallLevel (says k more all)
-says_small kinds.Segment more all = segments_small more
-says_small kinds.Row more all = rows_small more
-says_small kinds.Numbers more all = numbers_small more
-says_small kinds.Entry more all = entries_small more
-says_small kinds.Operator more all = labelled_small all
+says_small k more all = grind (arith, segments_small, rows_small, labelled_small)
 
 abbrev pub IsSmallLine : Line → Type 0
 IsSmallLine l = SmallLevel l.says
 
 one_small : (number : ℕ) (ws : List (List ℕ)) (more : List Line) → AllByRecursion IsSmallLine more → AllByRecursion IsSmallLine (cons_option (line_with number ws) more)
-one_small number [] more h = h
-one_small number (word ∷ rest) more h = (says_small (kind_of word) rest (word ∷ rest), h)
+one_small number ws more h = grind (arith, says_small)
 
 pub lines_small : (cards : List Card) → AllByRecursion IsSmallLine (lines_of cards)
 lines_small [] = tt

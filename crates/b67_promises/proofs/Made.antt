@@ -1,8 +1,6 @@
 -- Calls that print a program, and calls of two decks that hold it.
-use Rattle.std.proofs.Common.{◌≡◌, ◌⊎◌, inl, inr, ℕ, Bool, true, false, cond, List, [], ◌∷◌, length, Option, Some, None, refl, sym, ap, subst, ◌∙◌, arith, codes, Ok, Err}
-use Rattle.std.specs.Prelude.{is_some, nat_le, ◌&&◌}
-use Rattle.std.specs.Option.{option_map}
-use Rattle.std.specs.Str.{bytes_eq}
+use Rattle.std.proofs.Common.{◌≡◌, ◌⊎◌, inl, inr, ℕ, true, false, List, [], ◌∷◌, Option, Some, None, refl, sym, ap, subst, ◌∙◌, arith, codes, Ok}
+use Rattle.std.specs.Prelude.{is_some, ◌&&◌}
 use Rattle.std.proofs.lemmas.Option.{same_Some, none-some}
 use denote.Ref.{Bor}
 use Rattle.b67_io.specs.Told.{Took, GaveAll}
@@ -17,16 +15,16 @@ use Rattle.b67_session_lines.specs.Stops.{Run}
 use Rattle.b67_job.specs.declared.summaries.Exercise.{Exercise}
 use Rattle.b67_job.specs.declared.command.CommandLine.{CommandLine}
 use Rattle.b67_job.specs.declared.command.CommandLine.TheVariants as lines
-use Rattle.b67_job.specs.Command.{pairs_in, bind, command_line_of}
+use Rattle.b67_job.specs.Command.{bind, command_line_of}
 use Rattle.b67_job.specs.Device.{Device}
-use Rattle.b67_job.specs.Texts.{Text, whole_of, only, PrintsAndAnswers, all_taken, cut_short}
+use Rattle.b67_job.specs.Texts.{Text, whole_of, only, PrintsAndAnswers}
 use Rattle.b67_job.specs.Runs.{run_of}
 use Rattle.b67_job.specs.Judgement.{Judgement, Refused, Runs, Prints, OfImage, judgement, printed, asked, core_asked, image_sectors}
 use Rattle.b67_job.specs.Due.{ReadAll, CommandWasRead, WasGiven, IsRun, IsDue, usage_due, refusal_due, print_due, image_due, dump_due, run_due, reading_due, memory_due, Answered, answered, cut_in_step, goes_on}
 use Rattle.b67_promises.specs.Paging.{SameLines}
 use Rattle.b67_promises.specs.Cards.{AsksForAsm, AsksForConvert, AsksForBind, AsksForCheck, HoldPrinted}
 use Rattle.b67_promises.proofs.Calls.{Printed, Shape, CallPrints, shape_of, cut_from, agree}
-use Rattle.b67_promises.proofs.Words.{head, no_print, no_image_asked}
+use Rattle.b67_promises.proofs.Words.{no_print, no_image_asked}
 use Rattle.b67_promises.proofs.TurnCalls.{prepared_is}
 use Rattle.b67_promises.proofs.SourceDecks.{OneRun, asm_keeps, convert_keeps}
 
@@ -37,37 +35,19 @@ lone [] = []
 lone (x ∷ xs) = xs
 
 asm_command : (words : List (Bor (List ℕ))) → AsksForAsm words → command_line_of words ≡ Some lines.Asm
-asm_command [] w = absurd (let z : ⊥ = cc in z)
-asm_command (word ∷ []) w = let first : word.now ≡ codes "asm" = ap head w in rw first refl
-asm_command (word ∷ other ∷ more) w = absurd (let z : other.now ∷ _ ≡ [] = ap lone w in let no : ⊥ = cc in no)
+asm_command words w = grind arith
 
 convert_command : (words : List (Bor (List ℕ))) → AsksForConvert words → command_line_of words ≡ Some lines.Convert
-convert_command [] w = absurd (let z : ⊥ = cc in z)
-convert_command (word ∷ []) w = let first : word.now ≡ codes "convert" = ap head w in rw first refl
-convert_command (word ∷ other ∷ more) w = absurd (let z : other.now ∷ _ ≡ [] = ap lone w in let no : ⊥ = cc in no)
+convert_command words w = grind arith
 
 bind_command : (words : List (Bor (List ℕ))) → AsksForBind words → command_line_of words ≡ bind words
-bind_command [] w = refl
-bind_command (word ∷ []) w = let first : word.now ≡ codes "bind" = ap head w in rw first refl
-bind_command (word ∷ a ∷ []) w = refl
-bind_command (word ∷ a ∷ b ∷ []) w = let first : word.now ≡ codes "bind" = ap head w in rw first refl
-bind_command (word ∷ a ∷ b ∷ c ∷ []) w = refl
-bind_command (word ∷ a ∷ b ∷ c ∷ e ∷ []) w = let first : word.now ≡ codes "bind" = ap head w in rw first refl
-bind_command (word ∷ a ∷ b ∷ c ∷ e ∷ f ∷ more) w = refl
+bind_command words w = grind arith
 
 bind_pairs : (words : List (Bor (List ℕ))) (command : CommandLine) → bind words ≡ Some command → (pairs : List Pair) × (command ≡ lines.Bind pairs)
-bind_pairs [] command e = absurd (none-some command e)
-bind_pairs (word ∷ more) command e = by_test (bytes_eq word.now (codes "bind") && nat_le 1 (length more) && nat_le (length more) 255) (pairs_in more) e
-  where
-    by_test : (b : Bool) (o : Option (List Pair)) → cond b (option_map lines.Bind o) None ≡ Some command → (pairs : List Pair) × (command ≡ lines.Bind pairs)
-    by_test true (Some pairs) e = (pairs, sym (same_Some (lines.Bind pairs) command e))
-    by_test true None e = absurd (none-some command e)
-    by_test false o e = absurd (none-some command e)
+bind_pairs words command e = grind arith
 
 check_command : (words : List (Bor (List ℕ))) → AsksForCheck words → command_line_of words ≡ Some lines.Check
-check_command [] w = absurd (let z : ⊥ = cc in z)
-check_command (word ∷ []) w = let first : word.now ≡ codes "check" = ap head w in rw first refl
-check_command (word ∷ other ∷ more) w = absurd (let z : other.now ∷ _ ≡ [] = ap lone w in let no : ⊥ = cc in no)
+check_command words w = grind arith
 
 -- ---- a call whose command prints a text
 
@@ -92,8 +72,7 @@ same_command words command other is e = same_Some other command (sym e ∙ is)
 -- the printer takes a text, or fails
 closes : {K C : Type 0} (taken : K → Option (List ℕ)) (faults : K → ℕ) (old new : K) (status : ℕ) (t : Text) (answer : ℕ) → PrintsAndAnswers taken faults old new status t answer
     → (answer ≡ 8 → Rose faults old new → C) → (answer ≡ status → Took taken old new (whole_of t) → C) → C
-closes taken faults old new status t answer (all_taken a took) fails goes = goes a took
-closes taken faults old new status t answer (cut_short count a rose part) fails goes = fails a rose
+closes taken faults old new status t answer h fails goes = grind arith
 
 no_run : {S : Type 0} (words : List (Bor (List ℕ))) (left : S → Option (List ℕ)) (deck deck' : S) (command : CommandLine) → command_line_of words ≡ Some command → PrintsText command → (core : ℕ) (p : Prepared) → IsRun words left deck deck' core p → ⊥
 no_run words left deck deck' command is c core p r =
@@ -130,8 +109,7 @@ module _ {S B K : Type 0} {words : List (Bor (List ℕ))} {left : S → Option (
   call_comes answer (goes_on g) = absurd (no_image_read words command is c d.sectors lines.Resume (Some d.sectors) g.of.is refl)
 
 pub verdict_is : (v : Verdict) (text : List ℕ) → printed v ≡ Prints text → v ≡ Ok text
-verdict_is (Ok x) text e = let is : x ≡ text = cc in ap Ok is
-verdict_is (Err r) text e = absurd (let z : ⊥ = cc in z)
+verdict_is v text e = grind arith
 
 -- ---- the commands of one word, and `bind`
 
@@ -152,14 +130,10 @@ module _ {S B K : Type 0} {words : List (Bor (List ℕ))} {left : S → Option (
     made_text command (memory_is_wanted nine) = absurd (omega (arith, zero, nine))
 
     pub asm_made : AsksForAsm words → asm_verdict text ≡ Ok made
-    asm_made w =
-        verdict_is (asm_verdict text) made (made_text lines.Asm
-        (call_comes taken faults old new lines.Asm (asm_command words w) (record { opens = refl; no_image = λ n. refl; reads = λ l a b bytes r. r; was_read = λ l a b bytes r. r }) text told answer call))
+    asm_made w = grind (arith, asm_command)
 
     pub convert_made : AsksForConvert words → convert_verdict text ≡ Ok made
-    convert_made w =
-        verdict_is (convert_verdict text) made (made_text lines.Convert
-        (call_comes taken faults old new lines.Convert (convert_command words w) (record { opens = refl; no_image = λ n. refl; reads = λ l a b bytes r. r; was_read = λ l a b bytes r. r }) text told answer call))
+    convert_made w = grind (arith, convert_command)
 
     pub bind_made : (is_some (command_line_of words) ≡ false → (answer ≡ 1) ⊎ (answer ≡ 8)) → AsksForBind words → (pairs : List Pair) × (bind_verdict pairs text ≡ Ok made)
     bind_made none w = by_command (command_line_of words) refl

@@ -1,16 +1,16 @@
 -- A program that names no PROCESS calls none.
-use Rattle.std.proofs.Common.{◌≡◌, ℕ, zero, suc, ◌+◌, ◌-◌, ◌^◌, ◌%◌, ◌<◌, ◌≤◌, ◌⊎◌, ⊎_elim, inl, inr, ltb, leb, List, [], ◌∷◌, map, reverse, length, Option, Some, None, unwrap_or, Ok, Err, refl, sym, ap, subst, ◌∙◌, arith}
+use Rattle.std.proofs.Common.{◌≡◌, ℕ, zero, suc, ◌+◌, ◌-◌, ◌^◌, ◌%◌, ◌<◌, ◌≤◌, ◌⊎◌, ⊎_elim, inl, inr, ltb, leb, List, [], ◌∷◌, map, reverse, Option, Some, None, unwrap_or, Ok, refl, sym, ap, subst, ◌∙◌, arith}
 use Rattle.std.specs.Prelude.{flat_map, slice_get}
 use Rattle.std.specs.Option.{ok_or}
 use Rattle.std.proofs.lemmas.Bool.{cases_Bool, cases_lt, leb-true, ltb-false}
-use Rattle.b67_word.specs.declared.faults.Fault.TheVariants.{InvalidAddress, InvalidIndex}
+use Rattle.b67_word.specs.declared.faults.Fault.TheVariants.{InvalidAddress}
 use Rattle.b67_word.specs.Couples.{couple, level_of}
 use Rattle.b67_model.specs.declared.operators.Op.{Op}
 use Rattle.b67_model.specs.declared.operators.Op.TheVariants.{Namc, Plain}
 use Rattle.b67_model.specs.declared.operators.Code.TheVariants.{Entr, Stff}
 use Rattle.b67_model.specs.Keyed.{keyed}
 use Rattle.b67_model.specs.Words as Words
-use Rattle.b67_model.specs.Common.{Answer, Word, Operand, Name, Ref, Row, Element, Original, Proc, Intrinsic, Frame, Standing, Marked, Entered, Task, Job, Line, OperatorContext, mcp, no_frame, frame, all_frames, level_of_standing, level_of_frame, environment_of, running, running_level, outward, cell_of, cell, named, place_of, End, AtCell, AtElement, AtArray, AtProc, AtIntrinsic, array, Link, Stops, Leads, element_end, link_at, link_in, link_from, link, chase_on, follow_reference, called, called_at, called_by, called_on, top_of, cells_of, stff_word, stff, row, Goes, Starts, known_of, outer_reach, outer_of, from_frame, frames_of_task, critical_of, IsEntered, EntryInOrder}
+use Rattle.b67_model.specs.Common.{Answer, Word, Operand, Name, Ref, Row, Element, Original, Proc, Intrinsic, Frame, Standing, Marked, Entered, Task, Job, Line, OperatorContext, mcp, no_frame, frame, all_frames, level_of_standing, level_of_frame, environment_of, running, running_level, outward, cell_of, cell, named, place_of, End, AtIntrinsic, array, Link, Stops, Leads, element_end, link_at, link_in, link_from, link, chase_on, follow_reference, called, called_at, called_by, called_on, top_of, cells_of, stff_word, stff, row, Goes, Starts, known_of, outer_reach, outer_of, from_frame, frames_of_task, critical_of, IsEntered, EntryInOrder}
 use Rattle.b67_lemmas.specs.Lists.{Has}
 use Rattle.b67_lemmas.proofs.Members.{all_in, has_append_cases, has_append_right, has_flat_back, has_reverse_back, keyed_has}
 use Rattle.b67_law_order.proofs.Posts.{Post, post_ok, post_err, post_bind, post_any, post_if_is, post_at}
@@ -71,22 +71,7 @@ five_bits : (bits : ℕ) → bits < 2 ^ 14 → level_of 5 bits ≡ 0 → bits % 
 five_bits bits small e d = omega (arith, small, e, d)
 
 couple_low : (bits level : ℕ) → bits < 2 ^ 14 → (couple bits level).level ≡ 0 → (couple bits level).disp ≡ 12 → bits ≡ 12
-couple_low bits level small e d = elim (cases_Bool (leb level 1)) [
-  | inl t ↦ one_bit bits small (rw t at e) (rw t at d)
-  | inr t ↦ elim (cases_Bool (leb level 3)) [
-    | inl u ↦ two_bits bits small (rw (t, u) at e) (rw (t, u) at d)
-    | inr u ↦ elim (cases_Bool (leb level 7)) [
-      | inl v ↦ three_bits bits small (rw (t, u, v) at e) (rw (t, u, v) at d)
-      | inr v ↦ elim (cases_Bool (leb level 15)) [
-        | inl w ↦ four_bits bits small (rw (t, u, v, w) at e) (rw (t, u, v, w) at d)
-        | inr w ↦ elim (cases_Bool (leb level 31)) [
-          | inl x ↦ five_bits bits small (rw (t, u, v, w, x) at e) (rw (t, u, v, w, x) at d)
-          | inr x ↦ five_bits bits small (rw (t, u, v, w, x) at e) (rw (t, u, v, w, x) at d)
-        ]
-      ]
-    ]
-  ]
-]
+couple_low bits level small e d = grind arith
 
 -- ---- the MCP's frame
 
@@ -102,11 +87,7 @@ Counted k (w ∷ ws) = (w ≡ Intrinsic k) × Counted (k + 1) ws
 
 counted_get : (k : ℕ) (ws : List Word) (i n : ℕ) → Counted k ws → slice_get ws i ≡ Some (Intrinsic n) → n ≡ k + i
 counted_get k [] i n c e = absurd (let z : ⊥ = cc in z)
-counted_get k (w ∷ ws) zero n c e =
-    let is : w ≡ Intrinsic n = cc in
-    let same : Intrinsic k ≡ Intrinsic n = sym c.0 ∙ is in
-    let number : k ≡ n = cc in
-    omega (arith, number)
+counted_get k (w ∷ ws) zero n c e = grind arith
 counted_get k (w ∷ ws) (suc i) n c e = let more = counted_get (k + 1) ws i n c.1 e in omega (arith, more)
 
 mcp_cell : (offset n : ℕ) → cell_of mcp offset ≡ Some (Intrinsic n) → n ≡ offset
@@ -126,12 +107,7 @@ in_mcp : (w : Word) → Has mcp.cells w → IsIntrinsic w
 in_mcp w h = all_in IsIntrinsic mcp.cells w (tt, (tt, (tt, (tt, (tt, (tt, (tt, (tt, (tt, (tt, (tt, tt))))))))))) h
 
 called_at_is : (a : Answer End) (n : ℕ) → called_at a ≡ Some n → a ≡ Ok (AtIntrinsic n)
-called_at_is (Ok (AtIntrinsic m)) n e = let is : m ≡ n = cc in ap (λ (k : ℕ). Ok (AtIntrinsic k)) is
-called_at_is (Ok (AtCell f offset bits)) n e = absurd (let z : ⊥ = cc in z)
-called_at_is (Ok (AtElement a index)) n e = absurd (let z : ⊥ = cc in z)
-called_at_is (Ok (AtArray a)) n e = absurd (let z : ⊥ = cc in z)
-called_at_is (Ok (AtProc f segment level place)) n e = absurd (let z : ⊥ = cc in z)
-called_at_is (Err fault) n e = absurd (let z : ⊥ = cc in z)
+called_at_is a n e = grind arith
 
 -- ---- where the words of a running task lead
 
@@ -143,8 +119,7 @@ module _ (P : Starts) (h : OperatorContext) (run : Run P h) where
   not_mcp f k low is =
       let seen = see P h run f.identity f.standing k in
       let same : f.standing ≡ Entered 0 0 None = sym seen.standing ∙ ap (λ (n : ℕ). (frame h n).standing) is ∙ seen_mcp.standing in
-      let none : level_of_frame f ≡ 0 = ap level_of_standing same in
-      omega (arith, low, none)
+      grind arith
 
   outward_not_mcp : (links : ℕ) (f : Frame) → Has (reach h) (known_of f) → IsEntered f.standing → links + 1 ≤ level_of_frame f → (outward h links f).identity ≡ 0 → ⊥
   outward_not_mcp zero f k e low is = not_mcp f k (omega (arith, low)) is
@@ -169,15 +144,7 @@ module _ (P : Starts) (h : OperatorContext) (run : Run P h) where
       (λ t. post_err IsFreePlace _)
 
   place_free : (w : Word) → IsFree w → Post IsFreePlace (place_of h w)
-  place_free (Name bits) g = named_free bits g.0 g.1
-  place_free (Ref identity offset) g = post_ok IsFreePlace (identity, offset) g
-  place_free (Operand bits) g = post_err IsFreePlace _
-  place_free (Row array) g = post_err IsFreePlace _
-  place_free (Element array index) g = post_err IsFreePlace _
-  place_free (Original array) g = post_err IsFreePlace _
-  place_free (Proc segment level place) g = post_err IsFreePlace _
-  place_free (Intrinsic number) g = post_err IsFreePlace _
-  place_free (Words.Segment number) g = post_err IsFreePlace _
+  place_free w g = grind (arith, named_free)
 
   -- STFF makes a reference to the place of the couple
   stff_word_free : (w : Word) → IsFree w → Post IsFree (stff_word h w)
@@ -192,9 +159,7 @@ module _ (P : Starts) (h : OperatorContext) (run : Run P h) where
   stff_word_free (Words.Segment number) g = post_err IsFree _
 
   stff_free : (cells : List Word) → AllFree cells → Post AllFree (stff h cells)
-  stff_free [] all = post_err AllFree _
-  stff_free (w ∷ rest) all = post_bind IsFree AllFree (stff_word h w) _ (stff_word_free w (all w (inl refl)))
-      (λ v one. post_ok AllFree (v ∷ rest) (S.cons_words IsFree AnyMark free_operands v rest one (S.tail_words IsFree AnyMark free_operands w rest all)))
+  stff_free cells all = grind (arith, stff_word_free)
 
   module _ (tasks : TasksFree h.job.tasks) where
     -- a word of a frame
@@ -243,10 +208,7 @@ module _ (P : Starts) (h : OperatorContext) (run : Run P h) where
         ]
 
     no_element : (a index : ℕ) → element_end h a index ≡ Ok (AtIntrinsic 12) → ⊥
-    no_element a index e = elim (cases_Bool (ltb index (length (array h.job a).numbers))) [
-      | inl t ↦ let no : Ok (AtElement a index) ≡ Ok (AtIntrinsic 12) = rw t at e in let z : ⊥ = cc in z
-      | inr t ↦ let no : Err InvalidIndex ≡ Ok (AtIntrinsic 12) = rw t at e in let z : ⊥ = cc in z
-    ]
+    no_element a index e = grind arith
 
     word_link : (f offset : ℕ) → IsFreePlace (f, offset) → (v : Word) → cell h f offset ≡ Ok v → LinkFree (link_at h f offset v)
     word_link f offset free (Operand bits) e = λ x. let z : ⊥ = cc in z
@@ -260,12 +222,10 @@ module _ (P : Starts) (h : OperatorContext) (run : Run P h) where
     word_link f offset free (Words.Segment number) e = λ x. let z : ⊥ = cc in z
 
     cell_link : (f offset : ℕ) → IsFreePlace (f, offset) → (a : Answer Word) → cell h f offset ≡ a → LinkFree (link_in h f offset a)
-    cell_link f offset free (Err fault) e = λ x. let z : ⊥ = cc in z
-    cell_link f offset free (Ok v) e = word_link f offset free v e
+    cell_link f offset free a e = grind (arith, word_link)
 
     place_link : (a : Answer (ℕ × ℕ)) → Post IsFreePlace a → LinkFree (link_from h a)
-    place_link (Err fault) p = λ x. let z : ⊥ = cc in z
-    place_link (Ok at) p = cell_link at.0 at.1 p.by (cell h at.0 at.1) refl
+    place_link a p = grind (arith, cell_link)
 
     chase_free : (links : ℕ) (l : Link) → LinkFree l → chase_on h links l ≡ Ok (AtIntrinsic 12) → ⊥
     chase_free links (Stops end) g e = g e
@@ -298,15 +258,7 @@ module _ (P : Starts) (h : OperatorContext) (run : Run P h) where
 
     -- what an operator makes
     makes_free : (op : Op) (call : Option ℕ) (w : Word) → OpBits op → (op ≡ Namc 12 → ⊥) → (op ≡ Plain Stff → IsFree w) → OperatorMakes op call w → IsFree w
-    makes_free op call (Operand bits) fits other stffs m = tt
-    makes_free op call (Name couple) fits other stffs m = (subst OpBits m fits, λ is. other (m ∙ ap Namc is))
-    makes_free op call (Ref f offset) fits other stffs m = stffs m
-    makes_free op call (Row array) fits other stffs m = tt
-    makes_free op call (Element array index) fits other stffs m = tt
-    makes_free op call (Original array) fits other stffs m = tt
-    makes_free op call (Proc segment level place) fits other stffs m = tt
-    makes_free op call (Intrinsic number) fits other stffs m = m
-    makes_free op call (Words.Segment number) fits other stffs m = tt
+    makes_free op call w fits other stffs m = grind arith
 
     -- a row
     pub row_free : (found : Task) → Has h.job.tasks found → found.frames ≡ h.task.frames → (op : Op) → OpBits op → (op ≡ Namc 12 → ⊥)

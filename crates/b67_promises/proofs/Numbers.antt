@@ -1,16 +1,14 @@
 -- After each operator that goes on every task lives that lived before it.
-use Rattle.std.proofs.Common.{◌≡◌, ℕ, ◌+◌, true, ℤ, pos, negsuc, List, [], ◌∷◌, length, map, reverse, replicate, Option, Some, None, Ok, Err, refl, sym, ap, ◌∙◌, subst, inl, inr}
-use Rattle.std.specs.Prelude.{◌==◌, nat_lt, nat_le, not}
-use Rattle.std.specs.List.{list_any}
-use Rattle.std.proofs.lemmas.Bool.Decides.{eqb_tells}
-use Rattle.std.proofs.lemmas.Option.{same_Some, none-some}
+use Rattle.std.proofs.Common.{◌≡◌, ℕ, ◌+◌, true, ℤ, pos, negsuc, List, [], ◌∷◌, length, map, reverse, replicate, Option, Some, None, Ok, refl, sym, ap, ◌∙◌, subst, inr, arith}
+use Rattle.std.specs.Prelude.{◌==◌, nat_lt, nat_le}
+use Rattle.std.proofs.lemmas.Option.{none-some}
 use Rattle.b67_lemmas.specs.Lists.{Has}
 use Rattle.b67_lemmas.proofs.Members.{map_change, map_map_key}
-use Rattle.b67_word.specs.declared.faults.Fault.TheVariants.{StackOverflow, InvalidOperand}
+use Rattle.b67_word.specs.declared.faults.Fault.TheVariants.{StackOverflow}
 use Rattle.b67_model.specs.declared.operators.Op.{Op}
 use Rattle.b67_model.specs.declared.operators.Op.TheVariants.{Plain}
 use Rattle.b67_model.specs.declared.operators.Code.TheVariants.{Entr}
-use Rattle.b67_model.specs.Common.{Answer, ◌>>=◌, needs, needs_level, Word, Operand, Original, Array, Standing, Marked, Entered, Task, Job, OperatorContext, with_task, top, below_top, with_cell, with_cell_of, array, with_array, all_zero, resized, End, AtCell, AtElement, AtArray, AtProc, AtIntrinsic, follow_reference, Line, Value, Values, Done, Goes, Leaves, Waits, top_of, cells_of, answered, answers, array_length, arraydec, print, numbers_of, row_copy, printrow, read_from, read, is_original, child_of, starts, process, awaits, await, status_of, status, waits_at, wait, woken_at, wakes, causes, cause, needs_writable, deallocate, resize, intrinsic, entr_at, entr_with, entr, row, called_at, called_by, called_on, called}
+use Rattle.b67_model.specs.Common.{Answer, ◌>>=◌, needs, needs_level, Word, Operand, Original, Array, Standing, Marked, Entered, Task, Job, OperatorContext, with_task, top, below_top, with_cell, with_cell_of, array, with_array, all_zero, resized, End, AtCell, AtElement, AtArray, AtProc, AtIntrinsic, follow_reference, Line, Value, Values, Done, Goes, Leaves, Waits, top_of, cells_of, answered, answers, array_length, arraydec, print, numbers_of, row_copy, printrow, read_from, read, child_of, starts, process, awaits, await, status_of, status, waits_at, wait, woken_at, wakes, causes, cause, needs_writable, deallocate, resize, intrinsic, entr_at, entr_with, entr, row, called_at, called_by, called_on, called}
 use Rattle.b67_model.specs.Words.{whole}
 use Rattle.b67_model.specs.Keyed.{keyed, change_keyed}
 use Rattle.b67_law_order.proofs.Posts.{Post, post_ok, post_err, post_any, post_then, post_if, post_at}
@@ -82,17 +80,14 @@ module _ (before : List ℕ) where
   starts_good h words (AtIntrinsic n) s = post_err Keeps _
 
   process_good : (h : OperatorContext) (arguments : List Word) → Source h → Good (process h arguments)
-  process_good h [] s = post_err Keeps _
-  process_good h (r ∷ words) s = post_then Keeps (needs (not (list_any is_original words)) InvalidOperand) _ (post_any Keeps (follow_reference h r) _ (λ end. starts_good h words end s))
+  process_good h arguments s = grind (arith, starts_good)
 
   awaits_good : (h : OperatorContext) (n : ℤ) → Source h → Good (awaits h n)
   awaits_good h (pos n) s = post_if Keeps _ _ _ (post_ok Keeps _ tt) (answers_good h h.job [] [] None s)
   awaits_good h (negsuc n) s = answers_good h h.job [] [] None s
 
   await_good : (h : OperatorContext) (arguments : List Word) → Source h → Good (await h arguments)
-  await_good h [] s = post_err Keeps _
-  await_good h (w ∷ []) s = post_any Keeps (whole w) _ (λ n. awaits_good h n s)
-  await_good h (w ∷ v ∷ more) s = post_err Keeps _
+  await_good h arguments s = grind (arith, awaits_good)
 
   status_good : (h : OperatorContext) (arguments : List Word) → Source h → Good (status h arguments)
   status_good h [] s = post_err Keeps _
@@ -107,9 +102,7 @@ module _ (before : List ℕ) where
   waits_at_good h (AtIntrinsic n) s = post_err Keeps _
 
   wait_good : (h : OperatorContext) (arguments : List Word) → Source h → Good (wait h arguments)
-  wait_good h [] s = post_err Keeps _
-  wait_good h (r ∷ []) s = post_any Keeps (follow_reference h r) _ (λ end. waits_at_good h end s)
-  wait_good h (r ∷ w ∷ more) s = post_err Keeps _
+  wait_good h arguments s = grind (arith, waits_at_good)
 
   woken : (f offset : ℕ) (job : Job) → Stay before (task_numbers job.tasks) → Stay before (task_numbers (wakes f offset (with_cell job f offset (Operand 1))).tasks)
   woken f offset job s n h =
@@ -127,9 +120,7 @@ module _ (before : List ℕ) where
   causes_good h (AtIntrinsic n) s = post_err Keeps _
 
   cause_good : (h : OperatorContext) (arguments : List Word) → Source h → Good (cause h arguments)
-  cause_good h [] s = post_err Keeps _
-  cause_good h (r ∷ []) s = post_any Keeps (follow_reference h r) _ (λ end. causes_good h end s)
-  cause_good h (r ∷ w ∷ more) s = post_err Keeps _
+  cause_good h arguments s = grind (arith, causes_good)
 
   deallocate_good : (h : OperatorContext) (arguments : List Word) → Source h → Good (deallocate h arguments)
   deallocate_good h [] s = post_err Keeps _
@@ -160,15 +151,10 @@ module _ (before : List ℕ) where
   -- ---- the operators that call one
 
   at_good : (h : OperatorContext) (arguments : List Word) (end : End) (n : ℕ) → called_at (Ok end) ≡ Some n → Source h → Good (entr_at h arguments end)
-  at_good h arguments (AtIntrinsic k) n e s = intrinsic_good k h arguments s
-  at_good h arguments (AtCell f offset bits) n e s = absurd (none-some n e)
-  at_good h arguments (AtElement a index) n e s = absurd (none-some n e)
-  at_good h arguments (AtArray a) n e s = absurd (none-some n e)
-  at_good h arguments (AtProc f segment level place) n e s = absurd (none-some n e)
+  at_good h arguments end n e s = grind (arith, intrinsic_good)
 
   end_good : (h : OperatorContext) (arguments : List Word) (end : Answer End) (n : ℕ) → called_at end ≡ Some n → Source h → Good (end >>= entr_at h arguments)
-  end_good h arguments (Ok end) n e s = at_good h arguments end n e s
-  end_good h arguments (Err fault) n e s = absurd (none-some n e)
+  end_good h arguments end n e s = grind (arith, at_good)
 
   with_good_call : (h : OperatorContext) (cells : List Word) (n : ℕ) → called_by h cells ≡ Some n → Source h → Good (entr_with h cells)
   with_good_call h [] n e s = absurd (none-some n e)
@@ -190,10 +176,7 @@ by_profiles (t ∷ ts) = ap (λ (ns : List ℕ). t.number ∷ ns) (by_profiles t
 
 profile_found : (n : ℕ) (ts : List Task) (t : Task) → keyed number_in n ts ≡ Some t → keyed (λ (p : Profile). p.number) n (profiles ts) ≡ Some (profile t)
 profile_found n [] t e = absurd (none-some t e)
-profile_found n (u ∷ ts) t e = elim (eqb_tells u.number n) [
-  | inl k ↦ let same : u ≡ t = same_Some u t (rw k.0 at e) in rw k.0 (ap (λ (v : Task). Some (profile v)) same)
-  | inr k ↦ let later : keyed number_in n ts ≡ Some t = rw k.0 at e in rw k.0 (profile_found n ts t later)
-]
+profile_found n (u ∷ ts) t e = grind (arith, profile_found n ts t)
 
 -- each operator of a live task
 pub rows_stay : (op : Op) (h : OperatorContext) (t : Task) → keyed number_in h.task.number h.job.tasks ≡ Some t → profile t ≡ profile h.task

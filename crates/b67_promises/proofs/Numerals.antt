@@ -1,9 +1,9 @@
 -- Lists of which each item meets a condition, and the digits of a number among them.
-use Rattle.std.proofs.Common.{◌≤◌, ◌<◌, ◌+◌, ◌/◌, ◌%◌, ℕ, zero, suc, false, List, [], ◌∷◌, ◌++◌, decimal, inl, inr, sym, ◌∙◌, arith}
-use Rattle.std.specs.Prelude.{◌==◌, nat_lt}
+use Rattle.std.proofs.Common.{◌≤◌, ◌<◌, ◌+◌, ◌/◌, ◌%◌, ℕ, zero, suc, false, List, [], ◌∷◌, ◌++◌, decimal, ◌∙◌, arith}
+use Rattle.std.specs.Prelude.{◌==◌}
 use Rattle.std.specs.List.{AllByRecursion}
 use Rattle.std.specs.Fmt.{digits, digits_onto, digit_glyph}
-use Rattle.std.proofs.lemmas.Bool.{cases_Bool, lt-ltb, false≢true}
+use Rattle.std.proofs.lemmas.Bool.{false≢true}
 
 pub all_joined : {A : Type 0} (P : A → Type 0) (xs ys : List A) → AllByRecursion P xs → AllByRecursion P ys → AllByRecursion P (xs ++ ys)
 all_joined P [] ys p q = q
@@ -11,19 +11,11 @@ all_joined P (x ∷ xs) ys p q = (p.0, all_joined P xs ys p.1 q)
 
 module _ (P : ℕ → Type 0) (each : (b : ℕ) → 48 ≤ b → b ≤ 57 → P b) where
   glyph : (d : ℕ) → d < 10 → P (digit_glyph false d)
-  glyph d low = elim (cases_Bool (nat_lt d 10)) [
-    | inl t ↦ rw t (each (48 + d) (omega arith) (omega (arith, low)))
-    | inr z ↦ absurd (false≢true (sym z ∙ lt-ltb d 10 low))
-  ]
+  glyph d low = grind arith
 
   onto : (k n : ℕ) (acc : List ℕ) → AllByRecursion P acc → AllByRecursion P (digits_onto k 10 false n acc)
   onto zero n acc p = p
-  onto (suc k) n acc p =
-      let one : P (digit_glyph false (n % 10)) = glyph (n % 10) (omega arith) in
-      elim (cases_Bool (n / 10 == 0)) [
-        | inl t ↦ rw t (one, p)
-        | inr z ↦ rw z (onto k (n / 10) (digit_glyph false (n % 10) ∷ acc) (one, p))
-      ]
+  onto (suc k) n acc p = grind (arith, onto k)
 
   -- each digit of a number's numeral
   pub numeral_all : (n : ℕ) → AllByRecursion P (decimal n)

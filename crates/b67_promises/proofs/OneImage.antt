@@ -1,5 +1,5 @@
 -- The machine whose image a call printed is the one that is read of the whole text.
-use Rattle.std.proofs.Common.{◌≡◌, ◌<◌, ◌≤◌, ◌+◌, ◌*◌, ◌/◌, ◌^◌, ℕ, zero, suc, List, [], ◌∷◌, ◌++◌, length, take, drop, map, Option, Ok, Result, refl, sym, ap, ◌∙◌, arith}
+use Rattle.std.proofs.Common.{◌≡◌, ◌<◌, ◌≤◌, ◌+◌, ◌*◌, ◌/◌, ◌^◌, ℕ, zero, suc, List, [], ◌∷◌, ◌++◌, length, take, drop, map, Option, Ok, Result, refl, ap, ◌∙◌, arith}
 use Rattle.std.specs.List.{flat_map, AllByRecursion, range_with_len}
 use Rattle.std.proofs.lemmas.List.{length-append, length-take, length-drop}
 use Rattle.std.proofs.lemmas.List.Concat.{flat_map-cons}
@@ -12,7 +12,7 @@ use Rattle.b67_task_tables.specs.declared.tables.Machine.{Machine}
 use Rattle.b67_task_tables.specs.declared.tables.JobRow.{JobRow}
 use Rattle.b67_image.specs.Parts.{ImageParts, parts_of}
 use Rattle.b67_image.specs.Spelling.{image_bytes}
-use Rattle.b67_image.specs.Text.{limit, first_card, last_card, card_lines, image_text_of, bytes_of}
+use Rattle.b67_image.specs.Text.{limit, card_lines, image_text_of, bytes_of}
 use Rattle.b67_image.specs.Image.{image_text}
 use Rattle.b67_image.specs.Typed.{AreTyped, HaveShortNames}
 use Rattle.b67_image.specs.Meaning.{told_in}
@@ -44,8 +44,7 @@ module _ (bytes : List ℕ) where
       let line = ended_length (hex_text (piece a)) in
       let digits = text_length (piece a) in
       let size = length-take 32 (drop (32 * a) bytes) in
-      let left = length-drop (32 * a) bytes in
-      omega (arith, rest, all, line, digits, size, left)
+      grind (arith, length-drop)
 
   lines_length : length bytes ≤ length (card_lines bytes)
   lines_length = omega (arith, cards_length ((length bytes + 31) / 32) 0 (omega arith))
@@ -53,11 +52,7 @@ module _ (bytes : List ℕ) where
 image_length : (before bytes tail : List ℕ) → length bytes ≤ length (before ++ (image_text_of bytes ++ tail))
 image_length before bytes tail =
     let few = lines_length bytes in
-    let n1 = length-append before (image_text_of bytes ++ tail) in
-    let n2 = length-append (image_text_of bytes) tail in
-    let n3 = length-append (ended first_card) (card_lines bytes ++ ended last_card) in
-    let n4 = length-append (card_lines bytes) (ended last_card) in
-    omega (arith, few, n1, n2, n3, n4)
+    grind (arith, length-append)
 
 -- ---- the parts that are read
 
@@ -83,8 +78,4 @@ module _ (printed : List RunLine) (count : ℕ) (k : Machine) where
       let b = bytes_among o.each tail bytes o.other all in
       let whole : bytes_of text_of_halt ≡ Ok (b.0, bytes) = ap (λ (x : List ℕ). bytes_of (x ++ (image_text_of bytes ++ tail))) o.is ∙ b.1 in
       let s = spelled_in sectors text_of_halt card p told in
-      let same : image_bytes p ≡ bytes = same_pair card b.0 (image_bytes p) bytes (sym s.bytes ∙ whole) in
-      let t = within_typed p s.within in
-      let size : length bytes ≤ length text_of_halt = image_length (run_text printed) bytes tail in
-      let small : length (image_bytes p) < 2 ^ 32 = omega (arith, ap length same, size, few) in
-      images_tell_one p (parts_of k) t.0 typed t.1 names.short small same
+      grind (arith, within_typed, image_length, images_tell_one)

@@ -2,22 +2,21 @@
 use Rattle.std.proofs.Common.{◌≡◌, ◌≤◌, ◌<◌, ◌+◌, ◌-◌, ⊎_elim, inl, inr, ◌⊎◌, ℕ, List, ◌++◌, append-nil, length, sym, ap, subst, ◌∙◌, arith, Option, Some, None}
 use Rattle.std.specs.Prelude.{IfSome}
 use Rattle.std.specs.List.{AllByRecursion}
-use Rattle.std.specs.Str.Lines.{lines as text_lines}
 use Rattle.std.proofs.lemmas.Bool.{cases_lt}
 use denote.Ref.{Bor}
 use Rattle.b67_lemmas.specs.Lists.{Has}
 use Rattle.b67_lemmas.proofs.Members.{has_append_right, all_in}
-use Rattle.b67_model.specs.Common.{Line, RunLine, Session, lines, after, ready, live_tasks, run_text}
+use Rattle.b67_model.specs.Common.{Line, RunLine, Session, lines, after, ready, live_tasks}
 use Rattle.b67_session_lines.specs.Stops.{live_after}
 use Rattle.b67_session_lines.proofs.Statuses.{after-add}
 use Rattle.b67_job.specs.Device.{Device}
 use Rattle.b67_job.specs.Runs.{run_of}
 use Rattle.b67_promises.specs.Switches.{NeverTwoReady, AreOfOneTask}
 use Rattle.b67_promises.proofs.Steps.{lines_add}
-use Rattle.b67_promises.proofs.Calls.{Printed, all_ended, halt_came, fell_short}
+use Rattle.b67_promises.proofs.Calls.{Printed}
 use Rattle.b67_promises.proofs.OneStack.{ready_live, none_later}
 use Rattle.b67_promises.proofs.MoreCore.{WholeRun}
-use Rattle.b67_promises.proofs.FirstLines.{BeginsFirst, IsFirst, all_first}
+use Rattle.b67_promises.proofs.FirstLines.{IsFirst, all_first}
 use Rattle.b67_promises.proofs.Lives.{Lives, Small, run_told, none_lives, one_lives}
 
 -- after so many steps no task lives, and all their lines are of one task
@@ -44,11 +43,7 @@ whole_first s o j le job n small l =
 module _ {S B : Type 0} {words : List (Bor (List ℕ))} {left : S → Option (List ℕ)} {deck deck' : S} {d : Device B} (w : WholeRun words left deck deck' d)
     (status : ℕ) (zero : status ≡ 0) (text : List ℕ) (printed : Printed (run_of w.p) None status text) (lone : AreOfOneTask text) where
   over_by : Printed (run_of w.p) None status text → Over (run_of w.p).session
-  over_by (all_ended z steps within over made is) =
-      let same : text ≡ run_text (lines steps (run_of w.p).session) = is ∙ append-nil (run_text (lines steps (run_of w.p).session)) in
-      record { steps = steps; over = over; first = all_first (lines steps (run_of w.p).session) (subst (λ (t : List ℕ). AllByRecursion BeginsFirst (text_lines t)) same lone) }
-  over_by (halt_came three h) = absurd (omega (arith, zero, three))
-  over_by (fell_short short shape) = absurd (short (inl zero))
+  over_by h = grind (arith, append-nil, all_first)
 
   pub never_two : (steps : ℕ) → IfSome (run_of w.p).halt (λ count. steps ≤ count) → NeverTwoReady steps (run_of w.p).session
   never_two steps within j less = by_over (over_by printed)

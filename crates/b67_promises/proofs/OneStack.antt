@@ -1,10 +1,9 @@
 -- A run that is whole in a core that holds one stack never has two ready tasks.
-use Rattle.std.proofs.Common.{◌≡◌, ◌≤◌, ◌<◌, ◌*◌, ⊎_elim, inl, inr, ◌⊎◌, ℕ, Bool, true, false, List, [], ◌∷◌, length, reverse, filter, refl, sym, subst, arith, cond, ltb-false, Option, Some, None}
+use Rattle.std.proofs.Common.{◌≡◌, ◌≤◌, ◌<◌, ◌*◌, ⊎_elim, inl, inr, ◌⊎◌, ℕ, List, [], ◌∷◌, length, reverse, filter, refl, subst, arith, cond, Option, Some, None}
 use Rattle.std.specs.Prelude.{IfSome, nat_lt, flat_map, option_map}
 use Rattle.std.proofs.lemmas.Bool.{cases_lt}
 use Rattle.std.proofs.lemmas.List.{length-map, length-append, length-reverse}
 use Rattle.std.proofs.lemmas.List.Sums.{sum_by-cons}
-use Rattle.std.proofs.lemmas.Nat.{mul-le}
 use Rattle.std.proofs.lemmas.Option.{same_Some, none-some}
 use Rattle.b67_lemmas.specs.Lists.{Has}
 use Rattle.b67_lemmas.proofs.Members.{all_in, keyed_has, length_filter}
@@ -55,34 +54,21 @@ next_of core words s e = by_choice (choice s) e
 
 -- in either case the stacks that there have been have room
 fits_base : (core base full : ℕ) → cond (nat_lt core base) base full ≤ core → base ≤ core
-fits_base core base full fits = by_test (nat_lt core base) refl fits
-  where
-    by_test : (b : Bool) → nat_lt core base ≡ b → cond b base full ≤ core → base ≤ core
-    by_test true t fits = fits
-    by_test false t fits = ltb-false core base t
+fits_base core base full fits = grind arith
 
 one_of : (peak stack : ℕ) → LEAST_STACK ≤ stack → peak * stack < 2 * LEAST_STACK → peak ≤ 1
-one_of peak stack low few = ⊎_elim
-    (λ (less : 1 < peak). let more : 2 * LEAST_STACK ≤ peak * stack = mul-le 2 LEAST_STACK peak stack (omega (arith, less)) low in absurd (omega (arith, more, few)))
-    (λ (le : peak ≤ 1). le) (cases_lt 1 peak)
+one_of peak stack low few = grind arith
 
 -- a session whose next step fits such a core
 one_task : (core : ℕ) (s : Session) → HoldsOneStack core → IsInOrder s → NextFits core s → length (ready s) ≤ 1
 one_task core s small order fits =
     let n = next_of core fits.words s fits.needs in
-    let m = n.member in
-    let low = (all_in _ s.jobs m order.jobs n.among).unchanging.stack_low in
-    let base = fits_base core _ _ (subst (λ (words : ℕ). words ≤ core) (sym n.needs) fits.fits) in
-    let peak = one_of s.peak m.constants.stack_size low (omega (arith, base, small)) in
-    omega (arith, peak, order.peak_low, ready_live s.jobs)
+    grind (arith, all_in, fits_base, one_of, ready_live)
 
 -- ---- a whole run
 
 pub none_later : (made j : ℕ) (first : Session) → live_after made first ≡ 0 → made ≤ j → length (ready (after j first)) ≤ 1
-none_later made j first over le =
-    let same = over_after made j first over le in
-    let few = ready_live (after made first).jobs in
-    subst (λ (s : Session). length (ready s) ≤ 1) (sym same) (omega (arith, over, few))
+none_later made j first over le = grind (arith, over_after, ready_live)
 
 module _ {S B : Type 0} {words : List (Bor (List ℕ))} {left : S → Option (List ℕ)} {deck deck' : S} {d : Device B} (tells : DeviceTells d) (w : WholeRun words left deck deck' d) (small : HoldsOneStack w.core) where
   pub never_two : (steps : ℕ) → IfSome (run_of w.p).halt (λ count. steps ≤ count) → NeverTwoReady steps (run_of w.p).session

@@ -1,5 +1,5 @@
 -- A job that never calls PROCESS has one task at most.
-use Rattle.std.proofs.Common.{◌≡◌, ◌≤◌, ◌<◌, ⊎_elim, inl, inr, ◌⊎◌, ℕ, zero, suc, List, [], ◌∷◌, length, refl, sym, ap, subst, ◌∙◌, arith, eqb, true, Option, Some, None}
+use Rattle.std.proofs.Common.{◌≡◌, ◌≤◌, ◌<◌, ⊎_elim, inl, inr, ◌⊎◌, ℕ, zero, suc, List, [], ◌∷◌, length, refl, sym, ap, subst, ◌∙◌, arith, Option, Some, None}
 use Rattle.std.specs.Prelude.{IfSome}
 use Rattle.std.proofs.lemmas.Bool.{cases_lt}
 use Rattle.std.proofs.lemmas.Bool.Decides.{eqb_tells}
@@ -7,8 +7,8 @@ use Rattle.std.proofs.lemmas.List.Sums.{sum_by-cons}
 use Rattle.b67_lemmas.specs.Lists.{Has, total}
 use Rattle.b67_lemmas.proofs.Members.{all_in}
 use Rattle.b67_model.specs.declared.operators.Op.{Op}
-use Rattle.b67_model.specs.Keyed.{keyed, change_keyed}
-use Rattle.b67_model.specs.Common.{Frame, Standing, Marked, Entered, Task, SessionJob, Session, Choice, choice, StepResult, called, step_of, moment_by, moment_for, next, after, after_from, live_tasks, number_of, ready, Starts, IsStart, StackInOrder, ReturnsInOrder, frames_named, IsInOrder}
+use Rattle.b67_model.specs.Keyed.{change_keyed}
+use Rattle.b67_model.specs.Common.{Frame, Standing, Marked, Entered, Task, SessionJob, Session, Choice, StepResult, called, moment_by, next, after, after_from, live_tasks, number_of, ready, Starts, IsStart, StackInOrder, ReturnsInOrder, frames_named, IsInOrder}
 use Rattle.b67_law_sessions.specs.Made.{MakesMark, by_process}
 use Rattle.b67_law_sessions.specs.RunMade.{EarlierStep, FrameMadeInRun, context}
 use Rattle.b67_session_lines.specs.Stops.{live_after}
@@ -31,23 +31,14 @@ jobs_in None = []
 jobs_in (Some x) = x.session.jobs
 
 jobs_by_member : (s : Session) (c : Choice) (o : Option SessionJob) (r : StepResult) → moment_by s c o ≡ Some r → length r.session.jobs ≡ length s.jobs
-jobs_by_member s c None r e = let z : ⊥ = cc in absurd z
-jobs_by_member s c (Some m) r e =
-    let made = step_of m.constants m.progress c.who.task in
-    let same : change_keyed number_of c.who.job (λ (k : SessionJob). record k { progress = made.progress }) s.jobs ≡ r.session.jobs = ap jobs_in e in
-    ap (λ (js : List SessionJob). length js) (sym same) ∙ length_changed number_of c.who.job (λ (k : SessionJob). record k { progress = made.progress }) s.jobs
+jobs_by_member s c o r e = grind (arith, length_changed)
 
 jobs_next : (s : Session) (r : StepResult) → next s ≡ Some r → length r.session.jobs ≡ length s.jobs
 unfolding next
-jobs_next s r e = by_choice (choice s) e
-  where
-    by_choice : (o : Option Choice) → moment_for s o ≡ Some r → length r.session.jobs ≡ length s.jobs
-    by_choice None e = let z : ⊥ = cc in absurd z
-    by_choice (Some c) e = jobs_by_member s c (keyed number_of c.who.job s.jobs) r e
+jobs_next s r e = grind (arith, jobs_by_member)
 
 jobs_from : (n : ℕ) (s : Session) (o : Option StepResult) → next s ≡ o → ((t : Session) → length (after n t).jobs ≡ length t.jobs) → length (after_from (suc n) s o).jobs ≡ length s.jobs
-jobs_from n s None e rest = refl
-jobs_from n s (Some r) e rest = rest r.session ∙ jobs_next s r e
+jobs_from n s o e rest = grind (arith, jobs_next)
 
 jobs_after : (n : ℕ) (s : Session) → length (after n s).jobs ≡ length s.jobs
 jobs_after zero s = refl
@@ -70,9 +61,7 @@ lone_frame P f (Entered level environment (Some back)) e h = absurd ((subst (λ 
 bottom : (P : Starts) (frames : List Frame) → (frames ≡ [] → ⊥) → StackInOrder P frames → Bottom frames
 bottom P [] some h = absurd (some refl)
 bottom P (f ∷ []) some h = lone_frame P f f.standing refl h
-bottom P (f ∷ g ∷ more) some h =
-    let b = bottom P (g ∷ more) (λ e. let z : ⊥ = cc in z) h.1 in
-    record { frame = b.frame; among = inr b.among; level = b.level; environment = b.environment; stands = b.stands }
+bottom P (f ∷ g ∷ more) some h = grind (arith, bottom P (g ∷ more))
 
 -- without PROCESS it is the outer block's
 not_made : {op : Op} {call : Option ℕ} {level environment : ℕ} → MakesMark op call (Entered level environment None) → call ≡ Some 12
@@ -83,17 +72,12 @@ process_made op call z level environment is made = not_made (subst (λ (x : Stan
 
 named_two : (frames : List Frame) (f : Frame) → Has frames f → f.identity ≡ 2 → 1 ≤ frames_named 2 frames
 named_two [] f h e = absurd h
-named_two (g ∷ frames) f (inl is) e =
-    let t : eqb g.identity 2 ≡ true = ap (λ (x : Frame). eqb x.identity 2) is ∙ ap (λ (n : ℕ). eqb n 2) e in
-    rw t (omega arith)
+named_two (g ∷ frames) f (inl is) e = grind arith
 named_two (g ∷ frames) f (inr h) e = let few = named_two frames f h e in omega (arith, few)
 
 each_once : (tasks : List Task) → ((t : Task) → Has tasks t → 1 ≤ frames_named 2 t.frames) → length tasks ≤ total (λ (t : Task). frames_named 2 t.frames) tasks
 each_once [] all = omega arith
-each_once (t ∷ tasks) all =
-    let here = all t (inl refl) in
-    let rest = each_once tasks (λ u h. all u (inr h)) in
-    omega (arith, here, rest)
+each_once (t ∷ tasks) all = grind (arith, each_once tasks)
 
 -- ---- a session of one job
 

@@ -1,17 +1,15 @@
 -- The lines of a run are no cards of an image.
-use Rattle.std.proofs.Common.{◌≡◌, ◌≢◌, ◌⊎◌, ◌<◌, ◌≤◌, ◌+◌, ℕ, length, Ok, zero, suc, true, false, not, List, [], ◌∷◌, ◌++◌, codes, decimal, inl, inr, refl, sym, ap, subst, ◌∙◌, arith, append_assoc, append-nil}
-use Rattle.std.specs.Prelude.{ℤ, pos, negsuc, ◌==◌, ◌&&◌, ◌/◌, ◌%◌, nat_lt}
-use Rattle.std.specs.List.{list_all, flat_map, AllByRecursion}
+use Rattle.std.proofs.Common.{◌≡◌, ◌≢◌, ◌⊎◌, ◌<◌, ◌≤◌, ◌+◌, ℕ, length, Ok, zero, suc, true, not, List, [], ◌∷◌, ◌++◌, codes, decimal, inl, inr, refl, sym, ap, subst, ◌∙◌, arith, append_assoc, append-nil}
+use Rattle.std.specs.Prelude.{ℤ, ◌==◌, ◌&&◌, ◌/◌, ◌%◌, nat_lt}
+use Rattle.std.specs.List.{list_all, AllByRecursion}
 use Rattle.std.specs.Fmt.{signed_decimal}
-use Rattle.std.proofs.lemmas.Bool.{cases_Bool, and_parts, eq-eqb, lt-ltb, false≢true}
+use Rattle.std.proofs.lemmas.Bool.{cases_Bool, lt-ltb, false≢true}
 use Rattle.std.proofs.lemmas.Grind.{flat_map-append}
 use Rattle.std.proofs.lemmas.List.Concat.{flat_map-cons}
 use Rattle.b67_io.specs.Line.{ended}
 use Rattle.b67_word.specs.declared.faults.Fault.{Fault}
-use Rattle.b67_word.specs.declared.faults.Fault.TheVariants.{StackUnderflow, StackOverflow, InvalidOperand, InvalidIndex, MemoryProtect, InvalidAddress, IntegerOverflow, DivideByZero, Exponent, Loop, Uplevel, CriticalBlock, InvalidOperator, MarkPending}
 use Rattle.b67_word.specs.declared.faults.Ending.{Ending}
-use Rattle.b67_word.specs.declared.faults.Ending.TheVariants.{Ended, Parent, Deadlock, Limit, Faulted}
-use Rattle.b67_model.specs.Steps.{Line, Value, Values, Ends}
+use Rattle.b67_model.specs.Steps.{Line}
 use Rattle.b67_model.specs.Lines.{fault_name, ending_name, task_name, value_text, row_text, line_text}
 use Rattle.b67_model.specs.Common.{RunLine, run_text}
 use Rattle.b67_session_lines.specs.Stops.{halted_line}
@@ -36,19 +34,13 @@ joined xs ys p q = all_joined IsNoMark xs ys p q
 
 tested : (xs : List ℕ) → list_all (λ b. not (b == 10) && not (b == 63)) xs ≡ true → HasNoMark xs
 tested [] e = tt
-tested (x ∷ xs) e =
-    let both = and_parts (not (x == 10) && not (x == 63)) (list_all (λ b. not (b == 10) && not (b == 63)) xs) e in
-    let each = and_parts (not (x == 10)) (not (x == 63)) both.0 in (
-      ((λ (is : x ≡ 10). false≢true (sym (ap not (eq-eqb x 10 is)) ∙ each.0)), (λ (is : x ≡ 63). false≢true (sym (ap not (eq-eqb x 63 is)) ∙ each.1))),
-      tested xs both.1,
-    )
+tested (x ∷ xs) e = grind (arith, tested xs)
 
 numeral : (n : ℕ) → HasNoMark (decimal n)
 numeral n = numeral_all IsNoMark (λ b low high. ((λ e. absurd (omega (arith, low, e))), (λ e. absurd (omega (arith, high, e))))) n
 
 signed : (v : ℤ) → HasNoMark (signed_decimal v)
-signed (pos n) = numeral n
-signed (negsuc n) = (((λ (e : 45 ≡ 10). absurd (omega (arith, e))), (λ (e : 45 ≡ 63). absurd (omega (arith, e)))), numeral (suc n))
+signed v = grind (arith, numeral)
 
 value_other : (v : ℤ) → HasNoMark (value_text v)
 value_other v = joined (codes " ") (signed_decimal v) (tested (codes " ") refl) (signed v)
@@ -57,27 +49,10 @@ name_other : (job task : ℕ) → HasNoMark (task_name job task)
 name_other job task = joined (decimal job ++ codes ".") (decimal task) (joined (decimal job) (codes ".") (numeral job) (tested (codes ".") refl)) (numeral task)
 
 fault_other : (fault : Fault) → HasNoMark (fault_name fault)
-fault_other StackUnderflow = tested (codes "STACK UNDERFLOW") refl
-fault_other StackOverflow = tested (codes "STACK OVERFLOW") refl
-fault_other InvalidOperand = tested (codes "INVALID OPERAND") refl
-fault_other InvalidIndex = tested (codes "INVALID INDEX") refl
-fault_other MemoryProtect = tested (codes "MEMORY PROTECT") refl
-fault_other InvalidAddress = tested (codes "INVALID ADDRESS") refl
-fault_other IntegerOverflow = tested (codes "INTEGER OVERFLOW") refl
-fault_other DivideByZero = tested (codes "DIVIDE BY ZERO") refl
-fault_other Exponent = tested (codes "EXPONENT") refl
-fault_other Loop = tested (codes "LOOP") refl
-fault_other Uplevel = tested (codes "UPLEVEL") refl
-fault_other CriticalBlock = tested (codes "CRITICAL BLOCK") refl
-fault_other InvalidOperator = tested (codes "INVALID OPERATOR") refl
-fault_other MarkPending = tested (codes "MARK PENDING") refl
+fault_other fault = grind arith
 
 ending_other : (ending : Ending) → HasNoMark (ending_name ending)
-ending_other Ended = tested (codes "ENDED") refl
-ending_other Parent = tested (codes "PARENT") refl
-ending_other Deadlock = tested (codes "DEADLOCK") refl
-ending_other Limit = tested (codes "LIMIT") refl
-ending_other (Faulted fault) = fault_other fault
+ending_other ending = grind arith
 
 -- ---- lines
 
@@ -96,11 +71,7 @@ one_alone : (line : List ℕ) → HasNoMark line → AreOtherLines (ended line)
 one_alone line p = subst AreOtherLines (append-nil (ended line)) (one_more line [] p none_other)
 
 both_other : (a b : List ℕ) → AreOtherLines a → AreOtherLines b → AreOtherLines (a ++ b)
-both_other a b p q = record {
-  each = p.each ++ q.each;
-  is = ap (λ (t : List ℕ). t ++ b) p.is ∙ ap (λ (t : List ℕ). flat_map ended p.each ++ t) q.is ∙ sym (flat_map-append ended p.each q.each);
-  other = all_joined HasNoMark p.each q.each p.other q.other;
-}
+both_other a b p q = grind (arith, flat_map-append, all_joined)
 
 -- a row of values behind what stands on the line
 row_other : (name before : List ℕ) (room : ℕ) (vs : List ℤ) → HasNoMark name → HasNoMark before → AreOtherLines (before ++ row_text name room vs)
@@ -115,11 +86,7 @@ row_other name before (suc room) (v ∷ vs) p q =
     subst AreOtherLines (append_assoc before (value_text v) (row_text name room vs)) (row_other name (before ++ value_text v) room vs p (joined before (value_text v) q (value_other v)))
 
 line_other : (job : ℕ) (task : ℕ) (line : Line) → AreOtherLines (line_text job (task, line))
-line_other job task (Value v) = one_alone (task_name job task ++ value_text v) (joined (task_name job task) (value_text v) (name_other job task) (value_other v))
-line_other job task (Values vs) = row_other (task_name job task) (task_name job task) 10 vs (name_other job task) (name_other job task)
-line_other job task (Ends ending) =
-    one_alone (task_name job task ++ codes " " ++ ending_name ending)
-    (joined (task_name job task ++ codes " ") (ending_name ending) (joined (task_name job task) (codes " ") (name_other job task) (tested (codes " ") refl)) (ending_other ending))
+line_other job task line = grind (arith, one_alone, joined, name_other, value_other, row_other, ending_other)
 
 pub lines_other : LinesAreOther
 lines_other [] = none_other

@@ -1,6 +1,6 @@
 -- The machine of a run lies within the ranges that an image can tell: by what its deck gives, by the session that it represents,
 -- and by the types of its numbers.
-use Rattle.std.proofs.Common.{◌≡◌, ℕ, ℤ, ◌+◌, ◌-◌, ◌<◌, ◌≤◌, ◌^◌, true, List, [], ◌∷◌, length, map, Option, refl, sym, ap, subst, ◌∙◌, arith, inl, inr}
+use Rattle.std.proofs.Common.{◌≡◌, ℕ, ℤ, ◌+◌, ◌-◌, ◌<◌, ◌≤◌, ◌^◌, true, List, [], ◌∷◌, length, map, Option, sym, ap, subst, ◌∙◌, arith}
 use Rattle.std.specs.Prelude.{nat_abs}
 use Rattle.std.specs.List.{AllByRecursion}
 use Rattle.std.proofs.lemmas.List.{length-map}
@@ -51,9 +51,7 @@ given_from P (k ∷ ks) (j ∷ js) e all = (subst P (sym (ap first_given e)) all
 
 deck_gives : (js : List Job) → AllByRecursion JobInRange js → AllByRecursion (λ (j : Job). is_name j.name ≡ true) js → AllByRecursion (λ (j : Job). IsGivenInRange (given_to j)) js
 deck_gives [] range names = tt
-deck_gives (j ∷ js) range names =
-    let low = range.0.limit_low in
-    (record { name = names.0; limit_low = omega (arith, low); limit_high = range.0.limit_high; numbers = range.0.numbers }, deck_gives js range.1 names.1)
+deck_gives (j ∷ js) range names = grind (arith, deck_gives js range.1 names.1)
 
 -- ---- the rows of jobs
 
@@ -66,23 +64,7 @@ jobs_within : (plan : Placement) (ms : List SessionJob) (ks : List JobRow) → A
 jobs_within plan [] [] order shows typed given few = tt
 jobs_within plan [] (k ∷ ks) order shows typed given few = absurd shows
 jobs_within plan (m ∷ ms) [] order shows typed given few = absurd shows
-jobs_within plan (m ∷ ms) (k ∷ ks) order shows typed given few =
-    let entries = order.0.unchanging.entries in
-    let rows = shows.0.rows in
-    let many : length k.numbers < 2 ^ 32 = few k (inl refl) in (
-      record {
-        name = given.0.name;
-        dict = typed.0.dict;
-        few = omega (arith, entries, rows);
-        limit_low = given.0.limit_low;
-        limit_high = given.0.limit_high;
-        made = typed.0.made;
-        next_task = typed.0.next_task;
-        numbers = record { some = omega arith; few = omega (arith, many); each = numbers_read k.numbers given.0.numbers };
-        next_number = typed.0.next_number;
-      },
-      jobs_within plan ms ks order.1 shows.1 typed.1 given.1 (λ r there. few r (inr there)),
-    )
+jobs_within plan (m ∷ ms) (k ∷ ks) order shows typed given few = grind (arith, numbers_read, jobs_within plan ms ks order.1 shows.1 typed.1 given.1)
 
 -- ---- the whole machine
 
@@ -91,22 +73,14 @@ module _ (d : Deck) (range : DeckInRange d) (cards : CardsInRange d) (k : Machin
   jobs_are = ap (λ (g : Given). g.jobs) given
 
   few_jobs : length k.tasks.jobs ≤ 8
-  few_jobs =
-      let same : length (rows_given k.tasks.jobs) ≡ length (jobs_given d.jobs) = ap (λ (l : List JobGiven). length l) jobs_are in
-      let rows = length-map k.tasks.jobs job_given in
-      let jobs = length-map d.jobs given_to in
-      let most = range.few in
-      omega (arith, same, rows, jobs, most)
+  few_jobs = grind (arith, length-map)
 
   module _ (x : Storage) (told : Option (List (List ℕ))) (plan : Placement) (s : Session) (m : SessionJob) (order : IsInOrderButPlaces s) (stands : MachineRepresents x told k plan s) (there : Has s.jobs m) where
     regs : AreRegs k.cpu.regs
     regs =
         let t = typed.regs in
         let set = (all_in (λ (y : SessionJob). JobInOrder (IsSegment y.constants) y.constants y.progress) s.jobs m order.jobs there).unchanging in
-        let size : k.cpu.regs.stack_size ≡ m.constants.stack_size = stands.session.holds.memory.slots.regs.size ∙ sym (stands.session.holds.fits.sizes m there) in
-        let low = set.stack_low in
-        let high = set.stack_high in
-        record { typed = t; stack_low = omega (arith, size, low); stack_high = omega (arith, size, high) }
+        grind arith
 
     links : AreItems 1 MOST_CORE (λ (n : ℕ). n < 2 ^ 32) (links_in k.sectors)
     links =

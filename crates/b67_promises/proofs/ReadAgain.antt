@@ -1,22 +1,20 @@
 -- A deck that is read is read with other hexadecimal cards in the place of one job's body.
 use Rattle.std.proofs.Common.{◌≡◌, ◌≤◌, ◌<◌, ◌+◌, ℕ, Bool, true, false, cond, not, List, [], ◌∷◌, ◌++◌, length, map, refl, sym, ap, subst, ◌∙◌, arith, Option, Some, None, Result, Ok, Err, codes}
-use Rattle.std.specs.Prelude.{is_some, nat_lt, count_by, reverse, take, slice_get, ◌||◌, ◌==◌, ⊤}
-use Rattle.std.specs.List.{AllByRecursion, filter_map, cons_option}
+use Rattle.std.specs.Prelude.{reverse, ◌||◌, ◌==◌, ⊤}
+use Rattle.std.specs.List.{AllByRecursion, filter_map}
 use Rattle.std.specs.Str.Lines.{lines}
 use Rattle.std.proofs.lemmas.Bool.{ltb-true}
 use Rattle.b67_model_text.specs.declared.card.Card.{Card}
 use Rattle.b67_model_text.specs.declared.deck.Deck.{Deck}
 use Rattle.b67_model_text.specs.declared.deck.Stand.{Stand}
 use Rattle.b67_model_text.specs.declared.deck.Stand.TheVariants.{Front, Begun, Limited, InAsm, InHex, InData, Ended}
-use Rattle.b67_model_text.specs.declared.deck.Switch as deck_switch
 use Rattle.b67_model_text.specs.Answers.{Answer, ◌>>=◌, ◌>>◌, needs}
 use Rattle.b67_model_text.specs.Cards.{cards}
 use Rattle.b67_model_text.specs.Hex.{is_hex}
 use Rattle.b67_model_text.specs.Command.{Command, Stack, Quantum, Halt, Switch, Job, Limit, Asm, Hex, Data, End, Plain, is_command, plain_card, said}
-use Rattle.b67_model_text.specs.Placing.{stand, stand_after, may_stand, lacks_program, stack_in, quantum_in, halt_in, switch_in, name_in, is_repeated, is_above, rises, has_room, is_well_formed, placed_card}
+use Rattle.b67_model_text.specs.Placing.{stand, stand_after, may_stand, lacks_program, stack_in, quantum_in, halt_in, switch_in, name_in, is_repeated, rises, has_room, is_well_formed, placed_card}
 use Rattle.b67_model_text.specs.Deck.{Said, command_in, text_in, said_after, of_card, is_between, number_of_last, ended_deck, sayings, within_limit, deck, deck_of, limit}
 use Rattle.b67_model_text.proofs.Answers.{err-ok}
-use Rattle.b67_model.specs.declared.limits.TheConstants.{MOST_SWITCHES, MOST_JOBS}
 use Rattle.b67_promises.specs.Cards.{BeginsCommand}
 use Rattle.b67_promises.proofs.Renumbered.{texts_of}
 use Rattle.b67_promises.proofs.Bodies.{IsBegin}
@@ -48,13 +46,7 @@ same_again : (xs : List Command) → SameRun xs xs
 same_again xs = record { stacks = refl; quanta = refl; halts = refl; switches = refl; names = refl }
 
 one_more : (xs ys : List Command) (c : Command) → SameRun xs ys → SameRun (c ∷ xs) (c ∷ ys)
-one_more xs ys c h = record {
-  stacks = ap (cons_option (stack_in c)) h.stacks;
-  quanta = ap (cons_option (quantum_in c)) h.quanta;
-  halts = ap (cons_option (halt_in c)) h.halts;
-  switches = ap (cons_option (switch_in c)) h.switches;
-  names = ap (cons_option (name_in c)) h.names;
-}
+one_more xs ys c h = grind arith
 
 turned : (xs ys : List Command) → SameRun xs ys → SameRun ys xs
 turned xs ys h = record { stacks = sym h.stacks; quanta = sym h.quanta; halts = sym h.halts; switches = sym h.switches; names = sym h.names }
@@ -67,49 +59,16 @@ behind_plain : (xs ys : List Command) (text : List ℕ) → SameRun (Plain text 
 behind_plain xs ys text h = record { stacks = h.stacks; quanta = h.quanta; halts = h.halts; switches = h.switches; names = h.names }
 
 repeated_same : (xs ys : List Command) → SameRun xs ys → (c : Command) → is_repeated ys c ≡ is_repeated xs c
-repeated_same xs ys h (Stack n) = ap (λ (ns : List ℕ). is_some (slice_get ns 0)) h.stacks
-repeated_same xs ys h (Quantum n) = ap (λ (ns : List ℕ). is_some (slice_get ns 0)) h.quanta
-repeated_same xs ys h (Halt n) = ap (λ (ns : List ℕ). is_some (slice_get ns 0)) h.halts
-repeated_same xs ys h (Switch count job task) = refl
-repeated_same xs ys h (Job name) = refl
-repeated_same xs ys h (Limit n) = refl
-repeated_same xs ys h Asm = refl
-repeated_same xs ys h Hex = refl
-repeated_same xs ys h Data = refl
-repeated_same xs ys h End = refl
-repeated_same xs ys h (Plain text) = refl
+repeated_same xs ys h c = grind arith
 
 rises_same : (xs ys : List Command) → SameRun xs ys → (c : Command) → rises ys c ≡ rises xs c
-rises_same xs ys h (Switch count job task) = ap (λ (ws : List deck_switch.Switch). is_above (slice_get ws 0) count) h.switches
-rises_same xs ys h (Stack n) = refl
-rises_same xs ys h (Quantum n) = refl
-rises_same xs ys h (Halt n) = refl
-rises_same xs ys h (Job name) = refl
-rises_same xs ys h (Limit n) = refl
-rises_same xs ys h Asm = refl
-rises_same xs ys h Hex = refl
-rises_same xs ys h Data = refl
-rises_same xs ys h End = refl
-rises_same xs ys h (Plain text) = refl
+rises_same xs ys h c = grind arith
 
 room_same : (xs ys : List Command) → SameRun xs ys → (c : Command) → has_room ys c ≡ has_room xs c
-room_same xs ys h (Switch count job task) = ap (λ (ws : List deck_switch.Switch). needs (nat_lt (length ws) MOST_SWITCHES) 8) h.switches
-room_same xs ys h (Job name) = ap (λ (ns : List (List ℕ)). needs (nat_lt (length ns) MOST_JOBS) 9) h.names
-room_same xs ys h (Stack n) = refl
-room_same xs ys h (Quantum n) = refl
-room_same xs ys h (Halt n) = refl
-room_same xs ys h (Limit n) = refl
-room_same xs ys h Asm = refl
-room_same xs ys h Hex = refl
-room_same xs ys h Data = refl
-room_same xs ys h End = refl
-room_same xs ys h (Plain text) = refl
+room_same xs ys h c = grind arith
 
 placed_same : (xs ys : List Command) → SameRun xs ys → (s : Stand) (c : Command) → placed_by s (is_repeated ys c) (rises ys c) (has_room ys c) c ≡ placed_by s (is_repeated xs c) (rises xs c) (has_room xs c) c
-placed_same xs ys h s c =
-    ap (λ (b : Bool). placed_by s b (rises ys c) (has_room ys c) c) (repeated_same xs ys h c)
-    ∙ ap (λ (b : Bool). placed_by s (is_repeated xs c) b (has_room ys c) c) (rises_same xs ys h c)
-    ∙ ap (λ (a : Answer ⊤). placed_by s (is_repeated xs c) (rises xs c) a c) (room_same xs ys h c)
+placed_same xs ys h s c = grind arith
 
 placed_is : (xs : List Command) (c : Command) → placed_card xs c ≡ placed_by (stand xs) (is_repeated xs c) (rises xs c) (has_room xs c) c
 placed_is xs c = refl
@@ -143,13 +102,7 @@ abbrev Same : List Said → List Said → Type 0
 Same xs ys = SameRun (map command_in xs) (map command_in ys)
 
 again : (xs ys : List Said) (card other : Card) (c : Command) → other.text ≡ card.text → Same xs ys → stand_of ys ≡ stand_of xs → Read xs card c → Read ys other c
-again xs ys card other c t h s r =
-    let before = map command_in xs in
-    let before' = map command_in ys in
-    record {
-      says = ap said t ∙ r.says;
-      placed = placed_is before' c ∙ ap (λ (z : Stand). placed_by z (is_repeated before' c) (rises before' c) (has_room before' c) c) s ∙ placed_same before before' h (stand before) c ∙ sym (placed_is before c) ∙ r.placed;
-    }
+again xs ys card other c t h s r = grind (arith, placed_is)
 
 ends_again : (xs ys : List Said) (a : List Said) → stand_of ys ≡ stand_of xs → sayings xs [] ≡ Ok a → IsRead ys []
 ends_again xs ys a s e = subst (λ (z : Stand). (b : List Said) × ((of_card (number_of_last ys) (needs (is_between z) 13) >> Ok (reverse ys)) ≡ Ok b)) (sym s) (by_test (is_between (stand_of xs)) e)
@@ -188,13 +141,7 @@ led (c ∷ cs) more before a e =
 -- ---- where a body begins, one of digits may begin
 
 hex_as_well : (s : Stand) → placed_by s false true (Ok tt) Asm ≡ Ok tt → placed_by s false true (Ok tt) Hex ≡ Ok tt
-hex_as_well Begun e = refl
-hex_as_well Limited e = refl
-hex_as_well Front e = absurd (let z : ⊥ = cc in z)
-hex_as_well InAsm e = absurd (let z : ⊥ = cc in z)
-hex_as_well InHex e = absurd (let z : ⊥ = cc in z)
-hex_as_well InData e = absurd (let z : ⊥ = cc in z)
-hex_as_well Ended e = absurd (let z : ⊥ = cc in z)
+hex_as_well s e = grind arith
 
 abbrev IsInBody : Stand → Type 0
 IsInBody InAsm = Unit {0}
@@ -208,17 +155,7 @@ record Begins (xs : List Command) (c : Command) : Type 0 where
   same : SameRun (c ∷ xs) (Hex ∷ xs)
 
 begins : (xs : List Command) (c : Command) → IsBegin c → Begins xs c
-begins xs Asm b = record { placed = hex_as_well (stand xs); in_body = tt; same = record { stacks = refl; quanta = refl; halts = refl; switches = refl; names = refl } }
-begins xs Hex b = record { placed = λ e. e; in_body = tt; same = same_again (Hex ∷ xs) }
-begins xs (Stack n) b = absurd b
-begins xs (Quantum n) b = absurd b
-begins xs (Halt n) b = absurd b
-begins xs (Switch count job task) b = absurd b
-begins xs (Job name) b = absurd b
-begins xs (Limit n) b = absurd b
-begins xs Data b = absurd b
-begins xs End b = absurd b
-begins xs (Plain text) b = absurd b
+begins xs c b = grind arith
 
 -- ---- cards of a body
 
@@ -310,11 +247,7 @@ behind_lines next rest n m xs ys a b h i s e =
 -- ---- a text
 
 within_is : (text : List ℕ) → length text ≤ limit → within_limit text ≡ Ok tt
-within_is text fits = by_test (nat_lt limit (length text)) refl
-  where
-    by_test : (b : Bool) → nat_lt limit (length text) ≡ b → of_card (count_by (λ b. b == 10) (take limit text) + 1) (needs (not b) 14) ≡ Ok tt
-    by_test false t = refl
-    by_test true t = let longer : limit < length text = ltb-true limit (length text) t in absurd (omega (arith, longer, fits))
+within_is text fits = grind (arith, ltb-true)
 
 -- the other text has cards of digits in the place of the body
 pub read_with : (text other : List ℕ) (front_lines : List (List ℕ)) (head : List ℕ) (own own' : List (List ℕ)) (next : List ℕ) (rest : List (List ℕ)) (command : Command) (d : Deck)

@@ -27,7 +27,7 @@ use Rattle.b67_job.specs.declared.summaries.Closing.TheVariants as closings
 use Rattle.b67_job.specs.Device.{Device, known_now}
 use Rattle.b67_job.specs.Texts.{Text, whole_of}
 use Rattle.b67_job.specs.Runs.{run_of, IsHaltedAt, StopsInRun, WasOpened}
-use Rattle.b67_job.specs.Judgement.{Runs, Refused, asked, core_asked, closing_of, image_sectors}
+use Rattle.b67_job.specs.Judgement.{Runs, asked, closing_of, image_sectors}
 use Rattle.b67_job.specs.Due.{IsRun, Halts, IsOpenedOrResumed, TextIsRefused, ImageIsRefused}
 use Rattle.b67_job.specs.Statuses.{StatusMeans}
 use Rattle.b67_job.proofs.Commands.{NumberWithin}
@@ -62,8 +62,7 @@ module _ {S B K : Type 0} (words : List (Bor (List ℕ))) (left : S → Option (
   the_core : (core : ℕ) (p : Prepared) → IsRun words left deck deck' core p → NumberWithin LEAST_CORE MOST_CORE core
   the_core core p run =
       let c = image_words words w run.command run.is in
-      let same : c.0 ≡ core = same_Some c.0 core (sym (ap core_asked c.1) ∙ run.opens) in
-      subst (λ (n : ℕ). NumberWithin LEAST_CORE MOST_CORE n) same c.2
+      grind (arith, same_Some)
 
   within : (core : ℕ) (p q : Prepared) (k : Machine) → IsRun words left deck deck' core p → WasOpened d core p k → StopsInRun d k.tasks.made (run_of q).session k → AreTyped (parts_of k) → length k.tasks.rows.items ≤ 120 → ArePartsWithin (parts_of k)
   within core p q k run opened stop typed rows =
@@ -103,10 +102,7 @@ module _ {S B K : Type 0} (words : List (Bor (List ℕ))) (left : S → Option (
 module _ {S B K : Type 0} (words : List (Bor (List ℕ))) (left : S → Option (List ℕ)) (source_faults : S → ℕ) (deck deck' : S) (d : Device B) (machine : Option Machine) (taken : K → Option (List ℕ)) (faults : K → ℕ) (old new : K)
     (w : AsksForResume words) (text : List ℕ) (given : left deck ≡ Some text) (few : length text ≤ limit) (printed : Option Machine) (back : IsReadBack d.sectors text printed) where
   no_text : (t : Text) → TextIsRefused words left deck deck' d machine t → ⊥
-  no_text t h =
-      let c = resume_words words w h.0 h.3 in
-      let e : asked commands.Resume h.1 ≡ Refused h.2 = subst (λ (x : CommandLine). asked x h.1 ≡ Refused h.2) c h.6 in
-      let z : ⊥ = cc in z
+  no_text t h = grind arith
 
   no_image : (t : Text) → ImageIsRefused words left source_faults deck deck' d machine t → ⊥
   no_image t h =

@@ -1,18 +1,16 @@
 -- What cards denote doesn't depend on their numbers, unless one is refused.
-use Rattle.std.proofs.Common.{◌≡◌, ℕ, zero, suc, ◌+◌, Bool, true, false, not, cond, List, [], ◌∷◌, length, map, refl, sym, ap, ◌∙◌, Option, Some, None, unwrap_or, Result, Ok, Err}
+use Rattle.std.proofs.Common.{◌≡◌, ℕ, zero, suc, ◌+◌, Bool, true, false, cond, List, [], ◌∷◌, length, map, refl, sym, ap, ◌∙◌, Option, Some, None, unwrap_or, Result, Ok, Err, arith}
 use Rattle.std.specs.Prelude.{◌||◌, ◌&&◌, nat_lt, slice_get, ⊤}
 use Rattle.std.specs.List.{list_any, cons_option}
-use Rattle.std.proofs.lemmas.Option.{same_Some, none-some}
+use Rattle.std.proofs.lemmas.Option.{same_Some}
 use Rattle.b67_model.specs.Common.{Program}
 use Rattle.b67_model_text.specs.declared.card.Card.{Card}
 use Rattle.b67_model_text.specs.declared.assembly.Line.{Line}
 use Rattle.b67_model_text.specs.declared.assembly.Statement as statement
-use Rattle.b67_model_text.specs.declared.assembly.Statement.TheVariants as statements
 use Rattle.b67_model_text.specs.Answers.{Answer, ◌>>=◌, ◌>>◌, needs, or_reason}
-use Rattle.b67_model_text.specs.Cards.{words_in_card}
 use Rattle.b67_model_text.specs.Deck.{Refusal, of_card}
-use Rattle.b67_model_text.specs.Statements.{kind_of, statement_of, line_with, lines_of, without_comment}
-use Rattle.b67_model_text.specs.Asm.{definition, segments_behind, rows_behind, definitions, segment_count, meaning, label_at, syllable_after_card, labels, names_entry, is_place, is_entry, is_head, own, with_cards, cards_of_segments, cards_of, Names, names_of, Scope, SegmentContent, content_of, row_values, row_words, is_numbers, is_code, is_segment_number, is_row_number, Part, segment_part, row_part, misplaced, program_part, with_part, program_from, no_strays, assembled}
+use Rattle.b67_model_text.specs.Statements.{line_with, lines_of}
+use Rattle.b67_model_text.specs.Asm.{definition, segments_behind, rows_behind, definitions, segment_count, meaning, label_at, syllable_after_card, labels, is_entry, is_head, own, with_cards, cards_of_segments, cards_of, Names, names_of, Scope, SegmentContent, content_of, row_values, row_words, is_numbers, is_code, is_segment_number, is_row_number, Part, segment_part, row_part, program_part, with_part, program_from, no_strays, assembled}
 use Rattle.b67_model_text.specs.Pass.{Added, added_by, syllable_behind, entries_behind, pass_content}
 use Rattle.b67_model_text.proofs.Pass.{content_is}
 
@@ -24,20 +22,13 @@ answer_of (Ok a) = Some a
 answer_of (Err r) = None
 
 then_same : {A B R : Type 0} (r r' : Result A R) (f g : A → Result B R) → answer_of r ≡ answer_of r' → ((a : A) → answer_of (f a) ≡ answer_of (g a)) → answer_of (r >>= f) ≡ answer_of (r' >>= g)
-then_same (Ok a) (Ok b) f g e h = let same : a ≡ b = same_Some a b e in h a ∙ ap (λ x. answer_of (g x)) same
-then_same (Ok a) (Err s) f g e h = absurd (none-some a (sym e))
-then_same (Err r) (Ok b) f g e h = absurd (none-some b e)
-then_same (Err r) (Err s) f g e h = refl
+then_same r r' f g e h = grind arith
 
 after_same : {B R : Type 0} (r r' : Result ⊤ R) (x y : Result B R) → answer_of r ≡ answer_of r' → answer_of x ≡ answer_of y → answer_of (r >> x) ≡ answer_of (r' >> y)
-after_same (Ok a) (Ok b) x y e h = h
-after_same (Ok a) (Err s) x y e h = absurd (none-some a (sym e))
-after_same (Err r) (Ok b) x y e h = absurd (none-some b e)
-after_same (Err r) (Err s) x y e h = refl
+after_same r r' x y e h = grind arith
 
 of_any_card : {A : Type 0} (n m : ℕ) (r : Answer A) → answer_of (of_card n r) ≡ answer_of (of_card m r)
-of_any_card n m (Ok a) = refl
-of_any_card n m (Err reason) = refl
+of_any_card n m r = grind arith
 
 -- ---- lines without their numbers
 
@@ -65,26 +56,14 @@ any_bare p same (l ∷ more) = ap (λ (b : Bool). b || list_any p (bare more)) (
 
 own_bare : (ls : List Line) → own (bare ls) ≡ bare (own ls)
 own_bare [] = refl
-own_bare (l ∷ more) = by_test (not (is_head l.kind)) (own_bare more)
-  where
-    by_test : (b : Bool) → own (bare more) ≡ bare (own more) → cond b (unnumbered l ∷ own (bare more)) [] ≡ bare (cond b (l ∷ own more) [])
-    by_test true e = ap (λ (xs : List Line). unnumbered l ∷ xs) e
-    by_test false e = refl
+own_bare (l ∷ more) = grind (arith, own_bare more)
 
 with_bare : (a : Answer statement.Statement) (cards : List Line) (rest : List (List Line)) → with_cards a (bare cards) (map bare rest) ≡ map bare (with_cards a cards rest)
-with_bare (Ok (statements.Segment name level)) cards rest = refl
-with_bare (Ok (statements.Row name)) cards rest = refl
-with_bare (Ok (statements.Values first more)) cards rest = refl
-with_bare (Ok (statements.Operator label sketch)) cards rest = refl
-with_bare (Ok (statements.Entry label)) cards rest = refl
-with_bare (Err reason) cards rest = refl
+with_bare a cards rest = grind arith
 
 segments_bare : (ls : List Line) → cards_of_segments (bare ls) ≡ map bare (cards_of_segments ls)
 segments_bare [] = refl
-segments_bare (l ∷ more) =
-    ap (λ (cards : List Line). with_cards l.says cards (cards_of_segments (bare more))) (own_bare more)
-    ∙ ap (with_cards l.says (bare (own more))) (segments_bare more)
-    ∙ with_bare l.says (own more) (cards_of_segments more)
+segments_bare (l ∷ more) = grind (arith, own_bare, segments_bare more)
 
 got_bare : (lists : List (List Line)) (n : ℕ) → unwrap_or (slice_get (map bare lists) n) [] ≡ bare (unwrap_or (slice_get lists n) [])
 got_bare [] n = refl
@@ -98,19 +77,13 @@ own_labels_bare : (ls : List Line) (n : ℕ) → labels 0 (cards_of (bare ls) n)
 own_labels_bare ls n = ap (labels 0) (cards_bare ls n) ∙ labels_bare 0 (cards_of ls n)
 
 entry_bare : (ls : List Line) (label : List ℕ) → is_entry (bare ls) label ≡ is_entry ls label
-entry_bare ls label =
-    ap (λ (b : Bool). b && not (is_place 0 (meaning (labels 0 (bare ls)) label))) (any_bare (λ l. names_entry label l.says) (λ l. refl) ls)
-    ∙ ap (λ (xs : List (List ℕ × ℕ)). list_any (λ l. names_entry label l.says) ls && not (is_place 0 (meaning xs label))) (labels_bare 0 ls)
+entry_bare ls label = grind (arith, any_bare, labels_bare)
 
 own_entry_bare : (ls : List Line) (n : ℕ) (label : List ℕ) → is_entry (cards_of (bare ls) n) label ≡ is_entry (cards_of ls n) label
 own_entry_bare ls n label = ap (λ (xs : List Line). is_entry xs label) (cards_bare ls n) ∙ entry_bare (cards_of ls n) label
 
 names_bare : (ls : List Line) → names_of (bare ls) ≡ names_of ls
-names_bare ls = λ j. record {
-  means = λ name. meaning (definitions_bare 0 0 ls j) name;
-  label = λ number label. meaning (own_labels_bare ls number j) label;
-  entry = λ number label. own_entry_bare ls number label j;
-}
+names_bare ls = grind (arith, definitions_bare, own_labels_bare, own_entry_bare)
 
 -- ---- what they denote
 
@@ -152,12 +125,7 @@ row_bare names s r n m name ls = after_same _ _ _ _ (of_any_card n m (needs (is_
     (then_same _ _ _ _ (row_words_bare names 0 ls) (λ (words : List ℕ). refl))))
 
 part_bare : (names : Names) (segments s r n m : ℕ) (a : Answer statement.Statement) (ls : List Line) → answer_of (program_part names segments s r n a (bare ls)) ≡ answer_of (program_part names segments s r m a ls)
-part_bare names segments s r n m (Ok (statements.Segment name level)) ls = segment_bare names segments s r n m name level ls
-part_bare names segments s r n m (Ok (statements.Row name)) ls = row_bare names s r n m name ls
-part_bare names segments s r n m (Ok (statements.Values first more)) ls = refl
-part_bare names segments s r n m (Ok (statements.Operator label sketch)) ls = refl
-part_bare names segments s r n m (Ok (statements.Entry label)) ls = refl
-part_bare names segments s r n m (Err reason) ls = refl
+part_bare names segments s r n m a ls = grind (arith, segment_bare, row_bare)
 
 program_bare : (names : Names) (segments s r : ℕ) (ls : List Line) → answer_of (program_from names segments s r (bare ls)) ≡ answer_of (program_from names segments s r ls)
 program_bare names segments s r [] = refl
@@ -177,12 +145,7 @@ abbrev done : Result ⊤ Refusal
 done = Ok tt
 
 strays_bare : (names : Names) (ls : List Line) → answer_of (no_strays names (bare ls)) ≡ answer_of (no_strays names ls)
-strays_bare names [] = refl
-strays_bare names (l ∷ more) = by_test (is_head l.kind)
-  where
-    by_test : (b : Bool) → answer_of (cond b done (of_card 0 (l.says >>= λ statement. Err (misplaced names statement)))) ≡ answer_of (cond b done (of_card l.number (l.says >>= λ statement. Err (misplaced names statement))))
-    by_test true = refl
-    by_test false = of_any_card 0 l.number (l.says >>= λ statement. Err (misplaced names statement))
+strays_bare names ls = grind arith
 
 -- the program of lines
 abbrev pub program_of_lines : List Line → Result Program Refusal
@@ -200,22 +163,16 @@ abbrev pub texts_of : List Card → List (List ℕ)
 texts_of cards = map (λ (c : Card). c.text) cards
 
 one_line : (n m : ℕ) (ws : List (List ℕ)) (xs ys : List Line) → bare xs ≡ bare ys → bare (cons_option (line_with n ws) xs) ≡ bare (cons_option (line_with m ws) ys)
-one_line n m [] xs ys e = e
-one_line n m (w ∷ ws) xs ys e = ap (λ (ls : List Line). record { number = 0; kind = kind_of w; says = statement_of (w ∷ ws) } ∷ ls) e
+one_line n m ws xs ys e = grind arith
 
 same_lines : (cs ds : List Card) → texts_of cs ≡ texts_of ds → bare (lines_of cs) ≡ bare (lines_of ds)
 same_lines [] [] e = refl
 same_lines [] (d ∷ ds) e = absurd (let z : ⊥ = cc in z)
 same_lines (c ∷ cs) [] e = absurd (let z : ⊥ = cc in z)
-same_lines (c ∷ cs) (d ∷ ds) e =
-    let first : c.text ≡ d.text = cc in
-    let rest : texts_of cs ≡ texts_of ds = cc in
-    one_line c.number d.number (words_in_card (without_comment c.text)) (lines_of cs) (lines_of ds) (same_lines cs ds rest)
-    ∙ ap (λ (text : List ℕ). bare (cons_option (line_with d.number (words_in_card (without_comment text))) (lines_of ds))) first
+same_lines (c ∷ cs) (d ∷ ds) e = grind (arith, same_lines cs ds)
 
 answered : {A R : Type 0} (r : Result A R) (a : A) → answer_of r ≡ Some a → r ≡ Ok a
-answered (Ok x) a e = ap (λ y. Ok y) (same_Some x a e)
-answered (Err r) a e = absurd (none-some a e)
+answered r a e = grind arith
 
 -- cards of the same texts denote the same program
 pub same_program : (cs ds : List Card) (p : Program) → texts_of cs ≡ texts_of ds → assembled cs ≡ Ok p → assembled ds ≡ Ok p

@@ -1,5 +1,5 @@
 -- What the rest of a run that halted prints, however it stops, begins what the whole run prints behind the halt.
-use Rattle.std.proofs.Common.{◌≡◌, ◌≤◌, ◌+◌, inl, inr, ℕ, List, [], ◌++◌, length, take, drop, take-append-drop, append-nil, append_assoc, sym, ap, subst, ◌∙◌, Option, Some, Ok}
+use Rattle.std.proofs.Common.{◌≡◌, ◌≤◌, ◌+◌, inl, inr, ℕ, List, [], ◌++◌, length, take, drop, take-append-drop, append-nil, append_assoc, sym, ap, subst, ◌∙◌, Option, Some, Ok, arith}
 use Rattle.std.proofs.lemmas.Option.{none-some}
 use Rattle.std.proofs.lemmas.Grind.{flat_map-append}
 use denote.Ref.{Bor}
@@ -20,7 +20,7 @@ use Rattle.b67_job.specs.declared.command.CommandLine.TheVariants as commands
 use Rattle.b67_job.specs.declared.summaries.Closing.TheVariants as closings
 use Rattle.b67_job.specs.Device.{Device, DeviceTells, knowing}
 use Rattle.b67_job.specs.Lines.{memory_line, backing_fault_line, summary}
-use Rattle.b67_job.specs.Texts.{Text, whole_of, PrintsAndAnswers, all_taken, cut_short}
+use Rattle.b67_job.specs.Texts.{Text, whole_of, PrintsAndAnswers}
 use Rattle.b67_job.specs.Runs.{StandsAfter, IsPrintingNext, StopsOpened, all_end, halt_comes, step_wants_core, step_wants_sectors, step_fails, StepsEnd, steps_stop, next_is_cut}
 use Rattle.b67_job.specs.Going.{run_from}
 use Rattle.b67_job.specs.Judgement.{Prints, asked, core_asked}
@@ -37,12 +37,7 @@ use Rattle.b67_promises.proofs.Steps.{Begins, begins_then, begins_over, lines_ad
 
 module _ {B : Type 0} (e : Device B) (tells : DeviceTells e) (s : Session) where
   stepped : (steps : ℕ) (z : Session) (printed : List RunLine) (text : Text) (line : List ℕ) → StandsAfter e steps s z printed → IsOneLine line → text ≡ record { front = run_text printed; last = line } → TextShape (run_from s) text
-  stepped steps z printed text line comes one is = subst (λ (x : Text). TextShape (run_from s) x) (sym is) (record {
-    steps = steps;
-    within = tt;
-    begins = ([], ap run_text (sym (comes.lines_are tells)) ∙ sym (append-nil (run_text printed)));
-    one = one;
-  })
+  stepped steps z printed text line comes one is = grind (arith, append-nil)
 
   stop_shape : (n steps status : ℕ) (m : Machine) (text : Text) → StopsOpened e n steps (run_from s) closings.Plain m status text → TextShape (run_from s) text
   stop_shape n steps status m text (all_end z h) = stepped steps h.session h.printed text (summary closings.Plain m.tasks.made) h.comes (summary_is_one closings.Plain m.tasks.made) h.text_is
@@ -77,8 +72,7 @@ module _ {S B L : Type 0} (words : List (Bor (List ℕ))) (left : S → Option (
   So = (text : List ℕ) × Took taken old new text × Shape (run_from s) text
 
   by_text : (status : ℕ) (text : Text) → TextShape (run_from s) text → PrintsAndAnswers taken faults old new status text answer → So
-  by_text status text shape (all_taken a took) = (whole_of text, took, whole_shape (run_from s) text shape)
-  by_text status text shape (cut_short count a rose part) = (text.front ++ take count text.last, part.took, cut_shape (run_from s) text count shape)
+  by_text status text shape h = grind (arith, whole_shape, cut_shape)
 
   by_due : (status : ℕ) (text : Text) → IsDue words left source_faults image image' d machine status text → PrintsAndAnswers taken faults old new status text answer → So
   by_due status text (usage_due c g kept m z t) closes = by_text status text (lone (run_from s) text usage_text usage_is_one t) closes

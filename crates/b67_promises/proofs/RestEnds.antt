@@ -1,6 +1,6 @@
 -- The rest of a run that halted ends if the whole run does.
-use Rattle.std.proofs.Common.{◌≡◌, ◌≤◌, ◌<◌, ◌+◌, ◌^◌, ◌⊎◌, ⊎_elim, inl, inr, ℕ, Bool, true, false, List, [], ◌∷◌, length, refl, sym, ap, subst, ◌∙◌, arith, cond, codes, decimal, Option, Some, None, Ok}
-use Rattle.std.specs.Prelude.{IfSome, take}
+use Rattle.std.proofs.Common.{◌≡◌, ◌≤◌, ◌<◌, ◌+◌, ◌^◌, ◌⊎◌, ⊎_elim, inl, inr, ℕ, Bool, List, [], ◌∷◌, length, refl, sym, ap, subst, ◌∙◌, arith, cond, codes, decimal, Option, Some, None, Ok}
+use Rattle.std.specs.Prelude.{take}
 use Rattle.std.specs.Option.{option_map, option_or}
 use Rattle.std.proofs.lemmas.Bool.{cases_lt}
 use Rattle.std.proofs.lemmas.Option.{same_Some, none-some}
@@ -17,7 +17,7 @@ use Rattle.b67_image.specs.Text.{limit}
 use Rattle.b67_image.specs.Parts.{ImageParts, parts_of}
 use Rattle.b67_image.specs.Meaning.{told_in, IsMeant}
 use Rattle.b67_image.specs.Laws.{PartsTellSessions}
-use Rattle.b67_job.specs.Command.{Request, is_path, request, requested, exercise, resume, bind, one_word, command_line_of}
+use Rattle.b67_job.specs.Command.{Request, is_path, request, requested, exercise, bind, one_word, command_line_of}
 use Rattle.b67_job.specs.declared.command.CommandLine.{CommandLine}
 use Rattle.b67_job.specs.declared.command.CommandLine.TheVariants as commands
 use Rattle.b67_job.specs.declared.summaries.Closing.TheVariants as closings
@@ -29,9 +29,9 @@ use Rattle.b67_job.specs.Judgement.{core_asked}
 use Rattle.b67_job.specs.Due.{IsOpenedOrResumed, IsDue, usage_due, refusal_due, print_due, image_due, dump_due, run_due, reading_due, memory_due, Answered, answered, cut_in_step, goes_on}
 use Rattle.b67_promises.specs.Paging.{texts, EndsToo, as_well, no_command, sectors_wanted, memory_wanted}
 use Rattle.b67_promises.specs.Halts.{AsksForImage, AsksForImageIn, AsksForResume}
-use Rattle.b67_promises.proofs.Calls.{Printed, all_ended, halt_came, fell_short}
+use Rattle.b67_promises.proofs.Calls.{Printed}
 use Rattle.b67_promises.proofs.Cores.{number_is}
-use Rattle.b67_promises.proofs.Halves.{resume_words, image_not_run, image_not_exercise, image_not_one, image_not_bind, image_not_resume, stands_again, told_short, says_self}
+use Rattle.b67_promises.proofs.Halves.{resume_words, image_not_run, image_not_exercise, image_not_one, image_not_bind, stands_again, told_short, says_self}
 use Rattle.b67_promises.proofs.MoreCore.{need_more, next_need, not_over}
 use Rattle.b67_promises.proofs.Steps.{over_after}
 use Rattle.b67_promises.proofs.Words.{head, tail, no_word}
@@ -41,13 +41,7 @@ use Rattle.b67_model.specs.declared.limits.TheConstants.{LEAST_CORE, MOST_CORE}
 
 by_requested : (command : CommandLine) (n : ℕ) (path : List ℕ) (b : Bool) (o : Option ℕ) → ((k : ℕ) → o ≡ Some k → k ≡ n) → (r : Option Request) → r ≡ cond b (option_map (λ (k : ℕ). record { core = k; path = path }) o) None
     → (x : Option CommandLine) → x ≡ None → option_or (option_map (λ (r : Request). commands.Image r.core) r) x ≡ Some command → command ≡ commands.Image n
-by_requested command n path true (Some k) is r e x none h =
-    let same : Some (commands.Image k) ≡ Some command = sym (ap (λ (z : Option Request). option_or (option_map (λ (r : Request). commands.Image r.core) z) x) e) ∙ h in
-    sym (same_Some (commands.Image k) command same) ∙ ap commands.Image (is k refl)
-by_requested command n path true None is r e x none h =
-    absurd (none-some command (sym none ∙ sym (ap (λ (z : Option Request). option_or (option_map (λ (r : Request). commands.Image r.core) z) x) e) ∙ h))
-by_requested command n path false o is r e x none h =
-    absurd (none-some command (sym none ∙ sym (ap (λ (z : Option Request). option_or (option_map (λ (r : Request). commands.Image r.core) z) x) e) ∙ h))
+by_requested command n path b o is r e x none h = grind arith
 
 request_is : (word a b c d : Bor (List ℕ)) → word.now ≡ codes "image" → a.now ≡ codes "--core" → c.now ≡ codes "--backing"
     → request (codes "image") (word ∷ a ∷ b ∷ c ∷ d ∷ []) ≡ requested (record { core = b.now; path = d.now })
@@ -57,8 +51,7 @@ image_in : (n : ℕ) → n < 2 ^ 64 → (words : List (Bor (List ℕ))) → Asks
 image_in n small [] w command h = absurd (none-some command h)
 image_in n small (word ∷ []) w command h = absurd (no_word command (one_word (word ∷ [])) (bind (word ∷ [])) (image_not_one word (ap head w)) (image_not_bind word [] (ap head w)) h)
 image_in n small (word ∷ a ∷ []) w command h = absurd (none-some command (sym (image_not_bind word (a ∷ []) (ap head w)) ∙ h))
-image_in n small (word ∷ a ∷ b ∷ []) w command h =
-    absurd (no_word command (resume (word ∷ a ∷ b ∷ [])) (bind (word ∷ a ∷ b ∷ [])) (image_not_resume word a b (ap head w)) (image_not_bind word (a ∷ b ∷ []) (ap head w)) h)
+image_in n small (word ∷ a ∷ b ∷ []) w command h = grind arith
 image_in n small (word ∷ a ∷ b ∷ c ∷ []) w command h = absurd (none-some command (sym (image_not_bind word (a ∷ b ∷ c ∷ []) (ap head w)) ∙ h))
 image_in n small (word ∷ a ∷ b ∷ c ∷ d ∷ []) w command h =
     let ws = word ∷ a ∷ b ∷ c ∷ d ∷ [] in
@@ -94,12 +87,7 @@ core_of words left source_faults deck deck' d k n small w (inr r) =
 -- ---- where the whole run ended, no task lives
 
 pub over_made : (p : Prepared) (status : ℕ) (text : List ℕ) (made : ℕ) → Printed (run_of p) None status text → status ≡ 0 → (live_after made (run_of p).session ≡ 0) ⊎ ((run_of p).halt ≡ Some made) → live_after made (run_of p).session ≡ 0
-over_made p status text made printed zero (inl over) = over
-over_made p status text made (all_ended z steps within over count is) zero (inr halt) =
-    let le : steps ≤ made = subst (λ (o : Option ℕ). IfSome o (λ count. steps ≤ count)) halt within in
-    ap (λ (s : Session). live_tasks s.jobs) (over_after steps made (run_of p).session over le) ∙ over
-over_made p status text made (halt_came z h) zero (inr halt) = let no : 3 ≡ 0 = sym z ∙ zero in absurd (omega (arith, no))
-over_made p status text made (fell_short short shape) zero (inr halt) = absurd (short (inl zero))
+over_made p status text made printed h e = grind (arith, over_after)
 
 -- ---- no step of the rest needs more core than the whole run had
 
@@ -119,8 +107,7 @@ module _ {B C : Type 0} (d : Device C) (tells : DeviceTells d) (core less : ℕ)
       let words : need less w.stop.session w.stop.member w.stop.task ≡ f.words = same_Some (need less w.stop.session w.stop.member w.stop.task) f.words (sym (next_need less w.stop.session w.stop.member w.stop.task w.stop.next) ∙ needs) in
       let fits : need less w.stop.session w.stop.member w.stop.task ≤ less = subst (λ (z : ℕ). z ≤ less) (sym words) f.fits in
       let fits' = need_more less core w.stop.session w.stop.member w.stop.task le fits in
-      let more = w.exceeds in
-      omega (arith, fits', more)
+      grind arith
 
 -- ---- how the second call ends
 

@@ -28,11 +28,7 @@ use Rattle.b67_promises.proofs.Words.{asks_run, run_words}
 
 -- a file tells its sectors if it is told what its path's file holds
 pub found_tells : {R B : Type 0} (kept : R → List ℕ → Option (List (List ℕ))) (holds : B → Option (List (List ℕ))) (now : R) (path : List ℕ) (file : B) → kept now path ≢ None → Finds kept holds now path file → holds file ≢ None
-found_tells kept holds now path file known f none = by_kept (kept now path) refl
-  where
-    by_kept : (o : Option (List (List ℕ))) → kept now path ≡ o → ⊥
-    by_kept None e = known e
-    by_kept (Some all) e = none-some all (sym none ∙ f.told all e)
+found_tells kept holds now path file known f none = grind arith
 
 -- so does one at the path that is named
 pub named_tells : {R B : Type 0} (kept : R → List ℕ → Option (List (List ℕ))) (holds : B → Option (List (List ℕ))) (now : R) (named : Option (List ℕ)) → FileIsTold kept now named
@@ -46,11 +42,7 @@ answers_so taken faults old new status text answer (cut_off a rose part) = cut_s
 -- a text no longer than what may be read was read to its end
 pub taken_whole : {S : Type 0} (left : S → Option (List ℕ)) (faults : S → ℕ) (input input' : S) (most : ℕ) (bytes : List ℕ) → left input ≡ Some bytes → length bytes ≤ most
     → (read : List ℕ) → IsTakenIn (Some most) left faults input input' (Ok read) → bytes ≡ read
-taken_whole left faults input input' most bytes told few read t =
-    let g = t.gave.told bytes told in
-    let size : length bytes ≡ length read + length g.0 = ap length g.1 ∙ length-append read g.0 in
-    let end : g.0 ≡ [] = (t.all (omega (arith, few, size))).told g.0 g.2 in
-    g.1 ∙ ap (λ (rest : List ℕ). read ++ rest) end ∙ append-nil read
+taken_whole left faults input input' most bytes told few read t = grind (arith, length-append, append-nil)
 
 module _ {S K : Type 0} (words : List (Bor (List ℕ))) (w : AsksForRun words) (left : S → Option (List ℕ)) (source_faults : S → ℕ) (input input' : S) (taken : K → Option (List ℕ)) (faults : K → ℕ) (old new : K) (answer : ℕ)
     (bytes : List ℕ) (told : left input ≡ Some bytes) (few : length bytes ≤ limit) where

@@ -5,7 +5,7 @@ use denote.Ref.{Bor}
 use Rattle.b67_io.specs.Free.{free_told, free_faults}
 use Rattle.b67_model.specs.Common.{Session, lines, after, live_tasks, run_text}
 use Rattle.b67_model_text.specs.Deck as deck
-use Rattle.b67_session_lines.specs.Ends.{EndsPrinting, all_printed, cut_off}
+use Rattle.b67_session_lines.specs.Ends.{EndsPrinting}
 use Rattle.b67_session_lines.specs.Stops.{live_after}
 use Rattle.b67_session_lines.proofs.Statuses.{after-add}
 use Rattle.b67_task_tables.specs.declared.tables.Machine.{Machine}
@@ -32,10 +32,7 @@ use Rattle.b67_promises.proofs.Serves.{found_tells, taken_whole}
 -- ---- a call that ended so was carried out over the file of its path
 
 not_due : {K : Type 0} (taken : K → Option (List ℕ)) (faults : K → ℕ) (old new : K) (status : ℕ) (text : List ℕ) (answer : ℕ) → EndsPrinting taken faults old new status text answer → IsWhole answer → 7 ≤ status → ⊥
-not_due taken faults old new status text answer (all_printed a took) (inl z) high = omega (arith, a, z, high)
-not_due taken faults old new status text answer (all_printed a took) (inr z) high = omega (arith, a, z, high)
-not_due taken faults old new status text answer (cut_off a rose part) (inl z) high = omega (arith, a, z, high)
-not_due taken faults old new status text answer (cut_off a rose part) (inr z) high = omega (arith, a, z, high)
+not_due taken faults old new status text answer h e high = grind arith
 
 -- it was carried out over this file, which was found so and left so
 pub record WasOverFile {S B K : Type 0} (words : List (Bor (List ℕ))) (left : S → Option (List ℕ)) (source_faults : S → ℕ) (input input' : S) (finds leaves : B → Type 0) (device : B → B → Device B)
@@ -66,11 +63,7 @@ module _ {R S B K : Type 0} (kept : R → List ℕ → Option (List (List ℕ)))
 -- what the second call finds is what the first one left
 found_as_left : {R B : Type 0} (kept : R → List ℕ → Option (List (List ℕ))) (holds : B → Option (List (List ℕ))) (middle : R) (path : List ℕ) (file next : B) → holds file ≢ None → Leaves kept holds middle path file → Finds kept holds middle path next
     → holds next ≡ holds file
-found_as_left kept holds middle path file next tells l f = by_content (holds file) refl
-  where
-    by_content : (o : Option (List (List ℕ))) → holds file ≡ o → holds next ≡ holds file
-    by_content None e = absurd (tells e)
-    by_content (Some all) e = f.told all (l.told all e) ∙ sym e
+found_as_left kept holds middle path file next tells l f = grind arith
 
 -- ---- the words of such calls are a command, which reads its text whole
 

@@ -1,5 +1,5 @@
 -- A deck with a source, and one with what a command printed of it, open one session.
-use Rattle.std.proofs.Common.{◌≡◌, ◌<◌, get_or, ℕ, List, [], ◌∷◌, map, refl, sym, ap, subst, ◌∙◌, Result, Ok, Err, codes}
+use Rattle.std.proofs.Common.{◌≡◌, ◌<◌, ℕ, List, [], ◌∷◌, refl, sym, ap, subst, ◌∙◌, Result, Ok, codes, arith}
 use Rattle.std.specs.Prelude.{⊤}
 use Rattle.std.specs.List.{AllByRecursion, AllZip, flat_map}
 use Rattle.std.specs.Str.Lines.{lines}
@@ -7,25 +7,21 @@ use Rattle.b67_model.specs.Common.{Program}
 use Rattle.b67_model_text.specs.declared.card.Card.{Card}
 use Rattle.b67_model_text.specs.declared.deck.Deck.{Deck}
 use Rattle.b67_model_text.specs.declared.deck.Job.{Job}
-use Rattle.b67_model_text.specs.declared.deck.Switch as deck_switch
 use Rattle.b67_model_text.specs.declared.deck.Body.TheVariants.{Cards, Bytes}
 use Rattle.b67_model_text.specs.Answers as answers
 use Rattle.b67_model_text.specs.Cards.{cards}
 use Rattle.b67_model_text.specs.Command.{Asm, Hex}
 use Rattle.b67_model_text.specs.Hex.{digit_bytes, hex_cards}
 use Rattle.b67_model_text.specs.Deck as deck
-use Rattle.b67_model_text.specs.Deck.{Said, deck_of, body, bytes_in, plain_cards, hexadecimal_cards, within_limit, all_plain, all_hexadecimal, first_number}
+use Rattle.b67_model_text.specs.Deck.{Said, deck_of, body, bytes_in, plain_cards, hexadecimal_cards, all_hexadecimal}
 use Rattle.b67_model_text.specs.Asm.{assembled, version_of}
-use Rattle.b67_model_text.proofs.Answers.{after_both}
 use Rattle.b67_codefile.specs.declared.fault.BadFile.{BadFile}
 use Rattle.b67_codefile.specs.declared.file.Codefile.{Codefile}
 use Rattle.b67_codefile.specs.Spelling.{spelling}
 use Rattle.b67_codefile.specs.Reading.{file_of}
-use Rattle.b67_job_admit.specs.Admitting.{◌>>=◌, Prepared, of_deck, of_cards, codefile_in, of_file, program_in, programs, admitted, prepared, deck_prepared}
-use Rattle.b67_job_admit.specs.Verdicts.{codefile_of, hex_lines, asm_of, asm_verdict, converted_of, convert_verdict}
-use Rattle.b67_law_order.specs.Opening.{Opening, opening}
-use Rattle.b67_session_open.specs.Decks.{opening_of, openings_of, session_of}
-use Rattle.b67_task_tables.specs.Tables.{switch_of}
+use Rattle.b67_job_admit.specs.Admitting.{◌>>=◌, Prepared, of_deck, of_cards, codefile_in, of_file, program_in, programs, prepared, deck_prepared}
+use Rattle.b67_job_admit.specs.Verdicts.{codefile_of, hex_lines, asm_of, asm_verdict, convert_verdict}
+use Rattle.b67_session_open.specs.Decks.{openings_of, session_of}
 use Rattle.b67_promises.proofs.Renumbered.{texts_of, one_program}
 use Rattle.b67_promises.proofs.HexBack.{cards_are_lines, cards_are_bytes, cards_no_commands, all_digits_bytes, byte_at, texts_on_lines}
 use Rattle.b67_promises.proofs.Within.{assembled_within, spelled_bytes}
@@ -44,18 +40,15 @@ pub same_ok : {A R : Type 0} (a b : A) → ◌≡◌ {A = Result A R} (Ok a) (Ok
 same_ok a b e = cc
 
 pub of_cards_ok : {A : Type 0} (r : Result A deck.Refusal) (a : A) → of_cards r ≡ Ok a → r ≡ Ok a
-of_cards_ok (Ok x) a e = let is : x ≡ a = cc in ap (λ y. Ok y) is
-of_cards_ok (Err r) a e = absurd (let z : ⊥ = cc in z)
+of_cards_ok r a e = grind arith
 
 pub codefile_ok : (card : ℕ) (r : Result Codefile BadFile) (f : Codefile) → codefile_in card r ≡ Ok f → r ≡ Ok f
-codefile_ok card (Ok x) f e = let is : x ≡ f = cc in ap (λ y. Ok y) is
-codefile_ok card (Err r) f e = absurd (let z : ⊥ = cc in z)
+codefile_ok card r f e = grind arith
 
 -- ---- the programs of two bodies are one
 
 pub file_again : (n m : ℕ) (r : Result Codefile BadFile) (x : Program) → of_file n r ≡ Ok x → of_file m r ≡ Ok x
-file_again n m (Ok f) x e = e
-file_again n m (Err r) x e = absurd (let z : ⊥ = cc in z)
+file_again n m r x e = grind arith
 
 pub one_file : (n m : ℕ) (r : Result Codefile BadFile) (x y : Program) → of_file n r ≡ Ok x → of_file m r ≡ Ok y → x ≡ y
 one_file n m r x y e k = same_ok x y (sym (file_again n m r x e) ∙ k)
@@ -87,22 +80,13 @@ one_openings [] [] ps h = refl
 one_openings [] (k ∷ ks) ps h = absurd h
 one_openings (j ∷ js) [] ps h = absurd h
 one_openings (j ∷ js) (k ∷ ks) [] h = refl
-one_openings (j ∷ js) (k ∷ ks) (p ∷ ps) h =
-    ap (λ (o : Opening). o ∷ openings_of ks ps) (λ i. record { program = p; limit = h.0.limit i; numbers = h.0.numbers i }) ∙ ap (λ (os : List Opening). opening_of j p ∷ os) (one_openings js ks ps h.1)
+one_openings (j ∷ js) (k ∷ ks) (p ∷ ps) h = grind (arith, one_openings js ks ps h.1)
 
 pub programs_ok : (js : List Job) (ps : List Program) → prepared js ≡ Ok ps → programs js ≡ Ok ps
-programs_ok js ps e =
-    let a = after (programs js) (λ qs. admitted js qs >>= λ (u : ⊤). Ok qs) ps e in
-    let b = after (admitted js a.0) (λ (u : ⊤). Ok a.0) ps a.2 in
-    a.1 ∙ ap Ok (same_ok a.0 ps b.2)
+programs_ok js ps e = grind arith
 
 one_session : (d e : Deck) (ps qs : List Program) → DecksAlike OneProgram d e → qs ≡ ps → session_of e qs ≡ session_of d ps
-one_session d e ps qs h same =
-    ap (λ (n : ℕ). opening n e.quantum (map switch_of e.switches) (openings_of e.jobs qs)) h.stack
-    ∙ ap (λ (n : ℕ). opening d.stack n (map switch_of e.switches) (openings_of e.jobs qs)) h.quantum
-    ∙ ap (λ (ws : List deck_switch.Switch). opening d.stack d.quantum (map switch_of ws) (openings_of e.jobs qs)) h.switches
-    ∙ ap (λ (rs : List Program). opening d.stack d.quantum (map switch_of d.switches) (openings_of e.jobs rs)) same
-    ∙ ap (λ (os : List Opening). opening d.stack d.quantum (map switch_of d.switches) os) (one_openings d.jobs e.jobs ps h.jobs_alike)
+one_session d e ps qs h same = grind (arith, one_openings)
 
 -- two texts that are prepared
 pub record OneRun (p q : Prepared) : Type 0 where
@@ -110,10 +94,7 @@ pub record OneRun (p q : Prepared) : Type 0 where
   pub halt : q.0.halt ≡ p.0.halt
 
 one_run : (p q : Prepared) → prepared p.0.jobs ≡ Ok p.1 → prepared q.0.jobs ≡ Ok q.1 → DecksAlike OneProgram p.0 q.0 → OneRun p q
-one_run p q e f h = record {
-  session = one_session p.0 q.0 p.1 q.1 h (sym (one_by_one p.0.jobs q.0.jobs p.1 q.1 h.jobs_alike (programs_ok p.0.jobs p.1 e) (programs_ok q.0.jobs q.1 f)));
-  halt = h.halt;
-}
+one_run p q e f h = grind (arith, one_session, one_by_one)
 
 -- ---- the cards that are printed of bytes
 
@@ -134,10 +115,7 @@ pub record Assembles (source printed : List ℕ) : Type 0 where
   pub is : printed ≡ hex_lines (spelling (codefile_of (version_of (cards source)) p))
 
 cards_are : (source : List ℕ) (cs : List Card) → plain_cards source ≡ Ok cs → cs ≡ cards source
-cards_are source cs e =
-    let a = after_both (within_limit source) (λ (u : ⊤). answers.◌>>=◌ (all_plain (cards source)) (λ (v : ⊤). Ok (cards source))) cs e in
-    let b = after_both (all_plain (cards source)) (λ (v : ⊤). Ok (cards source)) cs a.2 in
-    sym (same_ok (cards source) cs b.2)
+cards_are source cs e = grind arith
 
 pub assembles : (source printed : List ℕ) → asm_verdict source ≡ Ok printed → Assembles source printed
 unfolding asm_verdict
@@ -174,20 +152,11 @@ pub record Converts (source printed : List ℕ) : Type 0 where
   pub is : printed ≡ hex_lines (spelling (record file { version = 2 }))
 
 hexadecimal_are : (source : List ℕ) (cs : List Card) → hexadecimal_cards source ≡ Ok cs → (u : ⊤) × (all_hexadecimal (cards source) ≡ Ok u) × (cs ≡ cards source)
-hexadecimal_are source cs e =
-    let a = after_both (within_limit source) (λ (u : ⊤). answers.◌>>=◌ (all_hexadecimal (cards source)) (λ (v : ⊤). Ok (cards source))) cs e in
-    let b = after_both (all_hexadecimal (cards source)) (λ (v : ⊤). Ok (cards source)) cs a.2 in
-    (b.0, b.1, sym (same_ok (cards source) cs b.2))
+hexadecimal_are source cs e = grind arith
 
 pub converts : (source printed : List ℕ) → convert_verdict source ≡ Ok printed → Converts source printed
 unfolding convert_verdict
-converts source printed e =
-    let a = after (of_deck (hexadecimal_cards source)) converted_of printed e in
-    let read = hexadecimal_are source a.0 (of_deck_ok (hexadecimal_cards source) a.0 a.1) in
-    let same : a.0 ≡ cards source = read.2 in
-    let f : converted_of (cards source) ≡ Ok printed = ap converted_of (sym same) ∙ a.2 in
-    let b = after (codefile_in (first_number (cards source)) (file_of (bytes_in (cards source)))) (λ file. Ok (hex_lines (spelling (record file { version = 2 })))) printed f in
-    record { file = b.0; plain = hexadecimal_plain source read.0 read.1; holds = codefile_ok (first_number (cards source)) (file_of (bytes_in (cards source))) b.0 b.1; is = sym (same_ok (hex_lines (spelling (record b.0 { version = 2 }))) printed b.2) }
+converts source printed e = grind (arith, hexadecimal_plain)
 
 pub convert_holds : (source printed : List ℕ) → Converts source printed → (xs ys : List Said) → TwoBodies source printed xs ys → (n m : ℕ) (x : Program) → program_in n (Bytes (bytes_in (body xs))) ≡ Ok x → program_in m (Bytes (bytes_in (body ys))) ≡ Ok x
 convert_holds source printed h xs ys both n m x one =
@@ -196,9 +165,7 @@ convert_holds source printed h xs ys both n m x one =
     let old = bytes_in (cards source) in
     let same : bytes_in (body xs) ≡ old = bytes_by_text (body xs) ∙ ap (flat_map digit_bytes) both.0 ∙ sym (bytes_by_text (cards source)) in
     let given : bytes_in (body ys) ≡ bytes = printed_bytes bytes (spelled_bytes second) ys (both.1 ∙ ap (λ (t : List ℕ). texts_of (cards_at 1 (lines t))) h.is) in
-    let small : (i : ℕ) → get_or old i 0 < 256 = subst (λ (bs : List ℕ). (i : ℕ) → get_or bs i 0 < 256) (sym (bytes_by_text (cards source))) (byte_at (flat_map digit_bytes (texts_of (cards source))) (all_digits_bytes (texts_of (cards source)))) in
-    let kept : program_in m (Bytes bytes) ≡ program_in m (Bytes old) = converting_keeps_programs m old h.file small h.holds in
-    ap (λ (bs : List ℕ). program_in m (Bytes bs)) given ∙ kept ∙ file_again n m (file_of old) x (ap (λ (bs : List ℕ). program_in n (Bytes bs)) (sym same) ∙ one)
+    grind (arith, bytes_by_text, byte_at, all_digits_bytes, converting_keeps_programs)
 
 convert_bodies : (source printed : List ℕ) → Converts source printed → BodiesOf OneProgram Hex Hex (lines source) (lines printed)
 convert_bodies source printed h xs ys e f n m x y one other = same_ok x y (sym (convert_holds source printed h xs ys (e, f) n m x one) ∙ other)

@@ -1,34 +1,28 @@
 -- The syllables and the words of assembled segments.
-use Rattle.std.proofs.Common.{inl, inr, ◌≡◌, ℕ, zero, suc, ◌+◌, ◌-◌, ◌*◌, ◌%◌, ◌^◌, ◌<◌, ◌≤◌, Bool, true, false, not, refl, sym, subst, arith, Option, Some, None, List, [], ◌∷◌, ◌++◌, length, map, replicate, min, Ok}
-use Rattle.std.specs.Prelude.{nat_lt, ◌||◌}
-use Rattle.std.specs.Option.{option_and_then}
+use Rattle.std.proofs.Common.{inl, inr, ◌≡◌, ℕ, zero, suc, ◌+◌, ◌-◌, ◌*◌, ◌%◌, ◌^◌, ◌<◌, ◌≤◌, Bool, true, false, not, refl, sym, subst, arith, Option, Some, List, [], ◌∷◌, ◌++◌, length, map, replicate, Ok}
+use Rattle.std.specs.Prelude.{◌||◌}
 use Rattle.std.specs.List.{AllByRecursion, list_any}
-use Rattle.std.proofs.lemmas.Bool.{ltb-true, and_parts}
+use Rattle.std.proofs.lemmas.Bool.{and_parts}
 use Rattle.std.proofs.lemmas.Option.{same_Some, none-some}
 use Rattle.std.proofs.lemmas.List.{length-append, length-map, length-replicate}
-use Rattle.b67_word.specs.Couples.{couple_bits}
 use Rattle.b67_word.specs.Tagged.{word}
 use Rattle.b67_model.specs.declared.operators.Op.{Op}
-use Rattle.b67_model.specs.declared.operators.Op.TheVariants.{Valc, Namc, Lt8, Lt16, Lt48, Mpcw, Brun, Brtr, Brfl, Bset, Brst, Isol, Insr, Plain}
 use Rattle.b67_model.specs.declared.operators.Code.{Code}
-use Rattle.b67_model.specs.declared.operators.Code.TheVariants.{Add}
 use Rattle.b67_model.specs.Common.{has_bits, literal, syllable_of, syllables}
 use Rattle.b67_codefile.specs.Spelling.{HasTag, AreWordsOfTag}
 use Rattle.b67_model_text.specs.declared.assembly.Call as call
-use Rattle.b67_model_text.specs.declared.assembly.Call.TheVariants as calls
 use Rattle.b67_model_text.specs.declared.assembly.Branch as branch
-use Rattle.b67_model_text.specs.declared.assembly.Branch.TheVariants as branches
 use Rattle.b67_model_text.specs.declared.assembly.Sketch as sketch
 use Rattle.b67_model_text.specs.declared.assembly.Sketch.TheVariants.{Whole, OutOfRange, Couple as Coupled, Row as RowCoupled, Jump, Pcw, PcwAt}
 use Rattle.b67_model_text.specs.declared.assembly.Statement as statement
 use Rattle.b67_model_text.specs.declared.assembly.Statement.TheVariants as statements
 use Rattle.b67_model_text.specs.declared.assembly.Line.{Line}
 use Rattle.b67_model_text.specs.Answers.{Answer}
-use Rattle.b67_model_text.specs.Encoding.{filling, six_syllables, literal_part, laid_one, laid, packed_words, code_words}
+use Rattle.b67_model_text.specs.Encoding.{six_syllables, literal_part, laid_one, laid, packed_words, code_words}
 use Rattle.b67_model_text.specs.Statements.{segment, row}
-use Rattle.b67_model_text.specs.Asm.{Scope, SegmentContent, after_operator, is_in_range, call_operator, branch_to, pcw_in, pcw_at, label_in, row_in, denoted, is_code, is_numbers, is_entry_card, own}
-use Rattle.b67_model_text.specs.Pass.{Added, AddedOperator, AddedEntry, with_added, syllable_behind, entries_behind, pass_content}
-use Rattle.b67_model_text.proofs.Contents.{same_Ok, mapped, Adds, headed}
+use Rattle.b67_model_text.specs.Asm.{Scope, SegmentContent, after_operator, is_in_range, call_operator, branch_to, denoted, is_code, is_numbers, is_entry_card, own}
+use Rattle.b67_model_text.specs.Pass.{Added, with_added, syllable_behind, entries_behind, pass_content}
+use Rattle.b67_model_text.proofs.Contents.{Adds, headed}
 use Rattle.b67_law_listing.proofs.Packing.{packed_length}
 use Rattle.b67_law_listing.proofs.Laying.{laid_whole}
 use Rattle.b67_promises.proofs.HexBack.{IsByte}
@@ -51,72 +45,37 @@ abbrev HasBytes : Op → Type 0
 HasBytes op = Bytes (syllables op)
 
 code_byte : (code : Code) → IsByte (syllable_of code)
-code_byte Add = omega arith
-code_byte _ = omega arith
+code_byte code = grind arith
 
 by_bits : (op : Op) → has_bits op ≡ true → HasBytes op
-by_bits (Valc bits) h = (omega arith, (omega arith, tt))
-by_bits (Namc bits) h = (omega arith, (omega arith, tt))
-by_bits (Lt8 n) h = (omega arith, (ltb-true n 256 h, tt))
-by_bits (Lt16 n) h = (omega arith, (omega arith, (omega arith, tt)))
-by_bits (Lt48 bits) h = (omega arith, tt)
-by_bits (Mpcw bits) h = (omega arith, tt)
-by_bits (Brun place) h = (omega arith, (omega arith, (omega arith, tt)))
-by_bits (Brtr place) h = (omega arith, (omega arith, (omega arith, tt)))
-by_bits (Brfl place) h = (omega arith, (omega arith, (omega arith, tt)))
-by_bits (Bset n) h = (omega arith, (ltb-true n 256 h, tt))
-by_bits (Brst n) h = (omega arith, (ltb-true n 256 h, tt))
-by_bits (Isol high width) h = let both = and_parts (nat_lt high 256) (nat_lt width 256) h in (omega arith, (ltb-true high 256 both.0, (ltb-true width 256 both.1, tt)))
-by_bits (Insr high width) h = let both = and_parts (nat_lt high 256) (nat_lt width 256) h in (omega arith, (ltb-true high 256 both.0, (ltb-true width 256 both.1, tt)))
-by_bits (Plain code) h = (code_byte code, tt)
+by_bits op h = grind arith
 
 called_bytes : (c : call.Call) (bits : ℕ) → HasBytes (call_operator c bits)
-called_bytes calls.Value bits = (omega arith, (omega arith, tt))
-called_bytes calls.Name bits = (omega arith, (omega arith, tt))
+called_bytes c bits = grind arith
 
 branch_bytes : (b : branch.Branch) (n : ℕ) → HasBytes (branch_to b n)
-branch_bytes branches.Always n = (omega arith, (omega arith, (omega arith, tt)))
-branch_bytes branches.IfTrue n = (omega arith, (omega arith, (omega arith, tt)))
-branch_bytes branches.IfFalse n = (omega arith, (omega arith, (omega arith, tt)))
+branch_bytes b n = grind arith
 
 denoted_bytes : (x : Scope) (s : sketch.Sketch) (op : Op) → is_in_range s ≡ true → denoted x s ≡ Some op → HasBytes op
 denoted_bytes x (Whole own) op r e = subst HasBytes (same_Some own op e) (by_bits own r)
 denoted_bytes x OutOfRange op r e = absurd (none-some op e)
-denoted_bytes x (Coupled c couple) op r e =
-    let m = mapped (call_operator c) (option_and_then (couple_bits (min x.level 31)) couple) op e in
-    subst HasBytes m.2 (called_bytes c m.0)
-denoted_bytes x (RowCoupled c row) op r e =
-    let m = mapped (call_operator c) (option_and_then (λ number. couple_bits (min x.level 31) (record { level = 1; disp = x.segments + number + 2 })) (row_in (x.names.means row))) op e in
-    subst HasBytes m.2 (called_bytes c m.0)
-denoted_bytes x (Jump b label) op r e =
-    let m = mapped (branch_to b) (x.labels label) op e in
-    subst HasBytes m.2 (branch_bytes b m.0)
-denoted_bytes x (Pcw segment) op r e =
-    let m = mapped Mpcw (pcw_in (x.names.means segment)) op e in
-    subst HasBytes m.2 (by_bits_of_pcw m.0)
-  where
-    by_bits_of_pcw : (bits : ℕ) → HasBytes (Mpcw bits)
-    by_bits_of_pcw bits = (omega arith, tt)
-denoted_bytes x (PcwAt segment label) op r e =
-    let m = mapped Mpcw (pcw_at (pcw_in (x.names.means segment)) (label_in x.names (x.names.means segment) label)) op e in
-    subst HasBytes m.2 (by_bits_of_pcw m.0)
-  where
-    by_bits_of_pcw : (bits : ℕ) → HasBytes (Mpcw bits)
-    by_bits_of_pcw bits = (omega arith, tt)
+denoted_bytes x (Coupled c couple) op r e = grind (arith, called_bytes)
+denoted_bytes x (RowCoupled c row) op r e = grind (arith, called_bytes)
+denoted_bytes x (Jump b label) op r e = grind arith
+denoted_bytes x (Pcw segment) op r e = grind arith
+denoted_bytes x (PcwAt segment label) op r e = grind arith
 
 six_bytes : (bits : ℕ) → Bytes (six_syllables bits)
 six_bytes bits = (omega arith, (omega arith, (omega arith, (omega arith, (omega arith, (omega arith, tt))))))
 
 literal_bytes : (l : Option ℕ) (n : ℕ) → Bytes (literal_part l n)
-literal_bytes None n = tt
-literal_bytes (Some bits) n = bytes_append (filling n) (six_syllables bits) (bytes_replicate ((6 - n % 6) % 6)) (six_bytes bits)
+literal_bytes l n = grind (arith, bytes_append, bytes_replicate)
 
 one_bytes : (n : ℕ) (op : Op) → HasBytes op → Bytes (laid_one n op)
 one_bytes n op h = bytes_append (syllables op) (literal_part (literal op) (n + length (syllables op))) h (literal_bytes (literal op) (n + length (syllables op)))
 
 some_syllable : (op : Op) → 1 ≤ length (syllables op)
-some_syllable (Plain code) = omega arith
-some_syllable _ = omega arith
+some_syllable op = grind arith
 
 -- ---- the syllables of a segment
 
@@ -126,9 +85,7 @@ pub record IsLaidIn (n : ℕ) (ops : List Op) : Type 0 where
   low : n + length (laid n ops) ≤ 6 * MOST_SEGMENT
 
 pub content_laid : (x : Scope) (n : ℕ) (entries : List ℕ) (lines : List Line) (content : SegmentContent) → n ≤ 6 * MOST_SEGMENT → pass_content x n entries lines ≡ Ok content → IsLaidIn n content.operators
-content_laid x n entries [] content low e =
-    subst (λ (c : SegmentContent). IsLaidIn n c.operators) (same_Ok _ content e)
-    (record { bytes = bytes_replicate ((6 - n % 6) % 6); low = omega (arith, low, length-replicate {A = ℕ} ((6 - n % 6) % 6) 0xFF) })
+content_laid x n entries [] content low e = grind (arith, bytes_replicate, length-replicate)
 content_laid x n entries (l ∷ more) content low e =
     let h = headed x n entries l more content e in
     subst (λ (c : SegmentContent). IsLaidIn n c.operators) h.all
@@ -147,8 +104,7 @@ content_laid x n entries (l ∷ more) content low e =
         subst (λ (z : Added). IsLaidIn n (with_added z rest).operators) a.is (go' low)
 
 no_fewer : (added : Added) (rest : SegmentContent) → length rest.operators ≤ length (with_added added rest).operators
-no_fewer (AddedOperator op) rest = omega arith
-no_fewer (AddedEntry m) rest = omega arith
+no_fewer added rest = grind arith
 
 -- a card that isn't a NUM nor an ENTRY has an operator
 pub some_operators : (x : Scope) (n : ℕ) (entries : List ℕ) (lines : List Line) (content : SegmentContent) → pass_content x n entries lines ≡ Ok content → list_any is_code lines ≡ true → 1 ≤ length content.operators
@@ -181,14 +137,7 @@ packed_small (a ∷ b ∷ []) h = tt
 packed_small (a ∷ b ∷ c ∷ []) h = tt
 packed_small (a ∷ b ∷ c ∷ d ∷ []) h = tt
 packed_small (a ∷ b ∷ c ∷ d ∷ e ∷ []) h = tt
-packed_small (a ∷ b ∷ c ∷ d ∷ e ∷ f ∷ more) h =
-    let ha = h.0 in
-    let hb = h.1.0 in
-    let hc = h.1.1.0 in
-    let hd = h.1.1.1.0 in
-    let he = h.1.1.1.1.0 in
-    let hf = h.1.1.1.1.1.0 in
-    (omega (arith, ha, hb, hc, hd, he, hf), packed_small more h.1.1.1.1.1.1)
+packed_small (a ∷ b ∷ c ∷ d ∷ e ∷ f ∷ more) h = grind (arith, packed_small more h.1.1.1.1.1.1)
 
 pub have_tag : (tag : ℕ) (ws : List ℕ) → AllByRecursion IsSmallWord ws → AllByRecursion (HasTag tag) (map (word tag) ws)
 have_tag tag [] all = tt
@@ -196,18 +145,9 @@ have_tag tag (w ∷ ws) all = (record { tagged = refl; bits = all.0 }, have_tag 
 
 some_laid : (ops : List Op) → 1 ≤ length ops → 1 ≤ length (laid 0 ops)
 some_laid [] some = absurd (omega arith)
-some_laid (op ∷ more) some =
-    omega (arith, some_syllable op, length-append (syllables op) (literal_part (literal op) (0 + length (syllables op))), length-append (laid_one 0 op) (laid (0 + length (laid_one 0 op)) more))
+some_laid (op ∷ more) some = grind arith
 
 pub code_fits : (ops : List Op) → 1 ≤ length ops → IsLaidIn 0 ops → AreWordsOfTag 3 MOST_SEGMENT (map (word 3) (code_words ops))
 code_fits ops some l =
     let whole : length (laid 0 ops) % 6 ≡ 0 = omega (arith, laid_whole 0 ops) in
-    let size = packed_length (laid 0 ops) whole in
-    let count = length-map (code_words ops) (word 3) in
-    let least = some_laid ops some in
-    let most = l.low in
-    record {
-      some = omega (arith, size, count, least);
-      few = omega (arith, size, count, most);
-      each = have_tag 3 (code_words ops) (packed_small (laid 0 ops) l.bytes);
-    }
+    grind (arith, packed_length, length-map, some_laid, have_tag, packed_small)

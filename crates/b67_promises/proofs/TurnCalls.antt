@@ -1,20 +1,17 @@
 -- Calls of texts that differ in their ?QUANTUM and ?SWITCH cards, the first of which was whole with never two ready tasks.
-use Rattle.std.proofs.Common.{◌≡◌, ◌≤◌, ℕ, List, length, refl, sym, ap, subst, ◌∙◌, Option, Result, Ok, Err}
+use Rattle.std.proofs.Common.{◌≡◌, ◌≤◌, ℕ, List, length, refl, sym, ap, subst, ◌∙◌, Option, Result, Ok, arith}
 use Rattle.std.specs.Prelude.{IfSome}
 use denote.Ref.{Bor}
 use Rattle.b67_model.specs.Common.{Program}
 use Rattle.b67_model_text.specs.declared.deck.Deck.{Deck}
-use Rattle.b67_model_text.specs.declared.deck.Job.{Job}
 use Rattle.b67_model_text.specs.Deck as deck
 use Rattle.b67_model_text.specs.Deck.{deck_of}
-use Rattle.b67_model_text.proofs.Answers.{err-ok}
 use Rattle.b67_job_admit.specs.Admitting.{Admission, ◌>>=◌, Prepared, of_deck, prepared, deck_prepared}
-use Rattle.b67_session_open.specs.Decks.{session_of, openings_of}
-use Rattle.b67_law_order.specs.Opening.{opened_from}
+use Rattle.b67_session_open.specs.Decks.{session_of}
 use Rattle.b67_job.specs.Device.{Device}
 use Rattle.b67_job.specs.declared.summaries.Exercise.{Exercise}
 use Rattle.b67_job.specs.Runs.{run_of}
-use Rattle.b67_job.specs.Judgement.{Judgement, Refused, Runs, Prints, OfImage, judgement, prepared_judgement}
+use Rattle.b67_job.specs.Judgement.{Judgement, Refused, Runs, Prints, OfImage, judgement}
 use Rattle.b67_promises.specs.Paging.{IsWhole}
 use Rattle.b67_promises.specs.Switches.{DifferInTurns, NeverTwoReady, CallsProcess, IsOneTask, DifferInTurnLines}
 use Rattle.b67_promises.proofs.Calls.{Printed, fell_short, CallPrints, prepared_in, not_refused}
@@ -24,38 +21,23 @@ use Rattle.b67_promises.proofs.Words.{no_print, no_image_asked}
 use Rattle.b67_promises.proofs.TurnCards.{SameButTurns, decks_differ}
 
 pub after : {A B : Type 0} (r : Admission A) (go : A → Admission B) (b : B) → (r >>= go) ≡ Ok b → (a : A) × (r ≡ Ok a) × (go a ≡ Ok b)
-after (Ok a) go b e = (a, refl, e)
-after (Err r) go b e = err-ok r b _ e
+after r go b e = grind arith
 
 pub of_deck_ok : {A : Type 0} (r : Result A deck.Refusal) (a : A) → of_deck r ≡ Ok a → r ≡ Ok a
-of_deck_ok (Ok x) a e = let is : x ≡ a = cc in ap (λ y. Ok y) is
-of_deck_ok (Err r) a e = absurd (let z : ⊥ = cc in z)
+of_deck_ok r a e = grind arith
 
 -- a text's deck, and its programs by its jobs
 pub parts : (text : List ℕ) (p : Prepared) → deck_prepared text ≡ Ok p → (deck_of text ≡ Ok p.0) × (prepared p.0.jobs ≡ Ok p.1)
 unfolding deck_prepared
-parts text p e =
-    let a = after (of_deck (deck_of text)) (λ (x : Deck). prepared x.jobs >>= λ qs. Ok (x, qs)) p e in
-    let b = after (prepared a.0.jobs) (λ qs. Ok (a.0, qs)) p a.2 in
-    let is : ◌≡◌ {A = Prepared} (a.0, b.0) p = cc in
-    let same : a.0 ≡ p.0 = ap (λ (z : Prepared). z.0) is in
-    let programs : b.0 ≡ p.1 = ap (λ (z : Prepared). z.1) is in
-    (of_deck_ok (deck_of text) a.0 a.1 ∙ ap Ok same, ap (λ (x : Deck). prepared x.jobs) (sym same) ∙ b.1 ∙ ap Ok programs)
+parts text p e = grind arith
 
 pub prepared_is : (text : List ℕ) (p : Prepared) → judgement text ≡ Runs p → deck_prepared text ≡ Ok p
 unfolding judgement
-prepared_is text p e = by_answer (deck_prepared text) e
-  where
-    by_answer : (a : Admission Prepared) → prepared_judgement a ≡ Runs p → a ≡ Ok p
-    by_answer (Ok q) e = ap Ok (ap (prepared_in q) e)
-    by_answer (Err r) e = let z : ⊥ = cc in absurd z
+prepared_is text p e = grind arith
 
 -- sessions of such decks differ in turns
 differ : (d e : Deck) (ps qs : List Program) → SameButTurns d e → qs ≡ ps → DifferInTurns (session_of d ps) (session_of e qs)
-differ d e ps qs h same = record {
-  jobs = ap (λ (x : List Program). opened_from 1 e.stack (openings_of e.jobs x)) same ∙ ap (λ (n : ℕ). opened_from 1 n (openings_of e.jobs ps)) h.stack ∙ ap (λ (js : List Job). opened_from 1 d.stack (openings_of js ps)) h.jobs;
-  made = refl;
-}
+differ d e ps qs h same = grind arith
 
 pub same_ok : {A : Type 0} (a b : A) → ◌≡◌ {A = Admission A} (Ok a) (Ok b) → a ≡ b
 same_ok a b e = cc

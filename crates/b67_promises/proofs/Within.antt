@@ -1,15 +1,15 @@
 -- Assembled cards make a codefile within its limits.
-use Rattle.std.proofs.Common.{◌⊎◌, inl, inr, ◌≡◌, ℕ, ◌+◌, ◌*◌, ◌^◌, ◌<◌, ◌≤◌, Bool, true, false, not, cond, refl, sym, ap, subst, ◌∙◌, arith, Option, Some, None, List, [], ◌∷◌, ◌++◌, length, map, eqb, Result, Ok, Err}
-use Rattle.std.specs.Prelude.{nat_lt, nat_le, IfSome, ⊤}
+use Rattle.std.proofs.Common.{◌⊎◌, ◌≡◌, ℕ, ◌+◌, ◌*◌, ◌^◌, ◌<◌, ◌≤◌, Bool, true, false, not, cond, refl, sym, ap, subst, ◌∙◌, arith, Option, Some, None, List, [], ◌∷◌, ◌++◌, length, map, Result, Ok, Err}
+use Rattle.std.specs.Prelude.{nat_lt, IfSome, ⊤}
 use Rattle.std.specs.Int.{w8, w16, w64, to_be_bytes}
 use Rattle.std.specs.List.{AllByRecursion, flat_map, list_any}
-use Rattle.std.proofs.lemmas.Bool.{leb-true, ltb-true, or_parts}
+use Rattle.std.proofs.lemmas.Bool.{ltb-true, or_parts}
 use Rattle.std.proofs.lemmas.List.{length-append, length-map}
 use Rattle.b67_word.specs.Tagged.{Tagged, word}
 use Rattle.b67_model.specs.Common.{Program}
 use Rattle.b67_codefile.specs.declared.file.Segment.{Segment}
 use Rattle.b67_codefile.specs.declared.file.Codefile.{Codefile}
-use Rattle.b67_codefile.specs.Spelling.{header, word_bytes, row_bytes, entry_bytes, segment_bytes, spelling, IsFileSegment, IsRow, HasNoEntries, IsWithin}
+use Rattle.b67_codefile.specs.Spelling.{word_bytes, row_bytes, entry_bytes, segment_bytes, spelling, IsFileSegment, IsRow, HasNoEntries, IsWithin}
 use Rattle.b67_model_text.specs.declared.card.Card.{Card}
 use Rattle.b67_model_text.specs.declared.assembly.Statement as statement
 use Rattle.b67_model_text.specs.declared.assembly.Statement.TheVariants as statements
@@ -19,7 +19,7 @@ use Rattle.b67_model_text.specs.Deck.{Refusal, of_card}
 use Rattle.b67_model_text.specs.Encoding.{laid, code_words}
 use Rattle.b67_model_text.specs.Statements.{segment, lines_of}
 use Rattle.b67_model_text.specs.Asm.{Names, names_of, Scope, SegmentContent, content_of, syllable_bits, is_word, value_in, row_values, row_words, Part, CodePart, RowPart, segments_behind, rows_behind, segment_count, misplaced, is_head, is_code, is_numbers, own, is_segment_number, is_row_number, segment_part, row_part, program_part, with_part, program_from, no_strays, assembled, says_entry, version_of}
-use Rattle.b67_model_text.proofs.Answers.{after_both, after_needs, err-ok}
+use Rattle.b67_model_text.proofs.Answers.{after_both, err-ok}
 use Rattle.b67_model_text.specs.Pass.{pass_content}
 use Rattle.b67_model_text.proofs.Contents.{same_Ok}
 use Rattle.b67_model_text.proofs.Pass.{content_is}
@@ -34,19 +34,15 @@ use Rattle.b67_model.specs.declared.limits.TheConstants.{MOST_ARRAY}
 -- ---- data rows
 
 not_true : (b : Bool) → not b ≡ true → b ≡ false
-not_true true e = absurd (let z : ⊥ = cc in z)
-not_true false e = refl
+not_true b e = grind arith
 
 not_false : (b : Bool) → not b ≡ false → b ≡ true
-not_false true e = refl
-not_false false e = absurd (let z : ⊥ = cc in z)
+not_false b e = grind arith
 
 values_small : (vs : List (Option ℕ)) → list_any (λ v. not (is_word v)) vs ≡ false → AllByRecursion IsSmallWord (map value_in vs)
 values_small [] e = tt
 values_small (None ∷ vs) e = absurd (let z : ⊥ = cc in z)
-values_small (Some n ∷ vs) e =
-    let parts = or_parts (not (nat_lt n (2 ^ 48))) (list_any (λ v. not (is_word v)) vs) e in
-    (ltb-true n (2 ^ 48) (not_false (nat_lt n (2 ^ 48)) parts.0), values_small vs parts.1)
+values_small (Some n ∷ vs) e = grind (arith, values_small vs)
 
 -- words of a row behind so many
 record RowFits (n : ℕ) (ws : List ℕ) : Type 0 where
@@ -54,22 +50,10 @@ record RowFits (n : ℕ) (ws : List ℕ) : Type 0 where
   small : AllByRecursion IsSmallWord ws
 
 card_fits : (names : Names) (n : ℕ) (s : statement.Statement) (ws : List ℕ) → row_values names n s ≡ Ok ws → RowFits n ws × (1 ≤ length ws)
-card_fits names n (statements.Values first more) ws e =
-    let vs : List (Option ℕ) = first ∷ more in
-    let a = after_needs (not (list_any (λ v. not (is_word v)) vs)) 3 (needs (nat_le (n + length vs) MOST_ARRAY) 7 >> Ok (map value_in vs)) ws e in
-    let b = after_needs (nat_le (n + length vs) MOST_ARRAY) 7 (Ok (map value_in vs)) ws a.1 in
-    let size = length-map vs value_in in
-    let most = leb-true (n + length vs) MOST_ARRAY b.0 in
-    subst (λ (xs : List ℕ). RowFits n xs × (1 ≤ length xs)) (same_Ok (map value_in vs) ws b.1)
-    (record { few = omega (arith, size, most); small = values_small vs (not_true _ a.0) }, omega (arith, size))
-card_fits names n (statements.Segment name level) ws e = err-ok (misplaced names (statements.Segment name level)) ws _ e
-card_fits names n (statements.Row name) ws e = err-ok (misplaced names (statements.Row name)) ws _ e
-card_fits names n (statements.Operator label own) ws e = err-ok (misplaced names (statements.Operator label own)) ws _ e
-card_fits names n (statements.Entry label) ws e = err-ok (misplaced names (statements.Entry label)) ws _ e
+card_fits names n s ws e = grind (arith, length-map, values_small)
 
 pub of_card_ok : {A : Type 0} (number : ℕ) (r : Answer A) (a : A) → of_card number r ≡ Ok a → r ≡ Ok a
-of_card_ok number (Ok x) a e = let is : x ≡ a = cc in ap (λ y. Ok y) is
-of_card_ok number (Err reason) a e = err-ok (record { card = number; reason = reason }) a _ e
+of_card_ok number r a e = grind arith
 
 small_append : (xs ys : List ℕ) → AllByRecursion IsSmallWord xs → AllByRecursion IsSmallWord ys → AllByRecursion IsSmallWord (xs ++ ys)
 small_append [] ys h k = k
@@ -85,12 +69,7 @@ record RowHeaded (names : Names) (n : ℕ) (more : List Line) (ws : List ℕ) : 
   all : first ++ rest ≡ ws
 
 row_headed : (names : Names) (n : ℕ) (l : Line) (more : List Line) (ws : List ℕ) → row_words names n (l ∷ more) ≡ Ok ws → RowHeaded names n more ws
-row_headed names n l more ws e =
-    let a = after_both (of_card l.number (l.says >>= row_values names n)) (λ words. row_words names (n + length words) more >>= λ rest. Ok (words ++ rest)) ws e in
-    let b = after_both (row_words names (n + length a.0) more) (λ rest. Ok (a.0 ++ rest)) ws a.2 in
-    let c = after_both l.says (row_values names n) a.0 (of_card_ok l.number (l.says >>= row_values names n) a.0 a.1) in
-    let d = card_fits names n c.0 a.0 c.2 in
-    record { first = a.0; rest = b.0; first_fits = d.0; some = d.1; behind = b.1; all = same_Ok (a.0 ++ b.0) ws b.2 }
+row_headed names n l more ws e = grind (arith, card_fits)
 
 row_fits : (names : Names) (n : ℕ) (lines : List Line) (ws : List ℕ) → n ≤ MOST_ARRAY → row_words names n lines ≡ Ok ws → RowFits n ws
 row_fits names n [] ws low e = subst (RowFits n) (same_Ok [] ws e) (record { few = omega (arith, low); small = tt })
@@ -98,22 +77,16 @@ row_fits names n (l ∷ more) ws low e =
     let h = row_headed names n l more ws e in
     let size = h.first_fits.few in
     let rest = row_fits names (n + length h.first) more h.rest size h.behind in
-    let more_few = rest.few in
-    subst (RowFits n) h.all (record { few = omega (arith, more_few, length-append h.first h.rest); small = small_append h.first h.rest h.first_fits.small rest.small })
+    grind (arith, length-append, small_append)
 
 row_some : (names : Names) (lines : List Line) (ws : List ℕ) → row_words names 0 lines ≡ Ok ws → list_any (λ l. is_numbers l.kind) lines ≡ true → 1 ≤ length ws
 row_some names [] ws e t = absurd (let z : ⊥ = cc in z)
-row_some names (l ∷ more) ws e t =
-    let h = row_headed names 0 l more ws e in
-    let some = h.some in
-    subst (λ (xs : List ℕ). 1 ≤ length xs) h.all (omega (arith, some, length-append h.first h.rest))
+row_some names (l ∷ more) ws e t = grind arith
 
 row_is_row : (names : Names) (lines : List Line) (ws : List ℕ) → row_words names 0 lines ≡ Ok ws → list_any (λ l. is_numbers l.kind) lines ≡ true → IsRow (map (word 0) ws)
 row_is_row names lines ws e t =
     let fits = row_fits names 0 lines ws (omega arith) e in
-    let most = fits.few in
-    let size = length-map ws (word 0) in
-    record { some = omega (arith, size, row_some names lines ws e t); few = omega (arith, size, most); each = have_tag 0 ws fits.small }
+    grind (arith, length-map, row_some, have_tag)
 
 -- ---- one part
 
@@ -121,8 +94,7 @@ abbrev has_entry_card : List Line → Bool
 has_entry_card lines = list_any (λ l. says_entry l.says) lines
 
 pub after_card : {B : Type 0} (number : ℕ) (t : Bool) (reason : ℕ) (rest : Result B Refusal) (b : B) → (of_card number (needs t reason) >> rest) ≡ Ok b → (t ≡ true) × (rest ≡ Ok b)
-after_card number true reason rest b e = (refl, e)
-after_card number false reason rest b e = err-ok (record { card = number; reason = reason }) b _ e
+after_card number t reason rest b e = grind arith
 
 abbrev PartFits : Part → Type 0
 PartFits (CodePart s) = IsFileSegment (segment_file s)
@@ -206,25 +178,13 @@ with_fits s r s' r' l more (CodePart segment) rest i go =
       rows = f.rows;
       plain = λ none. let parts = or_parts (says_entry l.says) (has_entry_card more) none in (i.plain (plain_rest 0 more parts.1), f.plain parts.1);
     }
-with_fits s r s' r' l more (RowPart ws) rest i go =
-    let few = i.few in
-    let same_s = i.counts.0 in
-    let more_r = i.counts.1 in
-    let f = go (omega (arith, few, same_s, more_r)) in
-    let count = f.count in
-    record {
-      count = omega (arith, count, same_s, more_r);
-      segments = f.segments;
-      rows = (i.fits, f.rows);
-      plain = λ none. f.plain (or_parts (says_entry l.says) (has_entry_card more) none).1;
-    }
+with_fits s r s' r' l more (RowPart ws) rest i go = grind arith
 
 abbrev pub go_on : Names → (segments s r : ℕ) → Line → List Line → Part → Result Program Refusal
 go_on names segments s r l more part = program_from names segments (segments_behind s l.says) (rows_behind r l.says) more >>= λ rest. Ok (with_part part rest)
 
 program_fits : (names : Names) (segments s r : ℕ) (lines : List Line) (p : Program) → AllByRecursion IsSmallLine lines → s + r ≤ 255 → program_from names segments s r lines ≡ Ok p → Fits s r lines p
-program_fits names segments s r [] p small few e =
-    subst (Fits s r []) (same_Ok (record { segments = []; rows = [] }) p e) (record { count = omega (arith, few); segments = tt; rows = tt; plain = λ none. tt })
+program_fits names segments s r [] p small few e = grind arith
 program_fits names segments s r (l ∷ more) p small few e =
     by_head (λ rest few e. program_fits names segments (segments_behind s l.says) (rows_behind r l.says) more rest small.1 few e) (λ e. program_fits names segments s r more p small.1 few e) (is_head l.kind) e
   where
@@ -245,12 +205,10 @@ abbrev version_by : Bool → ℕ
 version_by b = cond b 2 1
 
 version_either : (b : Bool) → (version_by b ≡ 1) ⊎ (version_by b ≡ 2)
-version_either true = inr refl
-version_either false = inl refl
+version_either b = grind arith
 
 version_plain : (b : Bool) → version_by b ≡ 1 → b ≡ false
-version_plain true e = absurd (let z : ⊥ = cc in z)
-version_plain false e = refl
+version_plain b e = grind arith
 
 -- the codefile of assembled cards is within its limits
 pub assembled_within : (cards : List Card) (p : Program) → assembled cards ≡ Ok p → IsWithin (codefile_of (version_of cards) p)
@@ -258,14 +216,7 @@ assembled_within cards p e =
     let all : List Line = lines_of cards in
     let a = after_both (no_strays (names_of all) all) (λ (u : ⊤). program_from (names_of all) (segment_count 0 all) 0 0 all) p e in
     let f = program_fits (names_of all) (segment_count 0 all) 0 0 all p (lines_small cards) (omega arith) a.2 in
-    let count = f.count in
-    record {
-      version = version_either (has_entry_card all);
-      count = omega (arith, count, length-map p.segments segment_file, length-map p.rows (map (word 0)));
-      segments = f.segments;
-      rows = f.rows;
-      plain = λ one. f.plain (version_plain (has_entry_card all) one);
-    }
+    grind (arith, length-map)
 
 -- ---- the bytes of a codefile
 
@@ -286,22 +237,10 @@ row_all : (ws : List Tagged) → Bytes (row_bytes ws)
 row_all ws = bytes_append (to_be_bytes w16 (length ws)) (flat_map word_bytes ws) (two_bytes (length ws)) (flat_bytes word_bytes (λ w. eight_bytes (w.tag * 2 ^ 48 + w.bits)) ws)
 
 entry_all : (version : ℕ) (entries : List ℕ) → Bytes (entry_bytes version entries)
-entry_all version entries = by_test (eqb version 1)
-  where
-    by_test : (b : Bool) → Bytes (cond b [] (to_be_bytes w8 (length entries) ++ flat_map (to_be_bytes w16) entries))
-    by_test true = tt
-    by_test false = bytes_append (to_be_bytes w8 (length entries)) (flat_map (to_be_bytes w16) entries) (one_byte (length entries)) (flat_bytes (to_be_bytes w16) two_bytes entries)
+entry_all version entries = grind (arith, flat_bytes)
 
 segment_all : (version : ℕ) (s : Segment) → Bytes (segment_bytes version s)
-segment_all version s =
-    bytes_append (to_be_bytes w8 s.level) (entry_bytes version s.entries ++ row_bytes s.code) (one_byte s.level)
-    (bytes_append (entry_bytes version s.entries) (row_bytes s.code) (entry_all version s.entries) (row_all s.code))
+segment_all version s = grind (arith, bytes_append, entry_all, row_all)
 
 pub spelled_bytes : (f : Codefile) → Bytes (spelling f)
-spelled_bytes f =
-    let rows = flat_map row_bytes f.rows in
-    let segments = flat_map (segment_bytes f.version) f.segments in
-    bytes_append (to_be_bytes w64 (header f.version)) (to_be_bytes w16 (length f.segments) ++ (to_be_bytes w16 (length f.rows) ++ (segments ++ rows))) (eight_bytes (header f.version))
-    (bytes_append (to_be_bytes w16 (length f.segments)) (to_be_bytes w16 (length f.rows) ++ (segments ++ rows)) (two_bytes (length f.segments))
-    (bytes_append (to_be_bytes w16 (length f.rows)) (segments ++ rows) (two_bytes (length f.rows))
-    (bytes_append segments rows (flat_bytes (segment_bytes f.version) (segment_all f.version) f.segments) (flat_bytes row_bytes row_all f.rows))))
+spelled_bytes f = grind (arith, bytes_append, flat_bytes)

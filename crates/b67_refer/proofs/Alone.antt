@@ -1,5 +1,5 @@
 -- A stuffed reference, which names its cell whatever the display shows.
-use Rattle.std.proofs.Common.{◌≡◌, ℕ, ◌<◌, List, Result, Ok, sym, ap, subst, length}
+use Rattle.std.proofs.Common.{◌≡◌, ℕ, ◌<◌, List, Result, Ok, sym, ap, subst, length, arith}
 use Rattle.std.proofs.lemmas.Option.{slice_get_within}
 use Rattle.b67_word.specs.Tagged.{Tagged}
 use Rattle.b67_word.specs.declared.couples.Place.{Place}
@@ -45,10 +45,7 @@ module _ (core : List Tagged) (r : Regs) (w : Tagged) (tag : w.tag ≡ 1) (other
         subst P (sym (ap (λ (x : Sirw). x.offset) is_read)) (finds (live_of a) q named.frame named.names spot_read)
 
     pub inside : found < length core
-    inside = by_cell (cell (here a.member a.task q) named.frame named.offset) meets where
-      by_cell : (y : Rattle.b67_model.specs.Common.Answer Word) → CellMeets (live_of a) q named.frame named.offset (Ok found) y → found < length core
-      by_cell (Rattle.std.proofs.Common.Ok u) i = slice_get_within core found i.word i.there
-      by_cell (Rattle.std.proofs.Common.Err y) i = absurd i
+    inside = grind (arith, meets, slice_get_within)
 
     pub ends : HasTagAt core found 0 → EndMeets a q (Ok (end.Cell found)) (follow (here a.member a.task q) v)
     ends zero = own_ends core r a q found v (is_reference core r (live_of a) at owner w v stands tag) (finds_ref core r (live_of a) q v named.frame named.offset (Ok found) named.word meets) zero

@@ -1,7 +1,5 @@
 -- Where the stacks begin that a word may name.
-use Rattle.std.proofs.Common.{◌≡◌, ℕ, ◌+◌, ◌-◌, ◌*◌, ◌<◌, ◌≤◌, ◌^◌, refl, sym, ◌∙◌, ap, arith, false, true, ⊎_elim, List, length}
-use Rattle.std.specs.Prelude.{nat_lt}
-use Rattle.std.proofs.lemmas.Bool.{lt-ltb, le-ltb}
+use Rattle.std.proofs.Common.{◌≡◌, ℕ, ◌+◌, ◌-◌, ◌*◌, ◌<◌, ◌≤◌, ◌^◌, ◌∙◌, arith, ⊎_elim, List, length}
 use Rattle.b67_word.specs.Tagged.{Tagged}
 use Rattle.b67_ctl.specs.declared.registers.Regs.{Regs}
 use Rattle.b67_stack.specs.MachineView.{MachineView}
@@ -39,21 +37,7 @@ module _ (core : List Tagged) (r : Regs) (a : LiveContext core r) where
   slot_zero = let m = a.holds.memory in (let low : a.storage.low ≡ a.plan.stacks + a.plan.peak * a.plan.size = m.slots.laid.low in omega (arith, low), omega (arith, m.inside, m.directory.small))
 
   pub of_slot : (k : ℕ) → IsStackOf a k → k < 120 → (r.stacks + k * r.stack_size ≡ base_of a.plan k) × (r.stacks + k * r.stack_size < 2 ^ 20)
-  of_slot k is low =
-      let used : k < a.plan.peak = ⊎_elim (λ u. u) (λ o. absurd (⊎_elim (λ e. omega (arith, e, low)) (λ e. omega (arith, e, low)) o)) is in
-      let t : nat_lt k 120 ≡ true = lt-ltb k 120 low in
-      let inside = slot_inside k used in
-      let same : r.stacks + k * r.stack_size ≡ a.plan.stacks + k * a.plan.size = ap (λ n. n + k * r.stack_size) stacks_is ∙ ap (λ n. a.plan.stacks + k * n) size_is in
-      (same ∙ rw t refl, omega (arith, same, inside.0, inside.1, inside.2))
+  of_slot k is low = grind (arith, slot_inside)
 
   pub of_dictionary : (k : ℕ) → IsStackOf a k → 120 ≤ k → k < 136 → (r.dict ≡ base_of a.plan k) × (r.dict < 2 ^ 20)
-  of_dictionary k is low high =
-      let few = a.holds.fits.few in
-      let e : k ≡ 127 + a.member.constants.number = ⊎_elim (λ u. absurd (omega (arith, u, low, few))) (λ o. ⊎_elim (λ e. e) (λ e. absurd (omega (arith, e, high))) o) is in
-      let t : nat_lt k 120 ≡ false = le-ltb k 120 low in
-      let u : nat_lt k 136 ≡ true = lt-ltb k 136 high in
-      let n : k - 127 ≡ a.member.constants.number = omega (arith, e) in
-      let d = dictionary_is in
-      let b = dictionary_low in
-      let z = slot_zero in
-      (d ∙ ap a.plan.dictionary (sym n) ∙ rw t (rw u refl), omega (arith, d, b, z.0, z.1))
+  of_dictionary k is low high = grind (arith, dictionary_low)

@@ -1,7 +1,7 @@
 -- The environment of the running task, level by level.
 use Rattle.std.proofs.Common.{◌≡◌, ◌≢◌, ℕ, zero, suc, ◌+◌, ◌-◌, ◌*◌, ◌<◌, ◌≤◌, List, map, Some, refl, sym, ◌∙◌, ap, arith, subst, length, slice_set, ⊎_elim, inl, inr}
 use Rattle.std.specs.List.{slice_get}
-use Rattle.std.proofs.lemmas.Bool.{cases_eq, cases_lt}
+use Rattle.std.proofs.lemmas.Bool.{cases_lt}
 use Rattle.std.proofs.lemmas.List.{length-set}
 use Rattle.b67_core.proofs.Writes.{slice_get-set_same, slice_get-set_other}
 use Rattle.b67_word.specs.Tagged.{Tagged}
@@ -84,9 +84,7 @@ module _ (core : List Tagged) (r : Regs) (a : RunningContext core r) where
     top_address = let e : level - level ≡ 0 = omega arith in ap (λ (i : ℕ). frame_address a.plan a.member a.task (outward (here a.member a.task q) i (running a.task.frames)).identity) e
 
     pub mark_of_level : (n : ℕ) → suc n ≤ level → MarkOf core r (live_of a) (frame_at (here a.member a.task q) (suc n)).identity (frame_at (here a.member a.task q) (suc n)).standing
-    mark_of_level n up =
-        let b = level_at (suc n) up in
-        mark core r (live_of a) (frame_at (here a.member a.task q) (suc n)).identity (frame_at (here a.member a.task q) (suc n)).standing b.among b.entered (omega (arith, b.level))
+    mark_of_level n up = grind (arith, level_at, mark)
 
     -- the mark at a level names the frame of the level below
     pub next_address : (n : ℕ) (up : suc n ≤ level) → address_of a.plan (let s : Stacks.StackPlace = record { stack = (mark_of_level n up).mark.env_stack; disp = (mark_of_level n up).mark.env_disp } in s) ≡ address_at n
@@ -162,17 +160,10 @@ module _ (core : List Tagged) (r : Regs) (a : RunningContext core r) where
   Written at n display = ShowsAbove a at n display
 
   pub written_start : (at : ℕ) (display : List ℕ) → at ≡ frame_address a.plan a.member a.task (running a.task.frames).identity → Written at r.level display
-  written_start at display e = record {
-    low = omega (arith, level_is);
-    address = e ∙ sym (top_address a.task.place) ∙ ap (address_at a.task.place) (sym level_is);
-    done = λ k low up. absurd (omega (arith, level_is, low, up));
-  }
+  written_start at display e = grind (arith, level_is)
 
   pub written_more : (at n : ℕ) (display : List ℕ) → Written at n display → length display ≡ 32 → (k : ℕ) → n ≤ k → k ≤ level → slice_get (slice_set display n at) k ≡ Some (address_at a.task.place k)
-  written_more at n display w len k low up = ⊎_elim
-      (λ (e : k ≡ n). rw e (slice_get-set_same display n at (omega (arith, w.low, level_small, len)) ∙ ap Some w.address))
-      (λ (e : k ≡ n → ⊥). slice_get-set_other display n k at e ∙ w.done k (omega (arith, e)) up)
-      (cases_eq k n)
+  written_more at n display w len k low up = grind (arith, slice_get-set_same, level_small, slice_get-set_other)
 
   pub written_end : (at : ℕ) (display : List ℕ) → Written at 0 display → length display ≡ 32 → IsShown a (slice_set display 0 at)
   written_end at display w len k up = written_more at 0 display w len k (omega arith) up
@@ -187,11 +178,7 @@ module _ (core : List Tagged) (r : Regs) (a : RunningContext core r) where
       (m.mark, m.fits, ap (slice_get core) w.address ∙ m.there, m.stack, next_address a.task.place n w.low)
 
   pub written_next : (at n down : ℕ) (display : List ℕ) → Written at (suc n) display → length display ≡ 32 → down ≡ address_at a.task.place n → Written down n (slice_set display (suc n) at)
-  written_next at n down display w len e = record {
-    low = omega (arith, w.low);
-    address = e;
-    done = λ k low up. written_more at (suc n) display w len k (omega arith) up;
-  }
+  written_next at n down display w len e = grind (arith, written_more)
 
   -- the last three levels at once
   pub written_all : (at n : ℕ) (display : List ℕ) → Written at n display → 2 ≤ n → n ≤ 2 → length display ≡ 32 → IsShown a (slice_set (slice_set (slice_set display 2 at) 1 r.dict) 0 0)
@@ -209,8 +196,7 @@ module _ (core : List Tagged) (r : Regs) (a : RunningContext core r) where
   pub turn_down : (at n : ℕ) (display : List ℕ) (m : Mscw) → Written at n display → n ≢ 0 → Reads at m → IsStackOf (live_of a) m.env_stack × (address_of a.plan (let s : Stacks.StackPlace = record { stack = m.env_stack; disp = m.env_disp } in s) ≡ address_at a.task.place (n - 1))
   turn_down at n display m w some read =
       let k = turn_mark at n display w some in
-      let P : Mscw → Type 0 = λ z. IsStackOf (live_of a) z.env_stack × (address_of a.plan (let s : Stacks.StackPlace = record { stack = z.env_stack; disp = z.env_disp } in s) ≡ address_at a.task.place (n - 1)) in
-      subst P (sym (read k.0 k.1 k.2)) (k.3, k.4)
+      grind arith
 
   pub turn_next : (at n down : ℕ) (display : List ℕ) → Written at n display → n ≢ 0 → length display ≡ 32 → down ≡ address_at a.task.place (n - 1) → Written down (n - 1) (slice_set display n at)
   turn_next at n down display w some len d =

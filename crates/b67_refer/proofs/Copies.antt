@@ -33,9 +33,7 @@ area_head core b h at (Area c ∷ ss) x i l s e = ⊎_elim
 area_head core b h at (Hole n ∷ ss) x i l s e = area_head core at (Rattle.b67_area.specs.Words.hole_high n) (at + n) ss x i l.1 s.2 e
 
 kind_small : (k : Kind) → kind_number k < 3
-kind_small kind.Array = omega arith
-kind_small kind.Row = omega arith
-kind_small kind.Code = omega arith
+kind_small k = grind arith
 
 module _ (core : List Tagged) (copy : DataDesc) (home : ℕ) (c : IsCopyOf core copy home) where
   same : SameDesc copy (copy_desc c.copied c.is.number c.is.present c.is.address)

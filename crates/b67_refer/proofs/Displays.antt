@@ -1,5 +1,5 @@
 -- Displays that hold an environment, and where they agree with the running one.
-use Rattle.std.proofs.Common.{Bool, true, false, ◌≡◌, ◌≢◌, ℕ, zero, suc, ◌+◌, ◌-◌, ◌*◌, ◌<◌, ◌≤◌, ◌^◌, List, [], ◌∷◌, Some, refl, sym, ◌∙◌, ap, arith, subst, length, slice_set, ⊎_elim, inl, inr}
+use Rattle.std.proofs.Common.{Bool, ◌≡◌, ◌≢◌, ℕ, zero, suc, ◌+◌, ◌-◌, ◌*◌, ◌<◌, ◌≤◌, ◌^◌, List, [], ◌∷◌, Some, refl, sym, ◌∙◌, ap, arith, subst, length, slice_set, ⊎_elim, inl, inr}
 use Rattle.std.specs.List.{slice_get}
 use Rattle.std.proofs.lemmas.Bool.{cases_eq, cases_lt}
 use Rattle.std.proofs.lemmas.Option.{same_Some}
@@ -56,22 +56,14 @@ fields : (far entered stack disp value level back far' entered' stack' disp' val
 fields far entered stack disp value level back far' entered' stack' disp' value' level' back' a b c d e f a' b' c' d' e' f' z = (omega arith, omega arith, omega arith, omega arith)
 
 flag_small : (b : Bool) → flag_bit b < 2
-flag_small true = omega arith
-flag_small false = omega arith
+flag_small b = grind arith
 
 one_flag : (b d : Bool) → flag_bit b ≡ flag_bit d → b ≡ d
-one_flag true true e = refl
-one_flag true false e = absurd (omega (arith, e))
-one_flag false true e = absurd (omega (arith, e))
-one_flag false false e = refl
+one_flag b d e = grind arith
 
 -- the mark of a word is one
 pub one_mark : (m n : Mscw) → IsMscw m → IsMscw n → mscw_word m ≡ mscw_word n → (m.env_stack ≡ n.env_stack) × (m.env_disp ≡ n.env_disp) × (m.level ≡ n.level) × (m.entered ≡ n.entered)
-one_mark m n fm fn e =
-    let f = fields (flag_bit m.far) (flag_bit m.entered) m.env_stack m.env_disp (flag_bit m.value) m.level m.back (flag_bit n.far) (flag_bit n.entered) n.env_stack n.env_disp (flag_bit n.value) n.level n.back
-    (flag_small m.entered) fm.env_stack fm.env_disp (flag_small m.value) fm.level fm.back (flag_small n.entered) fn.env_stack fn.env_disp (flag_small n.value) fn.level fn.back
-    (ap (λ (w : Tagged). w.bits) e) in
-    (f.0, f.1, f.2, one_flag m.entered n.entered f.3)
+one_mark m n fm fn e = grind (arith, flag_small)
 
 module _ (core : List Tagged) (r : Regs) (a : RunningContext core r) where
   -- a level at which both agree, and the next one
@@ -79,11 +71,7 @@ module _ (core : List Tagged) (r : Regs) (a : RunningContext core r) where
       → slice_get display (suc n) ≡ Some (address_at core r a a.task.place (suc n)) → slice_get display n ≡ Some (address_at core r a a.task.place n)
   agrees_next n display two up h e =
       let m = mark_of_level core r a a.task.place n up in
-      let at : h.at ≡ address_at core r a a.task.place (suc n) = same_Some _ _ (sym h.shown ∙ e) in
-      let word : mscw_word h.mark ≡ mscw_word m.mark = same_Some _ _ (sym h.there ∙ ap (slice_get core) at ∙ m.there) in
-      let same = one_mark h.mark m.mark h.fits m.fits word in
-      h.below ∙ ap (λ (k : ℕ). Some (r.stacks + k * r.stack_size + h.mark.env_disp)) same.0 ∙ ap (λ (d : ℕ). Some (r.stacks + m.mark.env_stack * r.stack_size + d)) same.1
-      ∙ ap Some (slot_below core r a n up two).1
+      grind (arith, one_mark, slot_below)
 
   -- what agrees at a level agrees below it
   pub agrees : (n : ℕ) (display : List ℕ) → 2 ≤ n → n ≤ level core r a → HoldsEnvironment core r display n → slice_get display n ≡ Some (address_at core r a a.task.place n)
@@ -160,12 +148,7 @@ module _ (core : List Tagged) (r : Regs) (a : RunningContext core r) where
         let at : r.level ≡ suc (r.level - 1) = omega (arith, e.high) in
         let up : suc (r.level - 1) ≤ level core r a = omega (arith, at, w.low) in
         let k = mark_of_level core r a a.task.place (r.level - 1) up in
-        let word : mscw_word k.mark ≡ mscw_word e.mark = same_Some _ _ (sym k.there ∙ ap (slice_get core) (sym (w.address ∙ ap (address_at core r a a.task.place) at)) ∙ e.there) in
-        let one = one_mark k.mark e.mark k.fits e.fits word in
-        let below = slot_below core r a (r.level - 1) up (omega (arith, e.high)) in
-        let s : k.mark.env_stack ≡ slot = one.0 ∙ e.slot_is in
-        let d : k.mark.env_disp ≡ disp = one.1 ∙ e.disp_is in
-        (subst (λ (n : ℕ). n < a.plan.peak) s below.0, ap (λ (n : ℕ). r.stacks + slot * r.stack_size + n) (sym d) ∙ ap (λ (n : ℕ). r.stacks + n * r.stack_size + k.mark.env_disp) (sym s) ∙ below.1)
+        grind (arith, one_mark, slot_below)
 
   -- the marks of the running environment, of levels above 2
   module _ (k : ℕ) (two : 2 < k) (up : k ≤ level core r a) where
@@ -208,8 +191,7 @@ module _ (core : List Tagged) (r : Regs) (a : RunningContext core r) where
         let up' : suc (k - 1) ≤ level core r a = omega (arith, at, up) in
         let n = mark_of_level core r a a.task.place (k - 1) up' in
         let b = level_at core r a a.task.place (suc (k - 1)) up' in
-        let word : mscw_word n.mark ≡ mscw_word m = same_Some _ _ (sym n.there ∙ ap (λ (x : ℕ). slice_get core (address_at core r a a.task.place x)) at ∙ ap (slice_get core) e ∙ there) in
-        ne (sym (one_mark n.mark m n.fits fits word).2 ∙ n.level ∙ b.level ∙ at)
+        grind arith
 
   -- what is shown is held up to a level, on a core in which the marks of its levels are the same
   pub shown_holds : (core' : List Tagged) (display : List ℕ) (known : ℕ) → IsShown a display → known ≤ level core r a

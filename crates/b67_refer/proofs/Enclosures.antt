@@ -55,10 +55,7 @@ module _ (core : List Tagged) (r : Regs) (a : RunningContext core r) where
       record { over = c.0 + 1; spans = subst S (sym (is c.0 c.1)) (slot_spans core r (live_of a) cell c.0 c.1 b.held.holder b.held.live b.held.slot); is = inl (ends c.0 c.1) }
 
   pub between_at : (m n p o : ℕ) → m ≡ n → p ≡ o → Between n o → Between m p
-  between_at m n p o e i b =
-      let S : ℕ → Type 0 = λ x. Between x o in
-      let T : ℕ → Type 0 = λ x. Between m x in
-      subst T (sym i) (subst S (sym e) b)
+  between_at m n p o e i b = grind arith
 
   pub between_mark : (mark past : ℕ) → Between mark past → (m : Mscw) × IsMscw m × (slice_get core mark ≡ Some (mscw_word m))
   between_mark mark past b = has_mark core r (live_of a) mark b.over b.spans

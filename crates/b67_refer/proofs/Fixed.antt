@@ -3,7 +3,7 @@ use Rattle.std.proofs.Common.{◌≡◌, ◌≢◌, ℕ, zero, suc, ◌+◌, ◌
 use Rattle.std.specs.Prelude.{if◌then◌else◌, nat_lt}
 use Rattle.std.specs.List.{slice_get}
 use Rattle.std.specs.Option.{ok_or}
-use Rattle.std.proofs.lemmas.Bool.{lt-ltb, le-ltb, false≢true}
+use Rattle.std.proofs.lemmas.Bool.{le-ltb, false≢true}
 use Rattle.std.proofs.lemmas.Option.{same_Some, slice_get_past}
 use Rattle.std.proofs.lemmas.List.{length-reverse}
 use Rattle.b67_word.specs.Tagged.{Tagged}
@@ -14,7 +14,7 @@ use Rattle.b67_ctl.specs.Descriptors.{IsDataDesc}
 use Rattle.b67_area.specs.declared.Kind.{Kind}
 use Rattle.b67_area.specs.declared.Kind.TheVariants as kind
 use Rattle.b67_area.proofs.Laws.{area_inside}
-use Rattle.b67_model.specs.Common.{Answer, Word, Original, Intrinsic, Frame, Entered, Segment, mcp, first_offset, cell_of, cell, OwnsArray, EntryInOrder, DictionaryWords}
+use Rattle.b67_model.specs.Common.{Word, Original, Intrinsic, Frame, Entered, Segment, mcp, first_offset, cell_of, cell, OwnsArray, EntryInOrder, DictionaryWords}
 use Rattle.b67_lemmas.specs.Lists.{Has}
 use Rattle.b67_lemmas.proofs.Members.{all_in, has_append_left, has_append_right, has_flat, has_get, has_map, has_reverse_back, keyed_has}
 use Rattle.b67_lemmas.proofs.Places.{get_within}
@@ -29,28 +29,14 @@ use Rattle.b67_refer.proofs.Bases.{viewed}
 use Rattle.b67_refer.proofs.Marks.{view_low, base_in, frame_dictionary, frame_mcp, dictionary_address}
 
 mcp_get : (i : ℕ) → i < 11 → slice_get (reverse mcp.cells) i ≡ Some (Intrinsic (8 + i))
-mcp_get zero low = refl
-mcp_get (suc zero) low = refl
-mcp_get (suc (suc zero)) low = refl
-mcp_get (suc (suc (suc zero))) low = refl
-mcp_get (suc (suc (suc (suc zero)))) low = refl
-mcp_get (suc (suc (suc (suc (suc zero))))) low = refl
-mcp_get (suc (suc (suc (suc (suc (suc zero)))))) low = refl
-mcp_get (suc (suc (suc (suc (suc (suc (suc zero))))))) low = refl
-mcp_get (suc (suc (suc (suc (suc (suc (suc (suc zero)))))))) low = refl
-mcp_get (suc (suc (suc (suc (suc (suc (suc (suc (suc zero))))))))) low = refl
-mcp_get (suc (suc (suc (suc (suc (suc (suc (suc (suc (suc zero)))))))))) low = refl
-mcp_get (suc (suc (suc (suc (suc (suc (suc (suc (suc (suc (suc i))))))))))) low = absurd (omega (arith, low))
+mcp_get i low = grind arith
 
 entry_is : (n : ℕ) (ss : List Segment) (ws : List Word) (i : ℕ) (w : Word) → DictionaryWords n ss ws → slice_get ws i ≡ Some w
     → ((i < length ss) × (w ≡ Words.Segment (n + i))) ⊎ ((length ss ≤ i) × (w ≡ Original (1 + (i - length ss))))
 entry_is n [] ws i w d e = inr (omega arith, entry_row 1 ws i w d e ∙ ap (λ k. Original (1 + k)) (let z : i ≡ i - 0 = omega arith in z))
 entry_is n (s ∷ ss) [] i w d e = absurd d
 entry_is n (s ∷ ss) (v ∷ ws) zero w d e = inl (omega arith, sym (same_Some v w e) ∙ d.0 ∙ ap Words.Segment (let z : n ≡ n + 0 = omega arith in z))
-entry_is n (s ∷ ss) (v ∷ ws) (suc i) w d e = ⊎_elim
-    (λ l. inl (omega (arith, l.0), l.1 ∙ ap Words.Segment (let z : n + 1 + i ≡ n + suc i = omega arith in z)))
-    (λ l. inr (omega (arith, l.0), l.1 ∙ ap (λ k. Original (1 + k)) (let z : i - length ss ≡ suc i - length (s ∷ ss) = omega arith in z)))
-    (entry_is (n + 1) ss ws i w d.1 e)
+entry_is n (s ∷ ss) (v ∷ ws) (suc i) w d e = grind (arith, entry_is (n + 1) ss ws i w d.1 e)
 
 module _ (x : Storage) (core : List Tagged) (r : Regs) (p : MachineView) (s : Represents x core r p) (t : PagedObject) (int : Has p.objects t) where
   pub area_small : (b : ℕ) → (x.held t.home).area ≡ Some b → b < 2 ^ 20
@@ -59,8 +45,7 @@ module _ (x : Storage) (core : List Tagged) (r : Regs) (p : MachineView) (s : Re
       omega (arith, (area_inside core x.low x.spans b (info_of x o.0) s.directory o.3).1, s.directory.small)
 
   pub desc_fits : (b : Bool) (n : ℕ) (o : Option ℕ) (f : ℕ) → n < 2 ^ 20 → f < 2 ^ 20 → ((z : ℕ) → o ≡ Some z → z < 2 ^ 20) → IsDataDesc (home_desc b n (record { area = o; chain = f }))
-  desc_fits b n (Some z) f small fits af = record { words = small; address = af z refl; indexed = λ y. absurd (false≢true y) }
-  desc_fits b n None f small fits af = record { words = small; address = fits; indexed = λ y. absurd (false≢true y) }
+  desc_fits b n o f small fits af = grind arith
 
   original_by : (k : Kind) (h : Location) → k ≢ kind.Code → length t.numbers < 2 ^ 20 → h.chain < 2 ^ 20 → ((z : ℕ) → h.area ≡ Some z → z < 2 ^ 20) → IsOriginal (home_word_of k (length t.numbers) h)
   original_by kind.Array h n small fits af = record { desc = home_desc false (length t.numbers) h; fits = desc_fits false (length t.numbers) h.area h.chain small fits af; own = refl; is = refl }
@@ -72,8 +57,7 @@ module _ (x : Storage) (core : List Tagged) (r : Regs) (p : MachineView) (s : Re
   object_original n = original_by t.kind (x.held t.home) n (omega (arith, (s.slots.laid.lengths t int).1)) (chain_small x core t (x.held t.home).area (x.held t.home).chain (s.objects t int).content) area_small
 
 no_code : (b : Bool) → (if b then kind.Array else kind.Row) ≢ kind.Code
-no_code true e = cc
-no_code false e = cc
+no_code b e = grind arith
 
 module _ (core : List Tagged) (r : Regs) (a : LiveContext core r) where
   pub mcp_address : frame_address a.plan a.member a.task 0 ≡ 0
@@ -96,12 +80,7 @@ module _ (core : List Tagged) (r : Regs) (a : LiveContext core r) where
     look_mcp offset = ap (λ (g : Frame). ok_or (cell_of g offset) InvalidAddress) (frame_mcp core r a q)
 
     pub mcp_misses : (offset : ℕ) → (offset < 8) ⊎ (18 < offset) → cell (here a.member a.task q) 0 offset ≡ Err InvalidAddress
-    mcp_misses offset far = look_mcp offset ∙ ⊎_elim
-        (λ (low : offset < 8). (let t : nat_lt offset 8 ≡ true = lt-ltb offset 8 low in rw t refl))
-        (λ (past : 18 < offset). (let t : nat_lt offset 8 ≡ false = le-ltb offset 8 (omega (arith, past)) in
-        let n : slice_get (reverse mcp.cells) (offset - 8) ≡ None = slice_get_past (reverse mcp.cells) (offset - 8) (omega (arith, past)) in
-        rw t (ap (λ (o : Option Word). ok_or o InvalidAddress) n)))
-        far
+    mcp_misses offset far = grind (arith, look_mcp)
 
     pub mcp_lands : (offset : ℕ) → 8 ≤ offset → offset ≤ 18 → CellMeets a q 0 offset (Ok offset) (cell (here a.member a.task q) 0 offset)
     mcp_lands offset low up =
@@ -116,8 +95,7 @@ module _ (core : List Tagged) (r : Regs) (a : LiveContext core r) where
           there = a.holds.mcp.intrinsics offset low up;
           stands = (refl, low, up);
         } in
-        let F : Answer Word → Type 0 = λ y. CellMeets a q 0 offset (Ok offset) y in
-        subst F (sym found) is
+        grind arith
 
     look_dictionary : (offset : ℕ) → cell (here a.member a.task q) 1 offset ≡ ok_or (if nat_lt offset 2 then None else slice_get (reverse a.member.constants.dictionary.cells) (offset - 2)) InvalidAddress
     look_dictionary offset =
@@ -126,12 +104,7 @@ module _ (core : List Tagged) (r : Regs) (a : LiveContext core r) where
         ap (λ (n : ℕ). ok_or (if nat_lt offset n then None else slice_get (reverse a.member.constants.dictionary.cells) (offset - n)) InvalidAddress) first)
 
     pub dictionary_misses : (offset : ℕ) → (offset < 2) ⊎ (1 + length a.member.constants.dictionary.cells < offset) → cell (here a.member a.task q) 1 offset ≡ Err InvalidAddress
-    dictionary_misses offset far = look_dictionary offset ∙ ⊎_elim
-        (λ (low : offset < 2). (let t : nat_lt offset 2 ≡ true = lt-ltb offset 2 low in rw t refl))
-        (λ (past : 1 + length a.member.constants.dictionary.cells < offset). (let t : nat_lt offset 2 ≡ false = le-ltb offset 2 (omega (arith, past)) in
-        let n : slice_get (reverse a.member.constants.dictionary.cells) (offset - 2) ≡ None = slice_get_past (reverse a.member.constants.dictionary.cells) (offset - 2) (let l = length-reverse a.member.constants.dictionary.cells in omega (arith, past, l)) in
-        rw t (ap (λ (o : Option Word). ok_or o InvalidAddress) n)))
-        far
+    dictionary_misses offset far = grind (arith, look_dictionary, slice_get_past, length-reverse)
 
     -- the word of core at an entry
     record Entry (i : ℕ) (w : Word) : Type 0 where
@@ -188,5 +161,4 @@ module _ (core : List Tagged) (r : Regs) (a : LiveContext core r) where
           there = ap (slice_get core) (sym at) ∙ n.there;
           stands = subst S at n.stands;
         } in
-        let F : Answer Word → Type 0 = λ y. CellMeets a q 1 offset (Ok (a.plan.dictionary a.member.constants.number + offset)) y in
-        subst F (sym found) is
+        grind arith

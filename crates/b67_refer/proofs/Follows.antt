@@ -1,5 +1,5 @@
 -- Words that are no references, and element copies.
-use Rattle.std.proofs.Common.{◌≡◌, ℕ, List, Result, Err, refl, sym, ◌∙◌, ap, arith, true, false, subst}
+use Rattle.std.proofs.Common.{◌≡◌, ℕ, List, Result, Err, refl, sym, ◌∙◌, arith, true, false, subst}
 use Rattle.std.proofs.lemmas.Bool.{true≢false, false≢true}
 use Rattle.b67_word.specs.Tagged.{Tagged}
 use Rattle.b67_word.specs.declared.couples.Place.{Place}
@@ -20,15 +20,7 @@ use Rattle.b67_refer.proofs.Links.{Described, own, row, item, described}
 
 module _ (core : List Tagged) (r : Regs) (a : LiveContext core r) where
   pub is_reference : (at owner : ℕ) (w : Tagged) (v : Word) → StandsFor a at owner w v → w.tag ≡ 1 → IsReference v
-  is_reference at owner w (Operand b) s t = absurd (let z = ap (λ (x : Tagged). x.tag) s.0.0 in omega (arith, z, t))
-  is_reference at owner w (Name c) s t = tt
-  is_reference at owner w (Ref g d) s t = tt
-  is_reference at owner w (Row b) s t = absurd (let z = ap (λ (x : Tagged). x.tag) s.0.is in omega (arith, z, t))
-  is_reference at owner w (Element b d) s t = absurd (let z = ap (λ (x : Tagged). x.tag) s.0.is in omega (arith, z, t))
-  is_reference at owner w (Original b) s t = absurd (let z = ap (λ (x : Tagged). x.tag) s.0.1.is in omega (arith, z, t))
-  is_reference at owner w (Proc g l p) s t = absurd (let z = ap (λ (x : Tagged). x.tag) s.0.0 in omega (arith, z, t))
-  is_reference at owner w (Intrinsic n) s t = absurd (let z = ap (λ (x : Tagged). x.tag) s.0 in omega (arith, z, t))
-  is_reference at owner w (Words.Segment n) s t = absurd (omega (arith, s, t))
+  is_reference at owner w v s t = grind arith
 
   module _ (q : Place) where
     pub follows_reference : (v : Word) → IsReference v → follow (here a.member a.runner q) v ≡ chase (here a.member a.runner q) v
@@ -43,21 +35,11 @@ module _ (core : List Tagged) (r : Regs) (a : LiveContext core r) where
     follows_reference (Words.Segment n) ref = absurd ref
 
     pub follows_none : (at owner : ℕ) (w : Tagged) (v : Word) → StandsFor a at owner w v → (w.tag ≡ 1 → ⊥) → (w.tag ≡ 5 → ⊥) → EndMeets a q (Err InvalidOperand) (follow (here a.member a.runner q) v)
-    follows_none at owner w (Operand b) s one five = refl
-    follows_none at owner w (Name c) s one five = absurd (one (ap (λ (x : Tagged). x.tag) s.0.0))
-    follows_none at owner w (Ref g d) s one five = absurd (one (ap (λ (x : Tagged). x.tag) s.0.0))
-    follows_none at owner w (Row b) s one five = refl
-    follows_none at owner w (Element b d) s one five = absurd (five (ap (λ (x : Tagged). x.tag) s.0.is))
-    follows_none at owner w (Original b) s one five = refl
-    follows_none at owner w (Proc g l p) s one five = refl
-    follows_none at owner w (Intrinsic n) s one five = refl
-    follows_none at owner w (Words.Segment n) s one five = refl
+    follows_none at owner w v s one five = grind arith
 
     -- a whole array isn't followed
     pub follows_whole : (at owner : ℕ) (v : Word) (d : DataDesc) → Described core r a at owner v d → d.indexed ≡ false → EndMeets a q (Err InvalidOperand) (follow (here a.member a.runner q) v)
-    follows_whole at owner v d (own b e c h o) z = let P : Word → Type 0 = λ x. EndMeets a q (Err InvalidOperand) (follow (here a.member a.runner q) x) in subst P (sym e) refl
-    follows_whole at owner v d (row b e c i h o) z = let P : Word → Type 0 = λ x. EndMeets a q (Err InvalidOperand) (follow (here a.member a.runner q) x) in subst P (sym e) refl
-    follows_whole at owner v d (item b x e c i k h o) z = absurd (true≢false (sym i ∙ z))
+    follows_whole at owner v d h z = grind arith
 
     pub follows_item : (at owner : ℕ) (v : Word) (d : DataDesc) (original : ℕ) (found : Result End Fault) → Described core r a at owner v d → IsDataDesc d → d.indexed ≡ true → ((home : ℕ) → IsCopyOf core d home → original ≡ home)
         → ((n : ℕ) → original ≡ a.plan.home a.member.constants.number n → NamesArray a.member.progress.job.arrays (reach a) n → EndMeets a q found (element_end (here a.member a.runner q) n d.length))

@@ -38,8 +38,7 @@ module _ (core : List Tagged) (r : Regs) (a : LiveContext core r) (q : Place) (f
         → CellMeets a q f offset (Ok (from + offset)) (cell (here a.member a.task q) f offset)
     task_lands low up plain =
         let l = lands core r a q f n.standing (seat core r a f n.standing n.among own) n.entered own offset low (omega (arith, up, e)) (λ k w d u there tag. plain k w (omega (arith, d, e)) (omega (arith, u, e)) there tag) in
-        let F : ℕ → Type 0 = λ x. CellMeets a q f offset (Ok (x + offset)) (cell (here a.member a.task q) f offset) in
-        subst F (sym e) l
+        grind arith
 
     pub task_plain : 2 ≤ offset → from + offset ≤ top → (b : Bool) → IsPlain core (from + 2) (from + offset) b → CellMeets a q f offset (cell_or_none b (from + offset)) (cell (here a.member a.task q) f offset)
     task_plain low up true plain = task_lands low up (λ k w d u there tag. plain k w d (omega (arith, u)) there tag)

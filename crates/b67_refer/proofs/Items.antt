@@ -1,8 +1,8 @@
 -- The original of an array that the running task may name, and the length that it says.
-use Rattle.std.proofs.Common.{◌≡◌, ℕ, ◌<◌, ◌≤◌, List, map, length, Option, Some, Ok, Err, refl, sym, ◌∙◌, ap, arith, Bool, true, false, not}
-use Rattle.std.specs.Prelude.{unwrap_or, nat_lt}
+use Rattle.std.proofs.Common.{◌≡◌, ℕ, ◌<◌, ◌≤◌, List, map, length, Some, Ok, Err, refl, sym, ◌∙◌, ap, arith, Bool, false, not}
+use Rattle.std.specs.Prelude.{nat_lt}
 use Rattle.std.specs.List.{slice_get}
-use Rattle.std.proofs.lemmas.Bool.{lt-ltb, le-ltb}
+use Rattle.std.proofs.lemmas.Bool.{le-ltb}
 use Rattle.b67_word.specs.Tagged.{Tagged}
 use Rattle.b67_word.specs.declared.couples.Place.{Place}
 use Rattle.b67_word.specs.declared.faults.Fault.TheVariants.{InvalidIndex}
@@ -10,8 +10,7 @@ use Rattle.b67_ctl.specs.declared.registers.Regs.{Regs}
 use Rattle.b67_ctl.specs.declared.descriptors.DataDesc.{DataDesc}
 use Rattle.b67_ctl.specs.Descriptors.{data_word, IsDataDesc}
 use Rattle.b67_lemmas.specs.Lists.{Has}
-use Rattle.b67_model.specs.Keyed.{keyed}
-use Rattle.b67_model.specs.Common.{Array, array, no_array, element_end, NamesArray, ArrayInOrder}
+use Rattle.b67_model.specs.Common.{Array, array, element_end, NamesArray, ArrayInOrder}
 use Rattle.b67_lemmas.proofs.Members.{has_append_right, has_map, all_in, keyed_falls}
 use Rattle.b67_stack.specs.Common.{Location, PagedObject, home_desc, home_word, RepresentsObject}
 use Rattle.b67_stack.proofs.Homes.{chain_small}
@@ -24,15 +23,11 @@ use Rattle.b67_refer.proofs.Bases.{viewed}
 use Rattle.b67_refer.proofs.Fixed.{area_small, desc_fits, has_object}
 
 home_by : (plan : Placement) (j : ℕ) (a : Array) (b : Bool) (h : Location) → a.writable ≡ b → home_word (array_object plan j a) h ≡ data_word (home_desc (not a.writable) (length a.numbers) h)
-home_by plan j a true h e = rw e refl
-home_by plan j a false h e = rw e refl
+home_by plan j a b h e = grind arith
 
 module _ (core : List Tagged) (r : Regs) (a : LiveContext core r) (n : ℕ) (names : NamesArray a.member.progress.job.arrays (reach a) n) where
   pub array_is : array a.member.progress.job n ≡ names.item
-  array_is =
-      let found : keyed (λ (x : Array). x.identity) n a.member.progress.job.arrays ≡ Some names.item =
-      ap (λ (i : ℕ). keyed (λ (x : Array). x.identity) i a.member.progress.job.arrays) (sym names.named) ∙ keyed_falls (λ (x : Array). x.identity) a.member.progress.job.next_array a.member.progress.job.arrays names.item a.ordered.tasks.names names.live in
-      ap (λ (z : Option Array). unwrap_or z no_array) found
+  array_is = grind (arith, keyed_falls)
 
   pub not_empty : 0 < length names.item.numbers
   not_empty = (all_in ArrayInOrder a.member.progress.job.arrays names.item a.ordered.tasks.arrays names.live).length_low
@@ -67,7 +62,4 @@ module _ (core : List Tagged) (r : Regs) (a : LiveContext core r) (n : ℕ) (nam
     past high = let t : nat_lt index (length (array a.member.progress.job n).numbers) ≡ false = le-ltb index (length (array a.member.progress.job n).numbers) (omega (arith, high, length_is d is)) in rw t refl
 
     pub within : index < d.length → EndMeets a q (Ok (end.Element original index)) (element_end (here a.member a.runner q) n index)
-    within low =
-        let inside : index < length (array a.member.progress.job n).numbers = omega (arith, low, length_is d is) in
-        let t : nat_lt index (length (array a.member.progress.job n).numbers) ≡ true = lt-ltb index (length (array a.member.progress.job n).numbers) inside in
-        rw t (refl, record { array_of = record { home = home; names = names }; inside = inside })
+    within low = grind (arith, length_is)

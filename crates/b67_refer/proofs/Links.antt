@@ -2,7 +2,6 @@
 use Rattle.std.proofs.Common.{◌≡◌, ℕ, ◌+◌, ◌*◌, ◌<◌, ◌≤◌, ◌^◌, List, Some, None, Result, Ok, Err, refl, sym, ◌∙◌, ap, arith, true, false, subst}
 use Rattle.std.specs.List.{slice_get}
 use Rattle.std.proofs.lemmas.Bool.{true≢false, false≢true}
-use Rattle.std.proofs.lemmas.Option.{same_Some}
 use Rattle.b67_word.specs.Tagged.{Tagged}
 use Rattle.b67_word.specs.declared.couples.Place.{Place}
 use Rattle.b67_ctl.specs.declared.registers.Regs.{Regs}
@@ -30,12 +29,7 @@ not_intrinsic syllable place level segment number a b c d e z = omega arith
 module _ (core : List Tagged) (r : Regs) (a : LiveContext core r) where
   -- an original that is named in a frame of the reach
   named_original : (f array : ℕ) → NamesEntered (reach a) f → OwnsArray a.member.progress.job.arrays f array → NamesArray a.member.progress.job.arrays (reach a) array
-  named_original f array n o = record {
-    item = o.item;
-    live = o.live;
-    named = o.named;
-    owner = subst (NamesEntered (reach a)) (sym o.owned) n;
-  }
+  named_original f array n o = grind arith
 
   -- a copy by its descriptor
   pub copy_of : (c : Copied) (home : ℕ) (v : Tagged) (d : DataDesc) → IsDataDesc d → v ≡ data_word d → IsCopy a.storage.held c home v → IsCopyOf core d home
@@ -67,9 +61,7 @@ module _ (core : List Tagged) (r : Regs) (a : LiveContext core r) where
   module _ (q : Place) (at f offset : ℕ) where
     -- the end at a descriptor
     pub end_own : (w : Word) (d : DataDesc) → NamesEntered (reach a) f → Described at f w d → d.copy ≡ false → LinkMeets a q (Ok (Some (end.Array at))) (link_at (here a.member a.runner q) f offset w)
-    end_own w d n (own b e c h o) z = let P : Word → Type 0 = λ x. LinkMeets a q (Ok (Some (end.Array at))) (link_at (here a.member a.runner q) f offset x) in subst P (sym e) (record { home = h; names = named_original f b n o })
-    end_own w d n (row b e c i h o) z = absurd (true≢false (sym c ∙ z))
-    end_own w d n (item b x e c i k h o) z = absurd (true≢false (sym c ∙ z))
+    end_own w d n h z = grind arith
 
     pub end_row : (w : Word) (d : DataDesc) (original : ℕ) → Described at f w d → d.copy ≡ true → d.indexed ≡ false → ((home : ℕ) → IsCopyOf core d home → original ≡ home) → LinkMeets a q (Ok (Some (end.Array original))) (link_at (here a.member a.runner q) f offset w)
     end_row w d original (own b e c h o) z y found = absurd (false≢true (sym c ∙ z))
@@ -100,17 +92,11 @@ module _ (core : List Tagged) (r : Regs) (a : LiveContext core r) where
   item_of at owner w d original (item b x e c i k h o) z y is = (b, is (a.plan.home a.member.constants.number b) h, o)
 
   pub copied : (at owner : ℕ) (w : Word) (d : DataDesc) → Described at owner w d → d.copy ≡ true → (home : ℕ) × IsCopyOf core d home
-  copied at owner w d (own b e c h o) z = absurd (false≢true (sym c ∙ z))
-  copied at owner w d (row b e c i h o) z = (a.plan.home a.member.constants.number b, h)
-  copied at owner w d (item b x e c i k h o) z = (a.plan.home a.member.constants.number b, h)
+  copied at owner w d h z = grind arith
 
   -- the descriptor that a cell's word is
   pub cell_described : (q : Place) (at f offset : ℕ) (w : Word) (v : Tagged) → IsCellAt a q at f offset w → HasTagAt core at 5 → slice_get core at ≡ Some v → (d : DataDesc) × IsDataDesc d × (v ≡ data_word d) × Described at f w d
-  cell_described q at f offset w v c t there =
-      let is : c.word ≡ v = same_Some _ _ (sym c.there ∙ there) in
-      let tag : v.tag ≡ 5 = ap (λ (x : Tagged). x.tag) (same_Some _ _ (sym there ∙ t.1)) ∙ t.2 in
-      let P : Tagged → Type 0 = λ x. StandsFor a at f x w in
-      described at f v w (subst P is c.stands) tag
+  cell_described q at f offset w v c t there = grind (arith, described)
 
   pub read_described : (q : Place) (at f offset : ℕ) (w : Word) (v : Tagged) (d : DataDesc) → IsCellAt a q at f offset w → HasTagAt core at 5 → slice_get core at ≡ Some v
       → ((x : DataDesc) → IsDataDesc x → v ≡ data_word x → d ≡ x) → Described at f w d

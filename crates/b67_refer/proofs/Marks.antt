@@ -1,8 +1,8 @@
 -- What the running task sees at an identity of its reach: the frame, and the mark in core that names its environment.
 use Rattle.std.proofs.Common.{◌≡◌, ℕ, ◌+◌, ◌-◌, ◌<◌, ◌≤◌, List, [], ◌∷◌, ◌++◌, map, flat_map, Option, Some, None, unwrap_or, refl, sym, ◌∙◌, ap, arith, Bool, true, false, ◌==◌, ⊎_elim, inl, inr, subst, eqb, cond}
-use Rattle.std.specs.Prelude.{if◌then◌else◌, nat_lt}
+use Rattle.std.specs.Prelude.{if◌then◌else◌}
 use Rattle.std.specs.List.{slice_get}
-use Rattle.std.proofs.lemmas.Bool.{cases_lt, ne_eqb, lt-ltb, le-ltb}
+use Rattle.std.proofs.lemmas.Bool.{cases_lt, ne_eqb}
 use Rattle.std.proofs.lemmas.Bool.Decides.{eqb_tells}
 use Rattle.b67_word.specs.Tagged.{Tagged}
 use Rattle.b67_ctl.specs.declared.registers.Regs.{Regs}
@@ -126,13 +126,7 @@ module _ (core : List Tagged) (r : Regs) (a : LiveContext core r) where
 
   -- in a slot there are a task's frames alone
   pub own_stack : (id : ℕ) → (spots a.plan a.member.constants.number a.member.progress.job a.task id).stack < 120 → 1 < id
-  own_stack id few = ⊎_elim
-      (λ (high : 1 < id). high)
-      (λ (low : id ≤ 1). absurd (let v = ap (λ (z : StackPlace). z.stack) (view_low id low) in let b = by_base (id == 1) in omega (arith, few, v, b)))
-      (cases_lt 1 id) where
-        by_base : (b : Bool) → 120 ≤ (let z : StackPlace = if b then record { stack = 127 + a.member.constants.number; disp = 0 } else record { stack = 136; disp = 0 } in z).stack
-        by_base true = omega arith
-        by_base false = omega arith
+  own_stack id few = grind (arith, view_low)
 
   pub base_stack : (id : ℕ) (s : Standing) → Has (reach_of a.member.progress.job a.task) (id, s) → 120 ≤ (spots a.plan a.member.constants.number a.member.progress.job a.task id).stack → id ≤ 1
   base_stack id s m far = ⊎_elim
@@ -153,19 +147,10 @@ module _ (core : List Tagged) (r : Regs) (a : LiveContext core r) where
 
   -- the address of a spot in a slot
   pub slot_address : (k d : ℕ) → k < a.plan.peak → address_of a.plan (record { stack = k; disp = d }) ≡ base core r a k + d
-  slot_address k d used =
-      let few = a.holds.fits.few in
-      let t : nat_lt k 120 ≡ true = lt-ltb k 120 (omega (arith, used, few)) in
-      rw t refl
+  slot_address k d used = grind arith
 
   pub dictionary_address : address_of a.plan (base_spot a.member.constants.number 1) ≡ a.plan.dictionary a.member.constants.number
-  dictionary_address =
-      let j = a.member.constants.number in
-      let few = a.ordered.few in
-      let t : nat_lt (127 + j) 120 ≡ false = le-ltb (127 + j) 120 (omega arith) in
-      let u : nat_lt (127 + j) 136 ≡ true = lt-ltb (127 + j) 136 (omega (arith, few)) in
-      let e : 127 + j - 127 ≡ j = omega arith in
-      rw t (rw u (rw e (omega arith)))
+  dictionary_address = grind arith
 
   -- the mark of an entered frame in reach, but the MCP's
   mark_high : (id : ℕ) (s : Standing) → Has (reach_of a.member.progress.job a.task) (id, s) → IsEntered s → 1 < id → MarkOf id s
@@ -201,8 +186,7 @@ module _ (core : List Tagged) (r : Regs) (a : LiveContext core r) where
   high_level id Marked m e high = absurd e
   high_level id (Entered level environment back) m e high =
       let b = seat core r a id (Entered level environment back) m high in
-      let order : EnvironmentInOrder (map known_of b.below ++ b.known) level environment = subst (λ (z : Standing). StandsInOrder (map known_of b.below ++ b.known) z) b.stands b.order.1 in
-      order.low
+      grind arith
 
   dictionary_mark : Mscw
   dictionary_mark = record { far = true; entered = true; env_stack = 136; env_disp = 0; value = false; level = 1; back = 0 }

@@ -12,7 +12,7 @@ use Rattle.b67_word.specs.declared.faults.Fault.TheVariants.{Loop}
 use Rattle.b67_ctl.specs.declared.registers.Regs.{Regs}
 use Rattle.b67_ctl.specs.declared.references.Irw.{Irw}
 use Rattle.b67_ctl.specs.Layout.{irw_word, IsIrw, sirw_word, IsSirw}
-use Rattle.b67_model.specs.Common.{Answer, Word, Operand, Name, Ref, Row, Element, Original, Proc, Intrinsic, height, cell, named, place_of, Link, Stops, Leads, link_at, link_in, link_from, link, chase_on, NamesEntered}
+use Rattle.b67_model.specs.Common.{Answer, Word, Operand, Name, Ref, Row, Element, Original, Proc, Intrinsic, height, cell, named, place_of, Stops, Leads, link_at, link_in, link_from, link, chase_on, NamesEntered}
 use Rattle.b67_model.specs.Words as Words
 use Rattle.b67_stack.specs.Stacks.{StackPlace}
 use Rattle.b67_layout.specs.Placement.{base_spot}
@@ -58,15 +58,7 @@ module _ (core : List Tagged) (r : Regs) (a : LiveContext core r) where
 
   -- an IRW is that of a couple, and another reference an SIRW
   pub irw_is : (at owner : ℕ) (w : Tagged) (v : Word) (i : Irw) → StandsFor a at owner w v → IsReference v → IsIrw i → w ≡ irw_word i → v ≡ Name i.couple
-  irw_is at owner w (Name c) i s ref fits e = ap Name (ap (λ (x : Tagged). x.bits) (sym s.0.0 ∙ e))
-  irw_is at owner w (Ref g d) i s ref fits e = absurd (let z = ap (λ (x : Tagged). x.bits) (sym s.0.0 ∙ e) in let small = fits.couple in omega (arith, z, small))
-  irw_is at owner w (Operand b) i s ref fits e = absurd ref
-  irw_is at owner w (Row b) i s ref fits e = absurd ref
-  irw_is at owner w (Element b d) i s ref fits e = absurd ref
-  irw_is at owner w (Original b) i s ref fits e = absurd ref
-  irw_is at owner w (Proc g l p) i s ref fits e = absurd ref
-  irw_is at owner w (Intrinsic n) i s ref fits e = absurd ref
-  irw_is at owner w (Words.Segment n) i s ref fits e = absurd ref
+  irw_is at owner w v i s ref fits e = grind arith
 
   -- and each IRW stands for its couple
   pub couple_stands : (w : Tagged) (i : Irw) → IsIrw i → w ≡ irw_word i → StandsFor a 0 0 w (Name i.couple)
@@ -135,31 +127,13 @@ module _ (core : List Tagged) (r : Regs) (a : LiveContext core r) where
 
     -- an end or a fault ends the chain
     pub turn_end : (n at : ℕ) (v : Word) (t : Turn at v) (found : End) → 0 < n → LinkMeets a q (Ok (Some found)) (link_at (here a.member a.runner q) t.frame t.offset t.word) → EndMeets a q (Ok found) (chase_on (here a.member a.runner q) n (Leads v))
-    turn_end zero at v t found some h = absurd (omega (arith, some))
-    turn_end (suc n) at v t found some h = by_link (link_at (here a.member a.runner q) t.frame t.offset t.word) t.is h where
-      by_link : (l : Link) → link (here a.member a.runner q) v ≡ l → LinkMeets a q (Ok (Some found)) l → EndMeets a q (Ok found) (chase_on (here a.member a.runner q) n (link (here a.member a.runner q) v))
-      by_link (Stops (Ok end)) e h = let P : Link → Type 0 = λ l. EndMeets a q (Ok found) (chase_on (here a.member a.runner q) n l) in subst P (sym e) h
-      by_link (Stops (Err y)) e h = absurd h
-      by_link (Leads w) e h = absurd h
+    turn_end n at v t found some h = grind arith
 
     pub turn_fault : (n at : ℕ) (v : Word) (t : Turn at v) (fault : Fault) → 0 < n → LinkMeets a q (Err fault) (link_at (here a.member a.runner q) t.frame t.offset t.word) → EndMeets a q (Err fault) (chase_on (here a.member a.runner q) n (Leads v))
-    turn_fault zero at v t fault some h = absurd (omega (arith, some))
-    turn_fault (suc n) at v t fault some h = by_link (link_at (here a.member a.runner q) t.frame t.offset t.word) t.is h where
-      by_link : (l : Link) → link (here a.member a.runner q) v ≡ l → LinkMeets a q (Err fault) l → EndMeets a q (Err fault) (chase_on (here a.member a.runner q) n (link (here a.member a.runner q) v))
-      by_link (Stops (Ok end)) e h = absurd h
-      by_link (Stops (Err y)) e h = let P : Link → Type 0 = λ l. EndMeets a q (Err fault) (chase_on (here a.member a.runner q) n l) in subst P (sym e) h
-      by_link (Leads w) e h = absurd h
+    turn_fault n at v t fault some h = grind arith
 
     leads : (f offset : ℕ) (w : Word) → LinkMeets a q (Ok None) (link_at (here a.member a.runner q) f offset w) → IsReference w × (link_at (here a.member a.runner q) f offset w ≡ Leads w)
-    leads f offset (Name c) h = (tt, refl)
-    leads f offset (Ref g d) h = (tt, refl)
-    leads f offset (Operand b) h = absurd h
-    leads f offset (Row b) h = absurd h
-    leads f offset (Element b d) h = absurd h
-    leads f offset (Original b) h = absurd h
-    leads f offset (Proc g l p) h = absurd h
-    leads f offset (Intrinsic n) h = absurd h
-    leads f offset (Words.Segment n) h = absurd h
+    leads f offset w h = grind arith
 
     -- what is still to be followed of a chain
     pub record Rest (whole links : ℕ) (first : Word) (w : Tagged) : Type 0 where
@@ -188,9 +162,7 @@ module _ (core : List Tagged) (r : Regs) (a : LiveContext core r) where
         }
 
     pub turn_last : (whole n : ℕ) (first : Word) (w : Tagged) → n ≡ 0 → Rest whole n first w → EndMeets a q (Err Loop) (chase_on (here a.member a.runner q) whole (Leads first))
-    turn_last whole n first w none l =
-        let P : Answer Rattle.b67_model.specs.Chase.End → Type 0 = λ y. EndMeets a q (Err Loop) y in
-        subst P (sym (l.same ∙ ap (λ i. chase_on (here a.member a.runner q) i (Leads l.word)) none)) refl
+    turn_last whole n first w none l = grind arith
 
 -- a turn of a chain whose words are seen from one of two tasks
 module _ (core : List Tagged) (r : Regs) (a : LiveContext core r) (q : Place) (whole n : ℕ) (first : Word) (w : Tagged) where

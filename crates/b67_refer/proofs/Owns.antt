@@ -5,10 +5,9 @@ use Rattle.std.proofs.lemmas.Option.{same_Some, slice_get_within}
 use Rattle.b67_word.specs.Tagged.{Tagged}
 use Rattle.b67_word.specs.declared.couples.Place.{Place}
 use Rattle.b67_ctl.specs.declared.registers.Regs.{Regs}
-use Rattle.b67_model.specs.Words as Words
 use Rattle.b67_model.specs.Chase as Chase
 use Rattle.b67_model.specs.declared.limits.TheConstants.{MOST_LINKS}
-use Rattle.b67_model.specs.Common.{Answer, Word, Operand, Name, Ref, Row, Element, Original, Proc, Intrinsic, Leads, link_at, chase_on, cell, place_of, follow}
+use Rattle.b67_model.specs.Common.{Answer, Word, Leads, link_at, chase_on, cell, place_of, follow}
 use Rattle.b67_layout.specs.Common.{here}
 use Rattle.b67_refer.specs.RunningContext.{RunningContext, live_of}
 use Rattle.b67_refer.specs.LiveCells as live
@@ -27,15 +26,7 @@ module _ (core : List Tagged) (r : Regs) (a : RunningContext core r) (q : Place)
   cell_tag at f offset n w i t = ap (λ (x : Tagged). x.tag) (same_Some _ _ (sym i.there ∙ t.1)) ∙ t.2
 
   operand_link : (at f offset : ℕ) (w : Word) → live.IsCellAt (live_of a) q at f offset w → HasTagAt core at 0 → LinkMeets (live_of a) q (Ok (Some (end.Cell at))) (link_at (here a.member a.task q) f offset w)
-  operand_link at f offset (Operand b) i t = i
-  operand_link at f offset (Name c) i t = absurd (let z = ap (λ (x : Tagged). x.tag) i.stands.0.0 in omega (arith, z, cell_tag at f offset 0 (Name c) i t))
-  operand_link at f offset (Ref g d) i t = absurd (let z = ap (λ (x : Tagged). x.tag) i.stands.0.0 in omega (arith, z, cell_tag at f offset 0 (Ref g d) i t))
-  operand_link at f offset (Row b) i t = absurd (let z = ap (λ (x : Tagged). x.tag) i.stands.0.is in omega (arith, z, cell_tag at f offset 0 (Row b) i t))
-  operand_link at f offset (Element b d) i t = absurd (let z = ap (λ (x : Tagged). x.tag) i.stands.0.is in omega (arith, z, cell_tag at f offset 0 (Element b d) i t))
-  operand_link at f offset (Original b) i t = absurd (let z = ap (λ (x : Tagged). x.tag) i.stands.0.1.is in omega (arith, z, cell_tag at f offset 0 (Original b) i t))
-  operand_link at f offset (Proc g l p) i t = absurd (let z = ap (λ (x : Tagged). x.tag) i.stands.0.0 in omega (arith, z, cell_tag at f offset 0 (Proc g l p) i t))
-  operand_link at f offset (Intrinsic n) i t = absurd (let z = ap (λ (x : Tagged). x.tag) i.stands.0 in omega (arith, z, cell_tag at f offset 0 (Intrinsic n) i t))
-  operand_link at f offset (Words.Segment n) i t = absurd (let z = i.stands in omega (arith, z, cell_tag at f offset 0 (Words.Segment n) i t))
+  operand_link at f offset w i t = grind arith
 
   pub own_ends : (at : ℕ) (v : Word) → IsReference v → FindsCell a q (Ok at) (place_of (here a.member a.task q) v) → HasTagAt core at 0 → EndMeets a q (Ok (end.Cell at)) (follow (here a.member a.task q) v)
   own_ends at v ref found tag =
@@ -45,10 +36,7 @@ module _ (core : List Tagged) (r : Regs) (a : RunningContext core r) (q : Place)
 
 -- a cell that is there lies in core
 pub cell_inside : (core : List Tagged) (r : Regs) (a : RunningContext core r) (q : Place) (f offset at : ℕ) → live.CellMeets (live_of a) q f offset (Ok at) (cell (here a.member a.task q) f offset) → at < length core
-cell_inside core r a q f offset at = by_cell (cell (here a.member a.task q) f offset) where
-  by_cell : (y : Answer Word) → live.CellMeets (live_of a) q f offset (Ok at) y → at < length core
-  by_cell (Ok u) i = slice_get_within core at i.word i.there
-  by_cell (Err y) i = absurd i
+cell_inside core r a q f offset at = grind (arith, slice_get_within)
 
 -- a chain goes on from the cell that its first reference names
 module _ (core : List Tagged) (r : Regs) (a : RunningContext core r) (q : Place) (at : ℕ) (v : Word) (ref : IsReference v) (found : FindsCell a q (Ok at) (place_of (here a.member a.task q) v)) where

@@ -1,5 +1,5 @@
 -- The cells of procedures and of intrinsics.
-use Rattle.std.proofs.Common.{◌≡◌, ℕ, ◌+◌, ◌<◌, ◌≤◌, List, length, reverse, Some, Ok, sym, ◌∙◌, ap, arith, ⊎_elim, subst}
+use Rattle.std.proofs.Common.{◌≡◌, ℕ, ◌+◌, ◌<◌, ◌≤◌, List, length, Some, Ok, sym, ◌∙◌, ap, arith, ⊎_elim}
 use Rattle.std.specs.Option.{ok_or}
 use Rattle.std.proofs.lemmas.Bool.{cases_lt}
 use Rattle.std.proofs.lemmas.List.{length-reverse}
@@ -11,7 +11,7 @@ use Rattle.b67_ctl.specs.declared.programs.IntrinsicPcw.{IntrinsicPcw}
 use Rattle.b67_ctl.specs.Layout.{intrinsic_word, IsIntrinsicPcw}
 use Rattle.b67_lemmas.proofs.Members.{all_in}
 use Rattle.b67_model.specs.Words as Words
-use Rattle.b67_model.specs.Common.{Word, Operand, Name, Ref, Row, Element, Original, Proc, Intrinsic, Frame, mcp, frame, cell_of, EntryInOrder, IsSegment, link_at}
+use Rattle.b67_model.specs.Common.{Word, Operand, Name, Ref, Row, Element, Original, Proc, Intrinsic, Frame, mcp, frame, cell_of, EntryInOrder, link_at}
 use Rattle.b67_law_order.proofs.Chases.{cell_has}
 use Rattle.b67_layout.specs.Meets.{here}
 use Rattle.b67_layout.proofs.Sessions.{words_enough}
@@ -20,7 +20,6 @@ use Rattle.b67_refer.specs.RunningContext.{LiveContext}
 use Rattle.b67_refer.specs.LiveCells.{StandsFor, IsCellAt}
 use Rattle.b67_refer.specs.LiveEnds.{LinkMeets}
 use Rattle.b67_refer.proofs.Marks.{frame_dictionary, frame_mcp}
-use Rattle.b67_refer.proofs.Links.{not_intrinsic}
 
 abbrev IsNoProc : Word → Type 0
 IsNoProc (Proc segment level place) = ⊥
@@ -47,36 +46,16 @@ module _ (core : List Tagged) (r : Regs) (a : LiveContext core r) (q : Place) wh
       (cases_lt 1 f)
 
   pub segments_few : length a.member.constants.segments ≤ 255
-  segments_few =
-      let s = words_enough 1 a.member.constants.segments (reverse a.member.constants.dictionary.cells) a.ordered.constants.dictionary in
-      let n = length-reverse a.member.constants.dictionary.cells in
-      let e = a.ordered.constants.entries in
-      omega (arith, s, n, e)
+  segments_few = grind (arith, words_enough, length-reverse)
 
   -- a word that is that of an intrinsic
   pub intrinsic_is : (at owner : ℕ) (v : Tagged) (w : Word) (p : IntrinsicPcw) → StandsFor a at owner v w → IsIntrinsicPcw p → v ≡ intrinsic_word p → (w ≡ Intrinsic p.number) × (p.number ≤ 18)
-  intrinsic_is at owner v (Operand bits) p s i e = absurd (let z = ap (λ (x : Tagged). x.tag) s.0.0 in let y = ap (λ (x : Tagged). x.tag) e in omega (arith, z, y))
-  intrinsic_is at owner v (Name c) p s i e = absurd (let z = ap (λ (x : Tagged). x.tag) s.0.0 in let y = ap (λ (x : Tagged). x.tag) e in omega (arith, z, y))
-  intrinsic_is at owner v (Ref g d) p s i e = absurd (let z = ap (λ (x : Tagged). x.tag) s.0.0 in let y = ap (λ (x : Tagged). x.tag) e in omega (arith, z, y))
-  intrinsic_is at owner v (Row b) p s i e = absurd (let z = ap (λ (x : Tagged). x.tag) s.0.is in let y = ap (λ (x : Tagged). x.tag) e in omega (arith, z, y))
-  intrinsic_is at owner v (Element b d) p s i e = absurd (let z = ap (λ (x : Tagged). x.tag) s.0.is in let y = ap (λ (x : Tagged). x.tag) e in omega (arith, z, y))
-  intrinsic_is at owner v (Original b) p s i e = absurd (let z = ap (λ (x : Tagged). x.tag) s.0.1.is in let y = ap (λ (x : Tagged). x.tag) e in omega (arith, z, y))
-  intrinsic_is at owner v (Proc segment level place) p s i e =
-      let z = ap (λ (x : Tagged). x.bits) (sym s.0.0 ∙ e) in
-      let o : IsSegment a.member.constants segment level place = s.1.1 in
-      let few = segments_few in
-      absurd (not_intrinsic place.syllable place.word level (segment + 1) p.number (omega (arith, o.syllable_fits)) o.word_fits s.1.0 (omega (arith, o.within, few)) i.number z)
-  intrinsic_is at owner v (Intrinsic n) p s i e =
-      let z = ap (λ (x : Tagged). x.bits) (sym s.0 ∙ e) in
-      let same : n ≡ p.number = omega (arith, z) in
-      (ap Intrinsic same, omega (arith, same, s.2))
-  intrinsic_is at owner v (Words.Segment n) p s i e = absurd (let y = ap (λ (x : Tagged). x.tag) e in omega (arith, s, y))
+  intrinsic_is at owner v w p s i e = grind (arith, segments_few)
 
   pub intrinsic_end : (at f offset : ℕ) (w : Word) (p : IntrinsicPcw) (k : ℕ) (c : IsCellAt a q at f offset w) → IsIntrinsicPcw p → c.word ≡ intrinsic_word p → k ≡ p.number → LinkMeets a q (Ok (Some (end.Intrinsic k))) (link_at (here a.member a.runner q) f offset w)
   intrinsic_end at f offset w p k c i e z =
       let is = intrinsic_is at f c.word w p c.stands i e in
-      let P : Word → Type 0 = λ x. LinkMeets a q (Ok (Some (end.Intrinsic k))) (link_at (here a.member a.runner q) f offset x) in
-      subst P (sym is.0) z
+      grind arith
 
   -- another word of tag 7 is that of a procedure
   pub proc_end : (at f offset : ℕ) (w : Word) (v : Tagged) → IsCellAt a q at f offset w → StandsFor a at f v w → v.tag ≡ 7 → ((p : IntrinsicPcw) → IsIntrinsicPcw p → v ≡ intrinsic_word p → ⊥) → LinkMeets a q (Ok (Some (end.Proc at))) (link_at (here a.member a.runner q) f offset w)

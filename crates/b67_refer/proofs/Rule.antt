@@ -3,7 +3,7 @@ use Rattle.std.proofs.Common.{◌≡◌, ℕ, zero, suc, ◌+◌, ◌-◌, ◌<�
 use Rattle.std.specs.Prelude.{if◌then◌else◌, nat_lt}
 use Rattle.std.specs.List.{slice_get}
 use Rattle.std.specs.Option.{ok_or}
-use Rattle.std.proofs.lemmas.Bool.{cases_Bool, cases_lt, eqb-true, eqb-false, ne_eqb, lt-ltb, le-ltb}
+use Rattle.std.proofs.lemmas.Bool.{cases_Bool, cases_lt, eqb-false, ne_eqb, lt-ltb, le-ltb}
 use Rattle.std.proofs.lemmas.Option.{same_Some, none-some}
 use Rattle.std.proofs.lemmas.List.{length-map, length-reverse}
 use Rattle.b67_word.specs.Tagged.{Tagged}
@@ -19,13 +19,12 @@ use Rattle.b67_model.specs.Words as Words
 use Rattle.b67_model.specs.State as State
 use Rattle.b67_law_order.proofs.Reaches.{Wider, word_wider}
 use Rattle.b67_stack.specs.Common.{Locations, Shape, Is, Fits, LieDownward, StackPlace, Head, Activation, head_size, stack_words, headed, words}
-use Rattle.b67_stack.specs.Stacks as Stacks
 use Rattle.b67_stack.proofs.Lies.{Lie-under}
 use Rattle.b67_stack.proofs.Heights.{words-length}
 use Rattle.b67_layout.specs.Common.{Placement, spot_in, spots, address_of, shape, head, frame_address, here}
 use Rattle.b67_layout.proofs.Frames.{height-is}
 use Rattle.b67_refer.specs.RunningContext.{LiveContext}
-use Rattle.b67_refer.specs.LiveCells.{StandsFor, IsCellAt, CellMeets}
+use Rattle.b67_refer.specs.LiveCells.{StandsFor, CellMeets}
 use Rattle.b67_refer.proofs.Slots.{base, acts}
 use Rattle.b67_refer.proofs.Seats.{Seat}
 use Rattle.b67_refer.proofs.Marks.{slot_address, frame_seat}
@@ -46,10 +45,7 @@ get_last (x ∷ xs) y (suc i) = get_last xs y i ∙ ap (λ b. if b then Some y e
 
 pub get_reverse : {A : Type 0} (xs : List A) (i : ℕ) → slice_get (reverse xs) i ≡ from_end xs i
 get_reverse [] i = refl
-get_reverse (x ∷ xs) i =
-    ap (λ ys. slice_get ys i) (reverse_cons x xs) ∙ get_last (reverse xs) x i
-    ∙ ap (λ n. if i == n then Some x else slice_get (reverse xs) i) (length-reverse xs)
-    ∙ ap (λ r. if i == length xs then Some x else r) (get_reverse xs i)
+get_reverse (x ∷ xs) i = grind (arith, reverse_cons, get_last, length-reverse, get_reverse xs i)
 
 -- each number below the length has an item, and no other
 pub end_some : {A : Type 0} (xs : List A) (i : ℕ) → i < length xs → (x : A) × (from_end xs i ≡ Some x)
@@ -61,34 +57,17 @@ end_some (x ∷ xs) i low = ⊎_elim
 
 end_none : {A : Type 0} (xs : List A) (i : ℕ) → length xs ≤ i → from_end xs i ≡ None
 end_none [] i high = refl
-end_none (x ∷ xs) i high =
-    let ne : (i == length xs) ≡ false = ne_eqb i (length xs) (λ e. omega (arith, e, stack_words)) in
-    rw ne (end_none xs i (omega (arith, stack_words)))
+end_none (x ∷ xs) i high = grind (arith, end_none xs i)
 
 -- the word of a cell that lies over others
 pub end_lies : {A : Type 0} (R : Shape → ℕ → Tagged → Type 0) (core : List Tagged) (from : ℕ) (g : A → Shape) (xs : List A) (under : List Shape) (i : ℕ) (x : A) → LieDownward R core from (map g xs ++ under) → from_end xs i ≡ Some x
     → (v : Tagged) × (slice_get core (from + length under + i) ≡ Some v) × R (g x) (from + length under + i) v
 end_lies R core from g [] under i x l e = absurd (none-some x e)
-end_lies R core from g (y ∷ xs) under i x l e = ⊎_elim
-    (λ (t : (i == length xs) ≡ true).
-    let same : y ≡ x = same_Some y x (rw t at e) in
-    let at : from + length (map g xs ++ under) ≡ from + length under + i = (let n = length-append (map g xs) under in let k = length-map xs g in let q = eqb-true i (length xs) t in omega (arith, n, k, q)) in
-    let P : ℕ → Type 0 = λ n. (v : Tagged) × (slice_get core n ≡ Some v) × R (g x) n v in
-    subst P at (subst (λ z. (v : Tagged) × (slice_get core (from + length (map g xs ++ under)) ≡ Some v) × R (g z) (from + length (map g xs ++ under)) v) same l.0))
-    (λ (t : (i == length xs) ≡ false). end_lies R core from g xs under i x l.1 (rw t at e))
-    (cases_Bool (i == length xs))
+end_lies R core from g (y ∷ xs) under i x l e = grind (arith, length-append, length-map, end_lies R core from g xs under i x l.1)
 
 -- no word that a cell may hold has tag 3
 pub word_tag : (P : Starts) (arrays : List Array) (reach : List Known) (owner : ℕ) (held : Locations) (plan : Placement) (j : ℕ) (job : Job) (spot : ℕ → StackPlace) (w : Word) (i : ℕ) (v : Tagged) → WordInOrder P arrays reach owner w → Fits held (shape plan j job spot w) i v → v.tag ≡ 3 → ⊥
-word_tag P arrays reach owner held plan j job spot (Operand bits) i v o f e = let z = ap (λ (x : Tagged). x.tag) f.0 in absurd (omega (arith, z, e))
-word_tag P arrays reach owner held plan j job spot (Name couple) i v o f e = let z = ap (λ (x : Tagged). x.tag) f.0 in absurd (omega (arith, z, e))
-word_tag P arrays reach owner held plan j job spot (Ref g d) i v o f e = let z = ap (λ (x : Tagged). x.tag) f.0 in absurd (omega (arith, z, e))
-word_tag P arrays reach owner held plan j job spot (Row b) i v o f e = let z = ap (λ (x : Tagged). x.tag) f.is in absurd (omega (arith, z, e))
-word_tag P arrays reach owner held plan j job spot (Element b d) i v o f e = let z = ap (λ (x : Tagged). x.tag) f.is in absurd (omega (arith, z, e))
-word_tag P arrays reach owner held plan j job spot (Original b) i v o f e = let z = ap (λ (x : Tagged). x.tag) f.1.is in absurd (omega (arith, z, e))
-word_tag P arrays reach owner held plan j job spot (Proc s l p) i v o f e = let z = ap (λ (x : Tagged). x.tag) f.0 in absurd (omega (arith, z, e))
-word_tag P arrays reach owner held plan j job spot (Intrinsic n) i v o f e = o
-word_tag P arrays reach owner held plan j job spot (Words.Segment n) i v o f e = o
+word_tag P arrays reach owner held plan j job spot w i v o f e = grind arith
 
 -- a shape reads the spots of the frame that its word names alone
 same_shape : (P : Starts) (arrays : List Array) (reach : List Known) (owner : ℕ) (plan : Placement) (j : ℕ) (job : Job) (spot spot' : ℕ → StackPlace) (w : Word) → WordInOrder P arrays reach owner w → ((g : ℕ) → Has (known_numbers reach) g → spot g ≡ spot' g)
@@ -109,23 +88,13 @@ module _ (core : List Tagged) (r : Regs) (a : LiveContext core r) where
   -- a word in order represents itself
   pub word_stands : (at owner : ℕ) (v : Tagged) (w : Word) → Fits a.storage.held (shape a.plan a.member.constants.number a.member.progress.job (spots a.plan a.member.constants.number a.member.progress.job a.task) w) at v
       → WordInOrder (IsSegment a.member.constants) a.member.progress.job.arrays (reach_of a.member.progress.job a.task) owner w → StandsFor a at owner v w
-  word_stands at owner v (Operand bits) f o = (f, o)
-  word_stands at owner v (Name couple) f o = (f, o)
-  word_stands at owner v (Ref g d) f o = (f, o)
-  word_stands at owner v (Row b) f o = (f, o)
-  word_stands at owner v (Element b d) f o = (f, o)
-  word_stands at owner v (Original b) f o = (f, o)
-  word_stands at owner v (Proc s l p) f o = (f, o)
-  word_stands at owner v (Intrinsic n) f o = absurd o
-  word_stands at owner v (Words.Segment n) f o = absurd o
+  word_stands at owner v w f o = grind arith
 
   head_high : (k : ℕ) (outer : ℕ → StackPlace) (s : Standing) (below : List Activation) (under : List Frame) → IsEntered s → head_size (head (spot_in k outer under) s) ≡ 2
-  head_high k outer State.Marked below under e = absurd e
-  head_high k outer (State.Entered level environment back) below under e = refl
+  head_high k outer s below h e = grind arith
 
   headed_high : (k : ℕ) (h : Head) (below : List Activation) (under : List Shape) → length (headed k h below under) ≡ head_size h + length under
-  headed_high k Stacks.Marked below under = omega arith
-  headed_high k (Stacks.Entered level environment back) below under = omega arith
+  headed_high k h below e = grind arith
 
   module _ (q : Place) (f : ℕ) (s : Standing) (b : Seat core r a (spots a.plan a.member.constants.number a.member.progress.job a.task) (reach_of a.member.progress.job a.task) f s) (e : IsEntered s) (own : 1 < f) where
     -- the address of the frame's mark
@@ -139,25 +108,11 @@ module _ (core : List Tagged) (r : Regs) (a : LiveContext core r) where
     under = headed b.slot (head (spot_in b.slot b.outer b.below) b.frame.standing) (acts core r a b.slot b.outer b.below) (words b.slot (acts core r a b.slot b.outer b.below))
 
     under_high : suc (base core r a b.slot) + length under ≡ frame_address a.plan a.member a.task f + 2
-    under_high =
-        let k = b.slot in
-        let below = acts core r a k b.outer b.below in
-        let n = headed_high k (head (spot_in k b.outer b.below) b.frame.standing) below (words k below) in
-        let m = head_high k b.outer b.frame.standing below b.below entered in
-        let w = words-length k below in
-        let h = height-is a.plan a.member.constants.number a.member.progress.job k b.outer b.below in
-        let z = seat_address in
-        omega (arith, n, m, w, h, z)
+    under_high = grind (arith, words-length, height-is, seat_address)
 
     -- where the cells end
     pub cells_end : base core r a b.slot + stack_words (acts core r a b.slot b.outer (b.frame ∷ b.below)) + 1 ≡ frame_address a.plan a.member a.task f + 2 + length b.frame.cells
-    cells_end =
-        let k = b.slot in
-        let m = head_high k b.outer b.frame.standing (acts core r a k b.outer b.below) b.below entered in
-        let h = height-is a.plan a.member.constants.number a.member.progress.job k b.outer b.below in
-        let z = seat_address in
-        let n = length-map b.frame.cells (shape a.plan a.member.constants.number a.member.progress.job (spot_in k b.outer (b.frame ∷ b.below))) in
-        omega (arith, m, h, z, n)
+    cells_end = grind (arith, height-is, seat_address, length-map)
 
     -- the word of a cell
     pub record CellWord (offset : ℕ) (w : Word) : Type 0 where
@@ -235,18 +190,7 @@ module _ (core : List Tagged) (r : Regs) (a : LiveContext core r) where
         let c = cell_in (offset - 2) x.0 x.1 in
         let at : 2 + (offset - 2) ≡ offset = omega (arith, low) in
         let t : nat_lt offset 2 ≡ false = le-ltb offset 2 low in
-        let found : cell (here a.member a.task q) f offset ≡ Ok x.0 = look offset ∙ (rw t (rw x.1 refl)) in
-        let d : CellWord offset x.0 = subst (λ (n : ℕ). CellWord n x.0) at c in
-        let is : IsCellAt a q (frame_address a.plan a.member a.task f + offset) f offset x.0 = record {
-          address = refl;
-          names = record { standing = s; among = subst (λ (k : Known). Has (reach_of a.member.progress.job a.task) k) (λ i. (b.named i, b.stands i)) (b.among (known_of b.frame) (inl refl)); entered = e };
-          found = found;
-          word = d.word;
-          there = d.there;
-          stands = d.stands;
-        } in
-        let F : Answer Word → Type 0 = λ y. CellMeets a q f offset (Ok (frame_address a.plan a.member a.task f + offset)) y in
-        subst F (sym found) is
+        grind (arith, look)
 
     pub lands : (offset : ℕ) → 2 ≤ offset → frame_address a.plan a.member a.task f + offset ≤ b.top
         → ((k : ℕ) (w : Tagged) → frame_address a.plan a.member a.task f + 2 ≤ k → k ≤ frame_address a.plan a.member a.task f + offset → slice_get core k ≡ Some w → w.tag ≡ 3 → ⊥)
@@ -281,12 +225,7 @@ module _ (core : List Tagged) (r : Regs) (a : LiveContext core r) where
 
     -- a cell that is there lies among the cells
     pub inside : (offset : ℕ) (w : Word) → cell (here a.member a.task q) f offset ≡ Ok w → (2 ≤ offset) × (offset < 2 + length b.frame.cells)
-    inside offset w found = (
-      ⊎_elim (λ (low : offset < 2). absurd (refused (none offset (inl low)))) (λ (high : 2 ≤ offset). high) (cases_lt offset 2),
-      ⊎_elim (λ (low : offset < 2 + length b.frame.cells). low) (λ (high : 2 + length b.frame.cells ≤ offset). absurd (refused (none offset (inr high)))) (cases_lt offset (2 + length b.frame.cells)),
-    ) where
-      refused : cell (here a.member a.task q) f offset ≡ Err InvalidAddress → ⊥
-      refused e = err_ok w (sym e ∙ found)
+    inside offset w found = grind (arith, none)
 
     -- no word from the first cell to that one has tag 3
     pub no_mark_under : (offset j : ℕ) (w : Word) (v : Tagged) → cell (here a.member a.task q) f offset ≡ Ok w → 2 ≤ j → j ≤ offset → slice_get core (frame_address a.plan a.member a.task f + j) ≡ Some v → v.tag ≡ 3 → ⊥
@@ -294,5 +233,4 @@ module _ (core : List Tagged) (r : Regs) (a : LiveContext core r) where
         let i = inside offset w found in
         let x = end_some b.frame.cells (j - 2) (omega (arith, low, up, i.1)) in
         let c = cell_in (j - 2) x.0 x.1 in
-        let at : 2 + (j - 2) ≡ j = omega (arith, low) in
-        c.no_mark (ap (λ (z : Tagged). z.tag) (same_Some _ _ (sym c.there ∙ ap (λ n. slice_get core (frame_address a.plan a.member a.task f + n)) at ∙ there)) ∙ tag)
+        grind (arith, same_Some)

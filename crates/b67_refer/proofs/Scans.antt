@@ -10,7 +10,6 @@ use Rattle.b67_ctl.specs.declared.registers.Regs.{Regs}
 use Rattle.b67_ctl.specs.declared.marks.Mscw.{Mscw}
 use Rattle.b67_ctl.specs.Layout.{mscw_word, IsMscw}
 use Rattle.b67_model.specs.Common.{Proc, frame, height, level_of_standing, level_of_frame, Known}
-use Rattle.b67_stack.specs.Stacks.{StackPlace}
 use Rattle.b67_layout.specs.Meets.{here}
 use Rattle.b67_refer.specs.declared.activation.Activation.{Activation}
 use Rattle.b67_refer.specs.RunningContext.{RunningContext, live_of}
@@ -70,16 +69,7 @@ module _ (core : List Tagged) (r : Regs) (a : RunningContext core r) (q : Place)
       let k = stacks_is core r (live_of a) in
       let z : size ≡ a.plan.size = e ∙ size_is core r (live_of a) in
       let d : frame_at_core a f - r.stacks ≡ b.slot * a.plan.size + height b.below = omega (arith, at, k) in
-      let few = a.holds.fits.few in
-      let small = a.holds.memory.slots.laid.room in
-      let used = b.top_is.used in
-      let sp : view a f ≡ record { stack = b.slot; disp = height b.below } = b.spot in (
-        ap (λ n. n / size) d ∙ ap (λ n. (b.slot * a.plan.size + height b.below) / n) z ∙ div-mul-add b.slot a.plan.size (height b.below) low ∙ ap (λ (y : StackPlace). y.stack) (sym sp),
-        ap (λ n. n % size) d ∙ ap (λ n. (b.slot * a.plan.size + height b.below) % n) z ∙ mod-mul-add b.slot a.plan.size (height b.below) low ∙ ap (λ (y : StackPlace). y.disp) (sym sp),
-        omega (arith, z, low),
-        (let y : (view a f).stack ≡ b.slot = ap (λ (y : StackPlace). y.stack) sp in omega (arith, y, used, few)),
-        (let y : (view a f).disp ≡ height b.below = ap (λ (y : StackPlace). y.disp) sp in omega (arith, y, low, small)),
-      )
+      grind (arith, div-mul-add)
 
   pub mark_there : (m : Mscw) × IsMscw m × (slice_get core (frame_at_core a f) ≡ Some (mscw_word m)) × (m.level ≡ level_of_frame (frame (here a.member a.task q) f))
   mark_there =

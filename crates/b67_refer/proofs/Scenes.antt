@@ -4,8 +4,8 @@ use Rattle.b67_word.specs.Tagged.{Tagged}
 use Rattle.b67_ctl.specs.declared.registers.Regs.{Regs}
 use Rattle.b67_lemmas.specs.Lists.{Has}
 use Rattle.b67_lemmas.proofs.Members.{all_in, keyed_has}
-use Rattle.b67_model.specs.Common.{Task, SessionJob, Session, IsSegment, NumberedFrom}
-use Rattle.b67_layout.specs.Common.{JobInOrderButCounts, IsInOrderButCounts, Placement, IsRunning, SessionHoldsBut}
+use Rattle.b67_model.specs.Common.{Task, SessionJob, Session, NumberedFrom}
+use Rattle.b67_layout.specs.Common.{IsInOrderButCounts, Placement, IsRunning, SessionHoldsBut}
 use Rattle.b67_stack.specs.MachineView.{PagedObject}
 use Rattle.b67_stack.specs.Represents.{Storage}
 use Rattle.b67_refer.specs.RunningContext.{MemberInOrder, RunningContext}
@@ -16,10 +16,7 @@ numbered n (y ∷ more) m d (inl e) = let P : SessionJob → Type 0 = λ z. (n �
 numbered n (y ∷ more) m d (inr h) = let b = numbered (n + 1) more m d.1 h in (omega (arith, b.0), omega (arith, b.1))
 
 pub member_in_order : (s : Session) (m : SessionJob) → IsInOrderButCounts s → Has s.jobs m → MemberInOrder m
-member_in_order s m o h =
-    let j = all_in (λ (y : SessionJob). JobInOrderButCounts (IsSegment y.constants) y.constants y.progress) s.jobs m o.jobs h in
-    let n = numbered 1 s.jobs m o.numbered h in
-    record { from_one = n.0; few = omega (arith, n.1, o.few); constants = j.unchanging; tasks = j.tasks }
+member_in_order s m o h = grind (arith, all_in, numbered)
 
 module _ (left : List PagedObject) (x : Storage) (core : List Tagged) (r : Regs) (marks : List ℕ) (plan : Placement) (s : Session) (m : SessionJob) (t : Task) where
   -- a session in order whose display isn't looked at

@@ -108,10 +108,7 @@ module _ (core : List Tagged) (r : Regs) (a : LiveContext core r) where
 
   order_from : (known : List Known) (c : ℕ) (fs : List Frame) → FramesInOrder (IsSegment a.member.constants) a.member.progress.job.arrays known fs → FramesInOrder (IsSegment a.member.constants) a.member.progress.job.arrays known (from_frame c fs)
   order_from known c [] g = tt
-  order_from known c (f ∷ fs) g = ⊎_elim
-      (λ (t : (f.identity == c) ≡ true). rw t g)
-      (λ (t : (f.identity == c) ≡ false). rw t (order_from known c fs g.2))
-      (cases_Bool (f.identity == c))
+  order_from known c (f ∷ fs) g = grind (arith, order_from known c fs g.2)
 
   falls_from : (bound c : ℕ) (fs : List Frame) (known : List Known) → Falls bound (known_numbers (map known_of fs ++ known)) → (b : ℕ) × Falls b (known_numbers (map known_of (from_frame c fs) ++ known))
   falls_from bound c [] known g = (bound, g)
@@ -139,9 +136,7 @@ module _ (core : List Tagged) (r : Regs) (a : LiveContext core r) where
       (has_append_cases (map known_of fs) known (id, s) h)
 
   no_base : (id : ℕ) (s : Standing) → Has base_known (id, s) → 1 < id → ⊥
-  no_base id s (inl e) high = omega (arith, ap (λ (q : Known). q.0) e, high)
-  no_base id s (inr (inl e)) high = omega (arith, ap (λ (q : Known). q.0) e, high)
-  no_base id s (inr (inr z)) high = z
+  no_base id s h high = grind arith
 
   find_outer : (u : Task) → Has a.member.progress.job.tasks u → (parents : List ℕ) → u.parents ≡ parents → (id : ℕ) (s : Standing) → 1 < id
       → Has (outer_reach a.member.progress.job u.critical parents) (id, s) → Seat (outer_spots a.plan a.member.constants.number a.member.progress.job u.critical parents) (outer_reach a.member.progress.job u.critical parents) id s

@@ -1,5 +1,5 @@
 -- From which live task something is seen: from the first one, or from the running one.
-use Rattle.std.proofs.Common.{◌≡◌, List, Some, Bool, true, false, inl, inr}
+use Rattle.std.proofs.Common.{◌≡◌, List, Some, Bool, true, false, inl, inr, arith}
 use Rattle.b67_word.specs.Tagged.{Tagged}
 use Rattle.b67_ctl.specs.declared.registers.Regs.{Regs}
 use Rattle.b67_model.specs.Keyed.{keyed}
@@ -42,5 +42,4 @@ module _ {core : List Tagged} {r : Regs} (a : LiveContext core r) where
 
 -- the running task has one view
 pub from_running : {core : List Tagged} {r : Regs} (a : RunningContext core r) (P : LiveContext core r → Type 0) → FromEither P (live_of a) → P (live_of a)
-from_running a P (inl h) = h
-from_running a P (inr h) = h
+from_running a P h = grind arith

@@ -2,17 +2,17 @@
 use Rattle.std.proofs.Common.{◌≡◌, ℕ, suc, ◌+◌, ◌*◌, ◌<◌, ◌≤◌, List, [], ◌∷◌, map, Some, refl, sym, ◌∙◌, ap, arith, Bool, true, false, ◌==◌, ◌⊎◌, ⊎_elim, inl, inr, subst}
 use Rattle.std.specs.Prelude.{if◌then◌else◌}
 use Rattle.std.specs.List.{slice_get}
-use Rattle.std.proofs.lemmas.Bool.{cases_Bool, eq-eqb, eqb-true}
+use Rattle.std.proofs.lemmas.Bool.{eq-eqb, eqb-true}
 use Rattle.b67_word.specs.Tagged.{Tagged}
 use Rattle.b67_ctl.specs.declared.registers.Regs.{Regs}
 use Rattle.b67_ctl.specs.declared.marks.Mscw.{Mscw}
 use Rattle.b67_ctl.specs.Layout.{mscw_word, IsMscw, IsToscw}
 use Rattle.b67_model.specs.Keyed.{keyed}
 use Rattle.b67_model.specs.Common.{Frame, Task, SessionJob, height, number_of, from_frame}
-use Rattle.b67_stack.specs.Common.{Locations, Fits, LieDownward, StackPlace, Head, Marked, Entered, Activation, IsStack, HeadsFit, stack_words, mark_place, mark_of, headed, words, toscw_of, Slot, Running, Waiting, stack_of, SlotFits, MachineView, RepresentsSlot, RepresentsRunning}
+use Rattle.b67_stack.specs.Common.{Locations, Fits, LieDownward, StackPlace, Head, Activation, IsStack, HeadsFit, stack_words, mark_place, mark_of, headed, words, toscw_of, Slot, Running, Waiting, stack_of, SlotFits, MachineView, RepresentsSlot, RepresentsRunning}
 use Rattle.b67_stack.proofs.Lies.{Lie-under}
 use Rattle.b67_stack.proofs.Heights.{words-length}
-use Rattle.b67_stack.proofs.Tops.{level-small, mark-fits, mark_high, top_size-high}
+use Rattle.b67_stack.proofs.Tops.{level-small, mark_high}
 use Rattle.b67_layout.specs.Common.{Placement, Slotted, slot_of, spot_in, outer_spots, shape, head, activations, stack_of_task, slot_with, slot_in, slot_by, slot_at, machine_view, RowsFit, with_objects}
 use Rattle.b67_layout.proofs.Common.{finds, task_row, height-is}
 use Rattle.b67_refer.specs.RunningContext.{LiveContext, RunsInSlot}
@@ -39,8 +39,7 @@ live_slot plan jobs m u fit km ku =
 -- what lies under a head, and its mark
 pub head_lies : (R : Locations) (core : List Tagged) (from k : ℕ) (h : Head) (below : List Activation) → LieDownward (Fits R) core from (headed k h below (words k below))
     → LieDownward (Fits R) core from (words k below) × (slice_get core (from + stack_words below) ≡ Some (mscw_word (mark_of k h below)))
-head_lies R core from k Marked below l = (l.1, ap (λ n. slice_get core (from + n)) (sym (words-length k below)) ∙ l.0.1 ∙ ap Some l.0.2.0)
-head_lies R core from k (Entered level environment back) below l = (l.1.1, ap (λ n. slice_get core (from + n)) (sym (words-length k below)) ∙ l.1.0.1 ∙ ap Some l.1.0.2.0)
+head_lies R core from k h below l = grind (arith, words-length)
 
 module _ (core : List Tagged) (r : Regs) (a : LiveContext core r) where
   -- the address of a slot
@@ -75,10 +74,7 @@ module _ (core : List Tagged) (r : Regs) (a : LiveContext core r) where
 
   pub part_from : (k : ℕ) (outer : ℕ → StackPlace) (top c : ℕ) (fs : List Frame) → Part k outer top fs → Part k outer top (from_frame c fs)
   part_from k outer top c [] p = p
-  part_from k outer top c (f ∷ fs) p = ⊎_elim
-      (λ (e : (f.identity == c) ≡ true). rw e p)
-      (λ (e : (f.identity == c) ≡ false). rw e (part_from k outer top c fs (drop k outer top f fs p)))
-      (cases_Bool (f.identity == c))
+  part_from k outer top c (f ∷ fs) p = grind (arith, part_from k outer top c fs (drop k outer top f fs p))
 
   -- the mark of the top frame of a part
   abbrev pub mark_in : ℕ → (ℕ → StackPlace) → Frame → List Frame → Mscw
@@ -88,10 +84,7 @@ module _ (core : List Tagged) (r : Regs) (a : LiveContext core r) where
       → IsMscw (mark_in k outer f fs) × (slice_get core (base k + height fs) ≡ Some (mscw_word (mark_in k outer f fs)))
   part_mark k outer top f fs p =
       let l = head_lies a.storage.held core (suc (base k)) k (head (spot_in k outer fs) f.standing) (acts k outer fs) (Lie-under (Fits a.storage.held) core (suc (base k)) (map (shape a.plan a.member.constants.number a.member.progress.job (spot_in k outer (f ∷ fs))) f.cells) (headed k (head (spot_in k outer fs) f.standing) (acts k outer fs) (words k (acts k outer fs))) p.lies) in
-      let small = a.holds.memory.slots.laid.room in (
-        mark-fits k (head (spot_in k outer fs) f.standing) (acts k outer fs) p.heads.0 (omega (arith, top_size-high (acts k outer fs), p.low, p.room, small)),
-        ap (slice_get core) (let e : base k + height fs ≡ suc (base k) + stack_words (acts k outer fs) = omega (arith, height-is a.plan a.member.constants.number a.member.progress.job k outer fs) in e) ∙ l.1,
-      )
+      grind (arith, height-is)
 
   -- all frames of a live task
   pub record Whole (u : Task) : Type 0 where
@@ -144,11 +137,7 @@ module _ (core : List Tagged) (r : Regs) (a : LiveContext core r) where
       let k = slot_of a.plan a.member.constants.number a.runner.number in
       let stack = stack_of_task a.plan a.member.constants.number a.member.progress.job k a.runner in
       let s = live_slot a.plan a.session.jobs a.member a.runner a.holds.fits.rows a.running.member a.running.task in
-      let p : MachineView = with_objects a.left (machine_view a.plan a.session.jobs) in
-      let S : Slot → Type 0 = λ y. RepresentsSlot core r p k y in
-      let runs : (k == a.plan.running) ≡ true = eq-eqb k a.plan.running (sym a.running.slot) in
-      let here : slot_at a.plan a.session.jobs k ≡ Running stack = s.1 ∙ ap (λ (b : Bool). if b then Running stack else Waiting stack) runs in
-      subst S here (a.holds.memory.slots.slots k s.0)
+      grind (arith, eq-eqb)
 
   pub has_slot : RunsInSlot r
   has_slot =
@@ -159,7 +148,4 @@ module _ (core : List Tagged) (r : Regs) (a : LiveContext core r) where
       let first : r.stacks + r.slot * r.stack_size ≡ a.plan.stacks + k * a.plan.size =
       ap (λ n. n + r.slot * r.stack_size) stacks ∙ ap (λ n. a.plan.stacks + n * r.stack_size) g.slot ∙ ap (λ n. a.plan.stacks + k * n) size in
       let own : a.member.constants.stack_size ≡ a.plan.size = a.holds.fits.sizes a.member (keyed_has (λ (m : SessionJob). m.constants.number) a.member.constants.number a.session.jobs a.member a.running.member).0 in
-      let low = a.ordered.constants.stack_low in
-      let from = g.first in
-      let to = g.last in
-      record { first = from ∙ sym first; last = omega (arith, from, to, size); some = omega (arith, low, own, size) }
+      grind arith

@@ -37,10 +37,7 @@ level_is bits level small low =
     let i = level * 32 + bits / 2 ^ 9 in
     let under : i < 1024 = omega (arith, small, low) in
     let first : i / 32 ≡ level = omega (arith, small) in
-    let last : i % 32 ≡ bits / 2 ^ 9 = omega (arith, small) in
-    let L : ℕ → ℕ → Type 0 = λ k n. bit_and (get_or REVERSED n 0) (get_or LEVELS k 0) ≡ level_of (level_bits k) (n * 2 ^ 9) in
-    let told : L level (bits / 2 ^ 9) = subst (λ (n : ℕ). L level n) last (subst (λ (k : ℕ). L k (i % 32)) first (level_told i under)) in
-    told ∙ same_level bits (level_bits level) (bits_few level low)
+    grind (arith, level_told, same_level, bits_few)
 
 pub disp_is : (bits level : ℕ) → level < 32 → bit_and bits (get_or DISPS level 0) ≡ bits % 2 ^ (14 - level_bits level)
 disp_is bits level low = ap (bit_and bits) (few_told level low) ∙ and_mask bits (14 - level_bits level)

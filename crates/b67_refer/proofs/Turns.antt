@@ -1,5 +1,5 @@
 -- The walk from the last mark down to the running activation record's.
-use Rattle.std.proofs.Common.{◌≡◌, ℕ, ◌+◌, ◌-◌, ◌≤◌, List, [], ◌∷◌, ◌++◌, map, length, Some, refl, sym, ◌∙◌, ap, arith, true, false, ◌==◌, inl, inr, subst}
+use Rattle.std.proofs.Common.{◌≡◌, ℕ, ◌+◌, ◌-◌, ◌≤◌, List, [], ◌∷◌, ◌++◌, map, length, Some, refl, sym, ◌∙◌, ap, arith, true, false, ◌==◌, inr, subst}
 use Rattle.std.specs.List.{slice_get}
 use Rattle.std.proofs.lemmas.Bool.{eq-eqb, ne_eqb}
 use Rattle.b67_word.specs.Tagged.{Tagged}
@@ -11,26 +11,22 @@ use Rattle.b67_lemmas.proofs.Members.{falls_low}
 use Rattle.b67_model.specs.State as State
 use Rattle.b67_model.specs.Common.{Frame, Standing, height, running, running_from, known_of, known_numbers, outer_of, IsSegment, TaskInOrder, StackInOrder, ReturnsInOrder}
 use Rattle.b67_stack.specs.Stacks.{StackPlace, Activation, mark_of, top_size, mark_place}
-use Rattle.b67_layout.specs.Common.{slot_of, spot_in, outer_spots, spots, address_of, head, frame_address}
+use Rattle.b67_layout.specs.Common.{slot_of, spot_in, outer_spots, spots, head, frame_address}
 use Rattle.b67_layout.proofs.Frames.{height-is, size-is}
 use Rattle.b67_refer.specs.RunningContext.{RunningContext, live_of}
 use Rattle.b67_refer.specs.Cells.{IsTop}
 use Rattle.b67_refer.proofs.Slots.{Part, whole, drop, base, acts, mark_in, part_mark, registers}
 use Rattle.b67_refer.proofs.Seats.{has_task, order_of}
-use Rattle.b67_refer.proofs.Marks.{slot_address}
 use Rattle.b67_refer.proofs.Chains.{Reads}
 
 marked_only : (k : ℕ) (spot : ℕ → StackPlace) (s : Standing) (below : List Activation) → (mark_of k (head spot s) below).entered ≡ false → s ≡ State.Marked
-marked_only k spot State.Marked below e = refl
-marked_only k spot (State.Entered level environment back) below e = absurd (let z : ⊥ = cc in z)
+marked_only k spot s below e = grind arith
 
 entered_only : (k : ℕ) (spot : ℕ → StackPlace) (s : Standing) (below : List Activation) (f next : Frame) → (mark_of k (head spot s) below).entered ≡ true → running_from s f next ≡ f
-entered_only k spot State.Marked below f next e = absurd (let z : ⊥ = cc in z)
-entered_only k spot (State.Entered level environment back) below f next e = refl
+entered_only k spot s below f next e = grind arith
 
 pub back_of : (k : ℕ) (spot : ℕ → StackPlace) (s : Standing) (below : List Activation) → (mark_of k (head spot s) below).back ≡ top_size below
-back_of k spot State.Marked below = refl
-back_of k spot (State.Entered level environment back) below = refl
+back_of k spot s below = grind arith
 
 module _ (core : List Tagged) (r : Regs) (a : RunningContext core r) where
   abbrev slot : ℕ
@@ -88,11 +84,7 @@ module _ (core : List Tagged) (r : Regs) (a : RunningContext core r) where
   has_mark at on = let g = part_mark core r (live_of a) slot outer on.top on.frame on.below on.part in (mark_in core r (live_of a) slot outer on.frame on.below, g.0, ap (slice_get core) on.at_is ∙ g.1)
 
   ends_at : (at : ℕ) (on : On at) → (mark_in core r (live_of a) slot outer on.frame on.below).entered ≡ true → at ≡ frame_address a.plan a.member a.task (running a.task.frames).identity
-  ends_at at on e =
-      let run : running (on.frame ∷ on.below) ≡ on.frame = entered_only slot (spot_in slot outer on.below) on.frame.standing (acts core r (live_of a) slot outer on.below) on.frame (running on.below) e in
-      let spot : spots a.plan a.member.constants.number a.member.progress.job a.task on.frame.identity ≡ record { stack = slot; disp = height on.below } = on.sees on.frame.identity (inl refl) ∙ (let t : (on.frame.identity == on.frame.identity) ≡ true = eq-eqb on.frame.identity on.frame.identity refl in rw t refl) in
-      on.at_is ∙ sym (slot_address core r (live_of a) slot (height on.below) on.top_is.used) ∙ ap (address_of a.plan) (sym spot)
-      ∙ ap (λ (f : Frame). frame_address a.plan a.member a.task f.identity) (sym run ∙ on.same)
+  ends_at at on e = grind (arith, eq-eqb)
 
   pub ends : (at : ℕ) (m : Mscw) → On at → Reads core r a at m → m.entered ≡ true → at ≡ frame_address a.plan a.member a.task (running a.task.frames).identity
   ends at m on d e = ends_at at on (ap (λ (k : Mscw). k.entered) (sym (read at m on d)) ∙ e)

@@ -4,7 +4,7 @@ use Rattle.std.specs.Prelude.{nat_le}
 use Rattle.std.specs.List.{slice_get}
 use Rattle.std.proofs.lemmas.Nat.{div-mul-add}
 use Rattle.std.proofs.lemmas.Bool.{cases_eq, cases_lt, lt-leb, le-leb}
-use Rattle.std.proofs.lemmas.Option.{get_or_from_slice_get, same_Some}
+use Rattle.std.proofs.lemmas.Option.{get_or_from_slice_get}
 use Rattle.b67_word.specs.Tagged.{Tagged}
 use Rattle.b67_word.specs.declared.couples.Place.{Place}
 use Rattle.b67_word.specs.declared.couples.Couple.{Couple}
@@ -12,7 +12,6 @@ use Rattle.b67_ctl.specs.declared.registers.Regs.{Regs}
 use Rattle.b67_ctl.specs.declared.marks.Toscw.{Toscw}
 use Rattle.b67_ctl.specs.Layout.{toscw_word, IsToscw}
 use Rattle.b67_word.specs.declared.faults.Fault.TheVariants.{InvalidAddress}
-use Rattle.b67_model.specs.State as State
 use Rattle.b67_model.specs.Common.{Frame, Standing, height, reach_of, NamesEntered, frame_at, named}
 use Rattle.b67_stack.specs.Stacks.{StackPlace, head_size, stack_words}
 use Rattle.b67_layout.specs.Common.{spot_in, head, frame_address, here}
@@ -27,8 +26,7 @@ use Rattle.b67_refer.proofs.Fixed.{mcp_address, dictionary_home, dictionary_high
 use Rattle.b67_refer.proofs.Chains.{level, level_is, level_at, own_level, base_level, frame_at_same}
 
 pub one_word : (spot : ℕ → StackPlace) (s : Standing) → 1 ≤ head_size (head spot s)
-one_word spot State.Marked = omega arith
-one_word spot (State.Entered l environment back) = omega arith
+one_word spot s = grind arith
 
 module _ (core : List Tagged) (r : Regs) (a : LiveContext core r) where
   pub slot_found : (from top size : ℕ) (u : IsUnder a from top) → size ≡ r.stack_size → (from - r.stacks) / size ≡ u.slot
@@ -52,34 +50,11 @@ module _ (core : List Tagged) (r : Regs) (a : LiveContext core r) where
       → (w : Toscw) × IsToscw w × (slice_get core (r.stacks + slot * r.stack_size) ≡ Some (toscw_word w)) × (r.stacks + slot * r.stack_size + w.s ≡ top) × (r.stacks + slot * r.stack_size + w.f ≡ u.is.mark)
   top_waiting from top slot disp u at low runs =
       let found = spot_slot from top slot disp u at low in
-      let first : r.stacks + slot * r.stack_size ≡ a.plan.stacks + u.slot * a.plan.size =
-      ap (λ n. r.stacks + n * r.stack_size) found ∙ ap (λ n. r.stacks + u.slot * n) (size_is core r a) ∙ ap (λ n. n + u.slot * a.plan.size) (stacks_is core r a) in
-      ⊎_elim
-      (λ b. absurd (runs (found ∙ sym b.0)))
-      (λ b. (b.1.0, b.1.1, ap (slice_get core) first ∙ b.1.2, ap (λ n. n + b.1.0.s) first ∙ b.1.3, ap (λ n. n + b.1.0.f) first ∙ b.1.4))
-      u.is.by
+      grind arith
 
   -- a stack has one top, and one last mark
   pub same_ends : (k l over under : ℕ) → k ≡ l → (x : IsTop a k over) (y : IsTop a l under) → (over ≡ under) × (x.mark ≡ y.mark)
-  same_ends k l over under same x y = ⊎_elim
-      (λ b. ⊎_elim (λ d. (sym b.1 ∙ d.1, sym b.2 ∙ d.2)) (λ d. absurd (d.0 (b.0 ∙ same))) y.by)
-      (λ b. ⊎_elim (λ d. absurd (b.0 (d.0 ∙ sym same))) (λ d. both b.1.0 d.1.0 b.1.1 d.1.1 (same_Some _ _ (sym b.1.2 ∙ ap (slice_get core) first ∙ d.1.2)) b.1.3 b.1.4 d.1.3 d.1.4) y.by)
-      x.by where
-        first : a.plan.stacks + k * a.plan.size ≡ a.plan.stacks + l * a.plan.size
-        first = ap (λ n. a.plan.stacks + n * a.plan.size) same
-
-        both : (v w : Toscw) → IsToscw v → IsToscw w → toscw_word v ≡ toscw_word w → a.plan.stacks + k * a.plan.size + v.s ≡ over → a.plan.stacks + k * a.plan.size + v.f ≡ x.mark
-            → a.plan.stacks + l * a.plan.size + w.s ≡ under → a.plan.stacks + l * a.plan.size + w.f ≡ y.mark → (over ≡ under) × (x.mark ≡ y.mark)
-        both v w fits small is at mark there its =
-            let bits = ap (λ (z : Tagged). z.bits) is in
-            let i = fits.level in
-            let j = fits.f in
-            let m = small.level in
-            let n = small.f in
-            let from = first in
-            let tops : v.s ≡ w.s = omega (arith, bits, i, j, m, n) in
-            let marks : v.f ≡ w.f = omega (arith, bits, i, j, m, n) in
-            (omega (arith, tops, at, there, from), omega (arith, marks, mark, its, from))
+  same_ends k l over under same x y = grind arith
 
   pub slots_under : (from top : ℕ) → IsUnder a from top → r.stacks ≤ from
   slots_under from top u = let k = stacks_is core r a in let at = u.at in omega (arith, k, at)
@@ -106,11 +81,7 @@ module _ (core : List Tagged) (r : Regs) (a : LiveContext core r) where
       ∙ slot_found (frame_address a.plan a.member a.task f) (seat core r a f n.standing n.among own).top r.stack_size (under f n own) refl
 
   pub seat_low : (f : ℕ) (n : NamesEntered (reach_of a.member.progress.job a.task) f) (own : 1 < f) → height (seat core r a f n.standing n.among own).below < a.plan.size
-  seat_low f n own =
-      let b = seat core r a f n.standing n.among own in
-      let h = height-is a.plan a.member.constants.number a.member.progress.job b.slot b.outer b.below in
-      let w = one_word (spot_in b.slot b.outer b.below) b.frame.standing in
-      omega (arith, h, w, b.part.low, b.part.room)
+  seat_low f n own = grind (arith, height-is)
 
   pub high_address : (f : ℕ) → NamesEntered (reach_of a.member.progress.job a.task) f → 1 < f → (a.plan.stacks ≤ frame_address a.plan a.member a.task f) × (frame_address a.plan a.member a.task f < 2 ^ 20)
   high_address f n own =

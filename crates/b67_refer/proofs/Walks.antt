@@ -2,7 +2,7 @@
 use Rattle.std.proofs.Common.{◌≡◌, ℕ, suc, ◌+◌, ◌-◌, ◌<◌, ◌≤◌, ◌^◌, List, [], ◌∷◌, ◌++◌, map, length, reverse, Some, Ok, Err, refl, sym, ◌∙◌, ap, arith, ◌⊎◌, ⊎_elim, inl, inr, subst, true, false}
 use Rattle.std.specs.List.{slice_get}
 use Rattle.std.specs.Prelude.{nat_lt}
-use Rattle.std.proofs.lemmas.Bool.{cases_Bool, cases_lt, ltb-true, ltb-false}
+use Rattle.std.proofs.lemmas.Bool.{cases_Bool, ltb-true, ltb-false}
 use Rattle.std.proofs.lemmas.List.{length-map}
 use Rattle.std.proofs.lemmas.Option.{same_Some}
 use Rattle.b67_word.specs.Tagged.{Tagged}
@@ -27,36 +27,24 @@ use Rattle.b67_refer.proofs.Seats.{seat, order_of}
 use Rattle.b67_refer.proofs.Bases.{slot_inside, stacks_is}
 use Rattle.b67_refer.proofs.Rule.{end_some, end_lies, get_reverse, word_tag, seat_address}
 use Rattle.b67_refer.proofs.Turns.{back_of}
-use Rattle.b67_refer.proofs.Unders.{one_word, same_slot, same_ends}
+use Rattle.b67_refer.proofs.Unders.{same_slot, same_ends}
 use Rattle.b67_refer.proofs.Founds.{task_misses, task_marks, task_lands}
 
 two_words : (spot : ℕ → StackPlace) (s : Standing) → head_size (head spot s) ≤ 2
-two_words spot State.Marked = omega arith
-two_words spot (State.Entered level environment return) = omega arith
+two_words spot s = grind arith
 
 entered_words : (spot : ℕ → StackPlace) (s : Standing) → IsEntered s → head_size (head spot s) ≡ 2
-entered_words spot State.Marked e = absurd e
-entered_words spot (State.Entered level environment return) e = refl
+entered_words spot s e = grind arith
 
 -- a mark's word tells whether it is entered
 same_mark : (k i : ℕ) (spot seen : ℕ → StackPlace) (s t : Standing) (below under : List Activation) → IsEntered s → IsMscw (mark_of i (head seen t) under)
     → mscw_word (mark_of k (head spot s) below) ≡ mscw_word (mark_of i (head seen t) under) → IsEntered t
-same_mark k i spot seen State.Marked t below under e fits same = absurd e
-same_mark k i spot seen (State.Entered l environment return) (State.Entered m outer back) below under e fits same = tt
-same_mark k i spot seen (State.Entered l environment return) State.Marked below under e fits same =
-    let bits = ap (λ (w : Tagged). w.bits) same in
-    let small = fits.back in
-    omega (arith, bits, small)
+same_mark k i spot seen s t below under e fits same = grind arith
 
 -- one more word without tag 3
 pub plain_more : (core : List Tagged) (from k : ℕ) (v : Tagged) → ((j : ℕ) (w : Tagged) → from ≤ j → j < k → slice_get core j ≡ Some w → w.tag ≡ 3 → ⊥)
     → slice_get core k ≡ Some v → (v.tag ≡ 3 → ⊥) → (j : ℕ) (w : Tagged) → from ≤ j → j < k + 1 → slice_get core j ≡ Some w → w.tag ≡ 3 → ⊥
-plain_more core from k v plain at other j w low high there tag = ⊎_elim
-    (λ (under : j < k). plain j w low under there tag)
-    (λ (over : k ≤ j).
-    let same : j ≡ k = omega (arith, over, high) in
-    other (ap (λ (z : Tagged). z.tag) (same_Some _ _ (sym at ∙ ap (slice_get core) (sym same) ∙ there)) ∙ tag))
-    (cases_lt j k)
+plain_more core from k v plain at other j w low high there tag = grind arith
 
 module _ (core : List Tagged) (r : Regs) (a : LiveContext core r) where
   abbrev pub slot : Task → ℕ
@@ -88,8 +76,7 @@ module _ (core : List Tagged) (r : Regs) (a : LiveContext core r) where
       let g = registers core r a in
       let w = whole core r a a.runner a.running.task in
       let i = slot_inside core r a (slot a.runner) w.top_is.used in
-      let top = g.top in
-      omega (arith, w.part.low, w.part.room, top, i.0, i.1, i.2)
+      grind arith
 
   -- the walk begins at a stack's last mark, whose record ends with the top word
   pub last_spans : (u : Task) (ku : keyed (λ (v : Task). v.number) u.number a.member.progress.job.tasks ≡ Some u) → Spans (whole core r a u ku).top_is.mark ((whole core r a u ku).top + 1)
@@ -268,16 +255,7 @@ module _ (core : List Tagged) (r : Regs) (a : LiveContext core r) where
   -- the record at a mark of the running stack, which an offset is looked up in
   module _ (q : Place) (f from offset past : ℕ) (n : NamesEntered (reach_of a.member.progress.job a.task) f) (e : from ≡ frame_address a.plan a.member a.task f) (own : 1 < f) (low : 2 ≤ offset) (x : Spans from past) where
     under_top : IsUnder a from x.top
-    under_top =
-        let high = height-is a.plan a.member.constants.number a.member.progress.job x.stack x.outside x.below in
-        let some = one_word (spot_in x.stack x.outside x.below) x.frame.standing in
-        record {
-          slot = x.stack;
-          disp = height x.below;
-          low = omega (arith, high, some, x.part.low, x.part.room);
-          at = x.mark_is;
-          is = x.top_is;
-        }
+    under_top = grind (arith, height-is)
 
     same_top : (seat core r a f n.standing n.among own).top ≡ x.top
     unfolding under_top
@@ -296,13 +274,7 @@ module _ (core : List Tagged) (r : Regs) (a : LiveContext core r) where
         (subst IsEntered (sym b.stands) n.entered) its.0 (same_Some _ _ (sym mine.1 ∙ ap (slice_get core) at ∙ its.1))
 
     past_head : from + 2 ≤ past
-    past_head =
-        let two = entered_words (spot_in x.stack x.outside x.below) x.frame.standing entered_there in
-        let all = all_words from past x in
-        let high = height-is a.plan a.member.constants.number a.member.progress.job x.stack x.outside x.below in
-        let m = x.mark_is in
-        let z = x.past_is in
-        omega (arith, two, all, high, m, z)
+    past_head = grind (arith, entered_there)
 
     pub inside_lands : from + offset < past → CellMeets a q f offset (Ok (from + offset)) (cell (here a.member a.task q) f offset)
     inside_lands inside =
@@ -339,10 +311,7 @@ module _ (core : List Tagged) (r : Regs) (a : LiveContext core r) where
       record { over = top + 1; spans = slot_spans from top under h.holder h.live (same_slot core r a f n own from top under (sym e) ∙ h.slot); is = inl refl }
 
   pub walk_there : (from mark past : ℕ) → Walk from mark past → mark ≡ from → Spans from past
-  walk_there from mark past x e =
-      let S : ℕ → Type 0 = λ m. Spans m past in
-      let T : ℕ → Type 0 = λ p. Spans mark p in
-      subst S e (⊎_elim (λ z. subst T (sym z) x.spans) (λ z. absurd (z e)) x.is)
+  walk_there from mark past x e = grind arith
 
   pub walk_down : (from mark past : ℕ) → Walk from mark past → (mark ≡ from → ⊥) → (m : Mscw) → ((k : Mscw) → IsMscw k → slice_get core mark ≡ Some (mscw_word k) → m ≡ k)
       → (m.back ≤ mark) × Walk from (mark - m.back) mark

@@ -1,8 +1,7 @@
 -- A step that is made and goes on leaves areas where they are.
-use Rattle.std.proofs.Common.{◌≡◌, ◌≢◌, ◌+◌, ◌≤◌, ℕ, List, Option, Some, None, Result, Ok, Err, refl, sym, ap, ◌∙◌, subst}
+use Rattle.std.proofs.Common.{◌≡◌, ◌≢◌, ◌+◌, ◌≤◌, ℕ, List, Option, Some, None, Result, Ok, Err, refl, sym, ap, ◌∙◌, subst, arith}
 use Rattle.std.proofs.lemmas.Option.{none-some}
 use Rattle.b67_word.specs.declared.faults.Ending.{Ending}
-use Rattle.b67_word.specs.declared.faults.Ending.TheVariants.{Ended, Faulted, Parent, Deadlock, Limit}
 use Rattle.b67_word.specs.declared.faults.Failed.{Failed}
 use Rattle.b67_model.specs.Common.{IsInOrderButPlaces, StepResult, Session, Ready, Task, Job, SessionJob, Line, Goes, step, next}
 use Rattle.b67_model.specs.Run.{after_from}
@@ -26,7 +25,6 @@ use Rattle.b67_session_ends.specs.Counts.{IsCounted}
 use Rattle.b67_session_ends.specs.Ends.{Finishes}
 use Rattle.b67_mcp.specs.Called.{IsCalled, HoldsOther, is_emptied, is_resized, is_new}
 use Rattle.b67_session.specs.AttemptStops.{Stop}
-use Rattle.b67_session.specs.AttemptStops as stops
 use Rattle.b67_session.specs.declared.outcomes.Attempt.{Attempt}
 use Rattle.b67_session.specs.declared.outcomes.Attempt.TheVariants as attempts
 use Rattle.b67_session.specs.Tries.{EndsSo}
@@ -40,9 +38,7 @@ use Rattle.b67_session.proofs.Made.{half, half_ordered, half_stands}
 
 -- where there is no last part, nothing is done
 no_more : {K : Type 0} (taken : K → Option (List ℕ)) (x : Storage) (told : Option (List (List ℕ))) (plan : Placement) (h : Session) (o : Option StepResult) → o ≡ None → (result : Result (Unit {0}) Failed) (old new : Machine) (paper paper' : K) → Finishes taken x told plan h o result old new paper paper' → new ≡ old
-no_more taken x told plan h None e (Ok done) old new paper paper' f = f.0
-no_more taken x told plan h None e (Err failed) old new paper paper' f = absurd f
-no_more taken x told plan h (Some part) e result old new paper paper' f = absurd (none-some part (sym e))
+no_more taken x told plan h o e result old new paper paper' f = grind arith
 
 -- the running task's slot doesn't matter
 same_places : (slot : ℕ) (x y : Storage) (plan placed : Placement) (m : SessionJob) (t : Task) (job : Job) → KeepsAreas x y (with_running plan slot) placed m t job → KeepsAreas x y plan placed m t job
@@ -133,20 +129,11 @@ module _ {K : Type 0} (taken : K → Option (List ℕ)) (s : Session) (m : Sessi
 -- a step that goes on doesn't end its task, and doesn't make it wait
 module _ (plan : Placement) (m : SessionJob) (t : Task) (job : Job) (printed : List Line) (touched : Option ℕ) (is : step m.constants m.progress.job t ≡ Ok (Goes job printed touched)) where
   not_ended : (ending : Ending) → EndsSo m t ending → ⊥
-  not_ended Ended e = let d = sym e ∙ is in absurd cc
-  not_ended (Faulted fault) e = let d = sym e ∙ is in absurd cc
-  not_ended Parent e = e
-  not_ended Deadlock e = e
-  not_ended Limit e = e
+  not_ended ending e = grind arith
 
   pub goes_on_only : (outcome : Attempt) → outcome ≢ attempts.Made → EndsByRow plan m t (Ok outcome) → ⊥
-  goes_on_only attempts.Made other so = other refl
-  goes_on_only (attempts.Ends ending) other so = not_ended ending so
-  goes_on_only (attempts.Waits state) other so = let d = sym so.is ∙ is in absurd cc
+  goes_on_only outcome other so = grind arith
 
 -- a step that wasn't made isn't counted
 pub stop_made : (stop : Stop) (old new : Tasks) → TablesStay (Err stop) old new → new.made ≡ old.made
-stop_made (stops.NoCore words size) old new same = ap (λ (z : Tasks). z.made) same
-stop_made (stops.BackingFull sum size) old new same = ap (λ (z : Tasks). z.made) same
-stop_made stops.BackingFault old new same = ap (λ (z : Tasks). z.made) same
-stop_made stops.PrintFault old new same = ap (λ (z : Tasks). z.made) same
+stop_made stop old new same = grind arith

@@ -1,12 +1,11 @@
 -- A step that was made, or ends its task, needs no more words than core has.
-use Rattle.std.proofs.Common.{◌≡◌, ◌≢◌, ℕ, ◌+◌, ◌<◌, ◌≤◌, List, [], ◌∷◌, reverse, length, Option, Some, None, Ok, Err, refl, sym, ◌∙◌, ap, arith, subst, ⊎_elim}
+use Rattle.std.proofs.Common.{◌≡◌, ◌≢◌, ℕ, ◌+◌, ◌<◌, ◌≤◌, List, [], ◌∷◌, reverse, length, Option, Some, None, Ok, Err, refl, sym, ◌∙◌, ap, arith, ⊎_elim}
 use Rattle.std.proofs.lemmas.Option.{none-some}
 use Rattle.b67_word.specs.declared.faults.Fault.{Fault}
 use Rattle.b67_word.specs.declared.couples.Place.{Place}
 use Rattle.b67_model.specs.declared.operators.Op.{Op}
 use Rattle.b67_model.specs.declared.operators.Op.TheVariants.{Plain}
 use Rattle.b67_model.specs.declared.operators.Code.{Code}
-use Rattle.b67_model.specs.declared.operators.Code.TheVariants.{Entr}
 use Rattle.b67_model.specs.Common.{Answer, Word, AtIntrinsic, follow_reference, Reading, Standing, Marked, Entered, Task, Job, SessionJob, OperatorContext, top, Line, Done, Goes, Leaves, touched_of, touched_at_mark, touched_before_fault, started_by, need, reading_of, step, number_of, Session, called_at, called_by, called_on, called}
 use Rattle.b67_layout.specs.Common.{IsInOrderButCounts, Placement, IsRunning, here, area_held, TouchedIsPresent}
 use Rattle.b67_stack.specs.declared.What.TheVariants as what
@@ -51,16 +50,13 @@ module _ (m : SessionJob) (t : Task) (a : ℕ) where
           ap (called_by (here m t next)) is ∙ ap called_at ends
 
   by_code : (code : Code) (next : Place) → called (Plain code) (here m t next) ≡ None → touched_before_fault m.constants m.progress.job t (Ok (Plain code, next)) ≢ Some a
-  by_code Entr next none e = by_standing next (top t.frames).standing (reverse (top t.frames).cells) refl none e
-  by_code _ next none e = none-some a e
+  by_code code next none e = grind (arith, by_standing)
 
   by_op : (op : Op) (next : Place) → called op (here m t next) ≡ None → touched_before_fault m.constants m.progress.job t (Ok (op, next)) ≢ Some a
-  by_op (Plain code) next none e = by_code code next none e
-  by_op _ next none e = none-some a e
+  by_op op next none e = grind (arith, by_code)
 
   by_reading : (r : Reading) → operators.called_by_reading m t r ≡ None → touched_before_fault m.constants m.progress.job t r ≢ Some a
-  by_reading (Err why) none e = none-some a e
-  by_reading (Ok read) none e = by_op read.0 read.1 none e
+  by_reading r none e = grind (arith, by_op)
 
 module _ (x : Storage) (told : Option (List (List ℕ))) (plan : Placement) (s : Session) (m : SessionJob) (t : Task) where
   abbrev touched : Answer Done → Option ℕ
@@ -108,8 +104,7 @@ module _ (x : Storage) (told : Option (List (List ℕ))) (plan : Placement) (s :
         let same : h.touched ≡ Some a = sym (ap touched h.is) ∙ e in
         let is : step m.constants m.progress.job t ≡ Ok (Goes h.job [] (Some a)) = h.is ∙ ap (λ (q : Option ℕ). Ok (Goes h.job [] q)) same in
         let (array, among, named) = touches_arrays s m t o (keyed_has number_of m.constants.number s.jobs m runs.member).0 (keyed_has (λ (u : Task). u.number) t.number m.progress.job.tasks t runs.task).0 h.job [] a is in
-        let (at, held) = subst (TouchedIsPresent x plan m.constants.number) same h.present in
-        record { array = array; among = among; named = named; there = λ none. none-some at (sym none ∙ held) }
+        grind (arith, none-some)
 
     -- where it was made, or ends its task, core has room
     pub operator_fits : (k : Machine) → MachineRepresents x told k plan s → (code_area x plan m t ≢ None) × (called_in m t ≡ None) → TouchesPresent x plan m t → need (length k.cpu.core) s m t ≤ length k.cpu.core
@@ -129,8 +124,7 @@ module _ (x : Storage) (told : Option (List (List ℕ))) (plan : Placement) (s :
 
     -- a step that waits touches nothing
     pub waits_fit : (k : Machine) (state : TaskState) → MachineRepresents x told k plan s → code_area x plan m t ≢ None → WaitsSo plan m t state → need (length k.cpu.core) s m t ≤ length k.cpu.core
-    waits_fit k state h code w =
-        step_fits k o h runs code (λ a e. absurd (none-some a (sym (ap (touched_of m.constants m.progress.job t) w.is) ∙ e))) (ap (started_by m.progress.job) w.is)
+    waits_fit k state h code w = grind (arith, step_fits)
 
     -- what is cut prints something, so its call starts no task
     cut_starts : {K : Type 0} (taken : K → Option (List ℕ)) (paper paper' : K) (n before after : ℕ) → called_in m t ≡ Some n → (c : IsCut taken paper paper' m t before after) → length c.job.tasks ≡ length m.progress.job.tasks

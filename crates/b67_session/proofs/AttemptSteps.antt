@@ -25,8 +25,7 @@ module _ (plan : Placement) (s : Session) (m : SessionJob) (t : Task) (o : IsInO
       let b = critical-below (IsSegment m.constants) m.constants m.progress.job (running_in_order plan s m t o runs).0.tasks u h in omega (arith, b, e)
 
   apart_at : (fs : List Frame) → t.frames ≡ fs → (c : ℕ) → IsDependedOn m.progress.job c → is_critical m.progress.job (top fs).identity ≡ false → c ≢ (top fs).identity
-  apart_at [] frames c d free = absurd (some frames)
-  apart_at (f ∷ below) frames c d free = depended_apart plan s m t f below (record { ordered = o; running = runs; frames = frames; free = free }) c d
+  apart_at fs frames c d free = grind (arith, some, depended_apart)
 
   apart : (c : ℕ) → IsDependedOn m.progress.job c → is_critical m.progress.job (top t.frames).identity ≡ false → c ≢ (top t.frames).identity
   apart = apart_at t.frames refl

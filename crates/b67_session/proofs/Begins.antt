@@ -1,7 +1,6 @@
 -- The first operator of a turn, alone or with others behind it.
 use Rattle.std.proofs.Common.{◌≡◌, ◌≢◌, ℕ, ◌+◌, ◌-◌, ◌≤◌, refl, sym, ◌∙◌, subst, arith, inl, inr}
 use Rattle.std.proofs.lemmas.Bool.{cases_lt}
-use Rattle.std.proofs.lemmas.Bool.Decides.{eqb_tells}
 use Rattle.b67_stack.specs.declared.Cpu.{Cpu}
 use Rattle.b67_stack.specs.declared.Step.{Step}
 use Rattle.b67_stack.specs.declared.Step.TheVariants.{Done}
@@ -46,7 +45,4 @@ begins_runs most left old now some few b runs later = elim (cases_lt 1 most) [
 
 -- a reason other than the one before is that of the operator at the running place
 pub why_here : (asked made : ℕ) (cpu : Cpu) (before after : Step) → made ≤ asked → before ≡ Done → SaysWhyFewer asked made cpu before after → after ≢ Done → StopsHere cpu after
-why_here asked made cpu before after few done says other = elim (eqb_tells made asked) [
-  | inl t ↦ absurd (other (says.all t.1 ∙ done))
-  | inr t ↦ says.stops (omega (arith, few, t.1))
-]
+why_here asked made cpu before after few done says other = grind arith

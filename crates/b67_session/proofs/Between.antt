@@ -49,12 +49,7 @@ module _ {K : Type 0} (taken : K → Option (List ℕ)) (told : Option (List (Li
 
   -- the whole step
   gives : (o : Option StepResult) → last_part h ≡ o → exact → StepGives x.was (joined x.part o).session (joined x.part o).lines
-  gives o e tells = record {
-    moment = joined x.part o;
-    is = steps-have-parts x.was x.part (x.is tells) ∙ ap (λ (r : Option StepResult). Some (joined x.part r)) e;
-    session = refl;
-    lines_are = refl;
-  }
+  gives o e tells = grind (arith, steps-have-parts)
 
   made_new : new.tasks.made ≡ old.tasks.made + 1
   made_new = ap (λ (z : Tasks). z.made) tables ∙ x.made

@@ -1,12 +1,11 @@
 -- A call that starts a task starts one alone, prints nothing and touches nothing.
-use Rattle.std.proofs.Common.{◌≡◌, ℕ, ◌+◌, ◌<◌, ◌≤◌, ltb, eqb, ℤ, pos, negsuc, List, [], ◌∷◌, length, Option, None, Ok, refl, sym, ◌∙◌, arith, inl, inr, ◌⊎◌, ⊎_elim}
+use Rattle.std.proofs.Common.{◌≡◌, ℕ, ◌+◌, ◌<◌, ◌≤◌, ltb, eqb, ℤ, pos, negsuc, List, [], ◌∷◌, length, Option, None, Ok, refl, ◌∙◌, arith, inl, inr, ◌⊎◌, ⊎_elim}
 use Rattle.std.proofs.lemmas.Bool.{eqb-true, cases_lt}
 use Rattle.std.proofs.lemmas.List.{length-map}
 use Rattle.b67_lemmas.proofs.Members.{length_change}
-use Rattle.b67_model.specs.Common.{Word, Operand, Task, Job, SessionJob, OperatorContext, with_task, with_cell, End, AtCell, AtElement, AtArray, AtProc, AtIntrinsic, follow_reference, Line, Done, Goes, Leaves, Waits, answered, answers, child_of, starts, process, is_live, awaits, await, status_of, status, waits_at, wait, woken_at, causes, cause, Call, call_in, calls, intrinsic, step}
+use Rattle.b67_model.specs.Common.{Word, Operand, Task, Job, SessionJob, OperatorContext, with_task, End, AtCell, AtElement, AtArray, AtProc, AtIntrinsic, Line, Done, Goes, Leaves, Waits, answered, answers, child_of, starts, process, is_live, awaits, await, status_of, status, waits_at, wait, causes, cause, Call, call_in, calls, intrinsic, step}
 use Rattle.b67_model.specs.Words.{whole}
-use Rattle.b67_law_order.proofs.Posts.{Post, post_ok, post_err, post_any, post_then, post_if, post_if_is, post_more, post_at}
-use Rattle.b67_layout.specs.Meets.{here}
+use Rattle.b67_law_order.proofs.Posts.{Post, post_ok, post_err, post_any, post_then, post_if, post_if_is, post_more}
 use Rattle.b67_mcp.proofs.Callings.{Calling}
 use Rattle.b67_mcp.proofs.Still.{Still, call_still}
 
@@ -36,17 +35,14 @@ module _ (n : ℕ) where
   starts_born h words (AtIntrinsic i) e = post_err (Born n) _
 
   process_born : (h : OperatorContext) (arguments : List Word) → length h.job.tasks ≡ n → Post (Born n) (process h arguments)
-  process_born h [] e = post_err (Born n) _
-  process_born h (r ∷ words) e = post_then (Born n) _ _ (post_any (Born n) (follow_reference h r) _ (λ end. starts_born h words end e))
+  process_born h arguments e = grind (arith, starts_born)
 
   awaits_born : (h : OperatorContext) (v : ℤ) → length h.job.tasks ≡ n → Post (Born n) (awaits h v)
   awaits_born h (negsuc v) e = still h [] e
   awaits_born h (pos v) e = post_if (Born n) (is_live h.job (pos v)) _ _ (post_ok (Born n) _ tt) (still h [] e)
 
   await_born : (h : OperatorContext) (arguments : List Word) → length h.job.tasks ≡ n → Post (Born n) (await h arguments)
-  await_born h [] e = post_err (Born n) _
-  await_born h (w ∷ []) e = post_any (Born n) (whole w) _ (λ v. awaits_born h v e)
-  await_born h (w ∷ v ∷ more) e = post_err (Born n) _
+  await_born h arguments e = grind (arith, awaits_born)
 
   status_born : (h : OperatorContext) (arguments : List Word) → length h.job.tasks ≡ n → Post (Born n) (status h arguments)
   status_born h [] e = post_err (Born n) _
@@ -61,26 +57,13 @@ module _ (n : ℕ) where
   waits_born h (AtIntrinsic i) e = post_err (Born n) _
 
   wait_born : (h : OperatorContext) (arguments : List Word) → length h.job.tasks ≡ n → Post (Born n) (wait h arguments)
-  wait_born h [] e = post_err (Born n) _
-  wait_born h (r ∷ []) e = post_any (Born n) (follow_reference h r) _ (λ end. waits_born h end e)
-  wait_born h (r ∷ v ∷ more) e = post_err (Born n) _
+  wait_born h arguments e = grind (arith, waits_born)
 
   causes_born : (h : OperatorContext) (end : End) → length h.job.tasks ≡ n → Post (Born n) (causes h end)
-  causes_born h (AtCell f offset bits) e =
-      let gone : Task = answered h [] in
-      let cut : Job = with_task h.job gone in
-      let set : Job = with_cell cut f offset (Operand 1) in
-      post_then (Born n) _ _ (post_ok (Born n) _ (inl (
-      length-map set.tasks (λ (u : Task). record u { condition = woken_at f offset u.condition }) ∙ length-map cut.tasks _ ∙ length_change (λ (u : Task). u.number) gone.number gone h.job.tasks ∙ e)))
-  causes_born h (AtProc environment segment level place) e = post_err (Born n) _
-  causes_born h (AtElement a i) e = post_err (Born n) _
-  causes_born h (AtArray a) e = post_err (Born n) _
-  causes_born h (AtIntrinsic i) e = post_err (Born n) _
+  causes_born h end e = grind (arith, length-map, length_change)
 
   cause_born : (h : OperatorContext) (arguments : List Word) → length h.job.tasks ≡ n → Post (Born n) (cause h arguments)
-  cause_born h [] e = post_err (Born n) _
-  cause_born h (r ∷ []) e = post_any (Born n) (follow_reference h r) _ (λ end. causes_born h end e)
-  cause_born h (r ∷ v ∷ more) e = post_err (Born n) _
+  cause_born h arguments e = grind (arith, causes_born)
 
   -- the row of a call, among rows of which that one is such
   module _ (i : ℕ) (h : OperatorContext) (arguments : List Word) where
@@ -120,9 +103,7 @@ module _ (n : ℕ) where
     )
 
     weaker : (done : Done) → Still n done → Born n done
-    weaker (Goes after printed touched) same = inl same
-    weaker Leaves same = tt
-    weaker (Waits condition) same = tt
+    weaker done same = grind arith
 
     intrinsic_born : length h.job.tasks ≡ n → Post (Born n) (intrinsic i h arguments)
     intrinsic_born e = ⊎_elim
@@ -135,5 +116,4 @@ module _ (n : ℕ) where
 
 -- by the call of a task
 pub one_more : (m : SessionJob) (t : Task) (i : ℕ) (job : Job) (printed : List Line) (touched : Option ℕ) → Calling m t i → step m.constants m.progress.job t ≡ Ok (Goes job printed touched) → OneMore (length m.progress.job.tasks) job printed touched
-one_more m t i job printed touched k is =
-    post_at (Born (length m.progress.job.tasks)) (intrinsic i (here m t k.next) k.arguments) (Goes job printed touched) (sym k.is ∙ is) (intrinsic_born (length m.progress.job.tasks) i (here m t k.next) k.arguments refl)
+one_more m t i job printed touched k is = grind (arith, intrinsic_born)

@@ -12,9 +12,8 @@ use Rattle.b67_session.specs.AttemptStops.{Stop}
 use Rattle.b67_session.specs.AttemptStops as stops
 use Rattle.b67_session.specs.declared.slices.Progress.{Progress}
 use Rattle.b67_task_tables.proofs.Keeping.{halt_kept}
-use Rattle.b67_session.specs.Slices.{StandsAt, IsLimited, Keeps, StepsReach, in_whole_steps, but_limit, StopsBefore, SliceMeets, Slices, Resumes}
+use Rattle.b67_session.specs.Slices.{StandsAt, IsLimited, Keeps, StopsBefore, SliceMeets, Slices, Resumes}
 use Rattle.b67_session.specs.Complete.{SetsOut, at_once, after_limit, IsToMake, Suffices}
-use Rattle.b67_session.proofs.Fitting.{below}
 use Rattle.b67_session.proofs.Tells.{takes_of}
 use Rattle.b67_session.proofs.Next.{next_needs}
 
@@ -23,24 +22,17 @@ abbrev pub NoFault : Result Progress Stop → Type 0
 NoFault answered = (answered ≡ Err stops.BackingFault → ⊥) × (answered ≡ Err stops.PrintFault → ⊥)
 
 pub no_fault : {D K : Type 0} (failed : D → ℕ) (unprinted : K → ℕ) (d d' : D) (p p' : K) (answered : Result Progress Stop) → CallCauses failed unprinted d d' p p' answered → Stayed failed d d' → Stayed unprinted p p' → NoFault answered
-no_fault failed unprinted d d' p p' answered causes calm quiet =
-    (λ e. (let rose = causes.device e in omega (arith, rose, calm)), λ e. (let rose = causes.printer.failed e in omega (arith, rose, quiet)))
+no_fault failed unprinted d d' p p' answered causes calm quiet = grind arith
 
 -- a slice from a session in order
 module _ {K : Type 0} (taken : K → Option (List ℕ)) (told : Option (List (List ℕ))) (exact : Type 0) (count n : ℕ) (first : Session) (answered : Result Progress Stop) (old new : Machine) (paper paper' : K)
     (x : Slices taken told exact count n first answered old new paper paper') (tells : exact) (halt : new.tasks.halt ≡ old.tasks.halt) (ample : Suffices (length old.cpu.core) count n old.tasks first) where
   -- no part of a step is made, where a whole one is due
   came : (b : StopsBefore told n x.steps x.session new) → after x.steps first ≡ x.session
-  came b = by (x.its tells).leads where
-    by : StepsReach first x.steps x.session x.printed → after x.steps first ≡ x.session
-    by (in_whole_steps a l) = a
-    by (but_limit k part e f g some l) = absurd (some (no_last x.session b.stands.ordered))
+  came b = grind (arith, no_last)
 
   to_make : (b : StopsBefore told n x.steps x.session new) → IsToMake n old.tasks x.steps
-  to_make b = record { few = b.left; before_halt = λ j low e. by j e (below j x.steps (omega (arith, low))) } where
-    by : (j : ℕ) → old.tasks.halt ≡ Some (old.tasks.made + j) → (j < x.steps) ⊎ (j ≡ x.steps) → ⊥
-    by j e (inl less) = x.below j less e
-    by j e (inr at) = b.halt (halt ∙ e ∙ ap Some (omega (arith, at, x.made)))
+  to_make b = grind arith
 
   has_core : (b : StopsBefore told n x.steps x.session new) → need (length old.cpu.core) x.session b.member b.task ≤ length old.cpu.core
   has_core b = ample.core_suffices x.steps (need (length old.cpu.core) x.session b.member b.task) (to_make b)

@@ -1,13 +1,11 @@
 -- One attempt of several tries.
 use Rattle.std.proofs.Common.{◌≡◌, ◌≢◌, ℕ, ◌+◌, ◌<◌, ◌≤◌, ◌⊎◌, ⊎_elim, arith, inl, inr, List, length, Option, Some, None, Result, Ok, Err, refl, sym, ◌∙◌, ap, subst}
-use Rattle.std.proofs.lemmas.Option.{same_Some}
 use Rattle.b67_word.specs.declared.faults.Ending.{Ending}
 use Rattle.b67_word.specs.declared.faults.Ending.TheVariants.{Faulted}
 use Rattle.b67_word.specs.declared.faults.Fault.TheVariants.{InvalidOperator}
 use Rattle.b67_backing.specs.Held.{Becomes}
-use Rattle.b67_model.specs.Common.{Answer, Done, Ready, Task, SessionJob, touched_of, need, number_of, Session}
-use Rattle.b67_model.specs.Keyed.{keyed}
-use Rattle.b67_layout.specs.Common.{IsInOrderButCounts, Placement, IsRunning, area_held}
+use Rattle.b67_model.specs.Common.{Ready, Task, SessionJob, need, Session}
+use Rattle.b67_layout.specs.Common.{IsInOrderButCounts, Placement, IsRunning}
 use Rattle.b67_stack.specs.declared.What.{What}
 use Rattle.b67_stack.specs.declared.What.TheVariants as what
 use Rattle.b67_stack.specs.Common.{Location, Storage}
@@ -19,7 +17,6 @@ use Rattle.b67_task_tables.specs.declared.tables.Machine.{Machine}
 use Rattle.b67_task_tables.specs.declared.tables.Tasks.{Tasks}
 use Rattle.b67_task_tables.specs.Tables.{MachineRepresents}
 use Rattle.b67_mcp.specs.Called.{IsCalled, OnlyPrinted, IsFull, IsRefused, IsUnstarted, IsUnstartedFull, CallsDevice, MayWrite}
-use Rattle.b67_mcp.proofs.Told.{told_is}
 use Rattle.b67_mcp.specs.declared.ends.Stop.{Stop}
 use Rattle.b67_mcp.specs.declared.ends.Stop.TheVariants as stops
 use Rattle.b67_presence.specs.Bringing.{StandsOver, IsWanted, WantsSome, StandsAgain, Brings, AreasStay, words_wanted}
@@ -30,8 +27,8 @@ use Rattle.b67_session.specs.declared.outcomes.Attempt.TheVariants as attempts
 use Rattle.b67_session.specs.declared.tries.Tried.{Tried}
 use Rattle.b67_session.specs.declared.tries.Tried.TheVariants as tries
 use Rattle.b67_session.specs.Tries.{IsWantedByStep, EndsSo, LeavesAreas, TryMeets, TryFits, TryWrites}
-use Rattle.b67_session.specs.Attempts.{RunsOver, ForEachOver, StillStands, StandsLacking, StandsShort, HoleFits, segment_fits, array_fits, LacksRoom, for_segment, for_array, TellsAfter, starts_task, makes_longer, for_task, for_length, EndsWithin, AttemptMeets, Attempts, AttemptFits, IsNotFull, CallKeepsAreas, TablesStay, WantsNothing}
-use Rattle.b67_session.specs.Brought.{StopMeets, Stopped, BroughtFits}
+use Rattle.b67_session.specs.Attempts.{RunsOver, ForEachOver, StillStands, StandsLacking, StandsShort, HoleFits, LacksRoom, TellsAfter, starts_task, makes_longer, for_task, for_length, EndsWithin, AttemptMeets, Attempts, AttemptFits, IsNotFull, CallKeepsAreas, TablesStay, WantsNothing}
+use Rattle.b67_session.specs.Brought.{Stopped, BroughtFits}
 use Rattle.b67_session.proofs.Numbers.{code_of_step, same_array}
 use Rattle.b67_session.proofs.Tells.{tells_weaker}
 
@@ -40,22 +37,17 @@ Told = Option (List (List ℕ))
 
 -- what a storage says after two calls
 retold_twice : (d told told' : Told) → (d ≢ None → told ≢ None) → content_after (content_after d told) told' ≡ content_after d told'
-retold_twice None told told' h = refl
-retold_twice (Some all) None told' h = absurd (h (λ e. absurd cc) refl)
-retold_twice (Some all) (Some b) told' h = refl
+retold_twice d told told' h = grind arith
 
 retold_some : (d told : Told) → (d ≢ None → told ≢ None) → d ≢ None → content_after d told ≢ None
-retold_some None told h n = n
-retold_some (Some all) told h n = h n
+retold_some d told h n = grind arith
 
 retold_back : (d told : Told) → content_after d told ≢ None → d ≢ None
-retold_back None told n = n
-retold_back (Some all) told n = λ e. absurd cc
+retold_back d told n = grind arith
 
 -- a device that told goes on to tell
 pub goes_on_telling : (d told told' : Told) → Says d told → ((all : List (List ℕ)) → told ≡ Some all → (y : List (List ℕ)) × (told' ≡ Some y)) → d ≢ None → told' ≢ None
-goes_on_telling None told told' says each n = absurd (n refl)
-goes_on_telling (Some all) told told' says each n = λ e. let (y, is) = each all says in let z : None ≡ Some y = sym e ∙ is in absurd cc
+goes_on_telling d told told' says each n = grind arith
 
 -- the machine after a try that changed nothing
 pub unchanged : (x : Storage) (told : Told) (plan : Placement) (s : Session) (old new : Machine) → new ≡ old → MachineRepresents x told old plan s → MachineRepresents x told new plan s
@@ -66,19 +58,12 @@ unchanged_over x told told' plan s old new same tells h = record { says = subst 
 
 -- and after one that changed nothing but how much is printed
 pub only_printed : (x : Storage) (told : Told) (plan : Placement) (s : Session) (old new : Machine) → OnlyPrinted old new → MachineRepresents x told old plan s → MachineRepresents x told new plan s
-only_printed x told plan s old new same h =
-    let P : Machine → Type 0 = λ k. MachineRepresents x told k plan s in
-    let it : MachineRepresents x told (record old { tasks = record old.tasks { printed = new.tasks.printed } }) plan s = record { session = h.session; storage = h.storage; tables = h.tables } in
-    subst P (sym same) it
+only_printed x told plan s old new same h = grind arith
 
 -- where nothing is wanted, a try finds nothing absent
 pub never : {K : Type 0} (taken : K → Option (List ℕ)) (told : Told) (count : ℕ) (x : Storage) (plan : Placement) (s : Session) (m : SessionJob) (t : Task) (old new : Machine) (paper paper' : K) (found : What) → WantsNothing x plan m t
     → TryMeets taken told count x plan s m t (Ok (tries.Absent found)) old new paper paper' → ⊥
-never taken told count x plan s m t old new paper paper' (what.Code displacement) nothing meets = nothing.code meets.1.1
-never taken told count x plan s m t old new paper paper' (what.Array home) nothing meets =
-    let w = meets.1 in
-    let (a, among, home_is, is, words) = meets.2 in
-    nothing.array a.identity is (ap (λ (at : ℕ). (x.held at).area) (home_is ∙ sym w.home_is) ∙ w.absent)
+never taken told count x plan s m t old new paper paper' found h meets = grind arith
 
 -- one try, in the session itself
 module _ {B K : Type 0} (holds : B → Told) (taken : K → Option (List ℕ)) (backing backing' : B) (x : Storage) (count : ℕ) (plan : Placement) (s : Session) (m : SessionJob) (t : Task) (o : IsInOrderButCounts s) (runs : IsRunning plan s.jobs m t) (old new : Machine) (h : StandsOver x (holds backing) old plan s) (paper paper' : K) where
@@ -96,9 +81,7 @@ module _ {B K : Type 0} (holds : B → Told) (taken : K → Option (List ℕ)) (
 
   -- the device wasn't called
   known_stands : backing' ≡ backing → MachineRepresents x x.device new plan s → MachineRepresents x known new plan s
-  known_stands same k =
-      let says : Says x.device (holds backing') = subst (λ b. Says x.device (holds b)) (sym same) h.says in
-      subst (λ d. MachineRepresents x d new plan s) (sym (told_is x.device (holds backing') says)) k
+  known_stands same k = grind arith
 
   silent : backing' ≡ backing → MachineRepresents x x.device new plan s → StillStands known new plan s
   silent same k = (x, known_stands same k)
@@ -121,14 +104,7 @@ module _ {B K : Type 0} (holds : B → Told) (taken : K → Option (List ℕ)) (
 
   -- after a RESIZE that was refused nothing is absent that no hole has room for
   full_room : (sum size : ℕ) (f : IsFull x known count plan s m t sum size old new) → LacksRoom f.refused.storage plan m t → ⊥
-  full_room sum size f (for_segment none room) = f.code none
-  full_room sum size f (for_array a code among absent is room) =
-      let b = f.refused.longer.array in
-      let touches = ap (λ (answer : Answer Done). touched_of m.constants m.progress.job t answer) f.refused.longer.is ∙ f.touches in
-      let same : a.identity ≡ b.identity = same_Some a.identity b.identity (sym is ∙ touches) in
-      let alike : length a.numbers ≡ length b.numbers = same_array plan s m t o runs a b among f.refused.longer.among same in
-      let hole = f.room (ap (area_held f.refused.storage plan m.constants.number) (sym same) ∙ absent) in
-      room (subst (λ (n : ℕ). HasHole (n + 2) f.refused.storage.spans) (sym alike) hole)
+  full_room sum size f h = grind (arith, same_array)
 
   full : (sum size : ℕ) → need (length old.cpu.core) s m t ≤ length old.cpu.core → IsFull x known count plan s m t sum size old new ⊎ IsUnstartedFull known count plan s m t sum size old new
       → (size ≡ count) × (count < sum) × StandsShort (x.device ≢ None) known (length old.cpu.core) new plan s m t sum
@@ -166,38 +142,25 @@ module _ {K : Type 0} (taken : K → Option (List ℕ)) (told : Told) (count : �
   tables_after_want found meets = ap (λ (k : Machine). k.tasks) meets.3
 
   pub tables_after_stop : (stop : Stop) → TryMeets taken told count x plan s m t (Err stop) old new paper paper' → TablesStay (Err stop) old.tasks new.tasks
-  tables_after_stop (stops.NoCore words size) meets = ap (λ (k : Machine). k.tasks) meets.1
-  tables_after_stop (stops.BackingFull sum size) meets = ⊎_elim (λ (f : IsFull x told count plan s m t sum size old new). f.refused.tables) (λ (u : IsUnstartedFull told count plan s m t sum size old new). u.unstarted.tables) meets.0
-  tables_after_stop stops.BackingFault meets = ⊎_elim (λ (r : IsRefused x told plan s m t old new). r.tables) (λ (u : IsUnstarted told plan s m t old new). u.tables) meets.0
-  tables_after_stop stops.PrintFault meets = ap (λ (k : Machine). k.tasks) meets.1
+  tables_after_stop stop meets = grind arith
 
 -- the tables after a stop that isn't the printer's, and after tries that went on from the same tables
 pub tables_stay : (stop : Stop) (old new : Tasks) → stop ≢ stops.PrintFault → new ≡ old → TablesStay (Err stop) old new
-tables_stay (stops.NoCore words size) old new other same = same
-tables_stay (stops.BackingFull sum size) old new other same = same
-tables_stay stops.BackingFault old new other same = same
-tables_stay stops.PrintFault old new other same = absurd (other refl)
+tables_stay stop old new h same = grind arith
 
 pub tables_from : (answered : Result Attempt Stop) (old mid new : Tasks) → mid ≡ old → TablesStay answered mid new → TablesStay answered old new
 tables_from answered old mid new same stay = let P : Tasks → Type 0 = λ k. TablesStay answered k new in subst P same stay
 
 -- core has room where a try stopped
 pub room_after_stop : (core : ℕ) (x : Storage) (plan : Placement) (s : Session) (m : SessionJob) (t : Task) (stop : Stop) → TryFits core s m t (Err stop) → AttemptFits core x plan s m t (Err stop)
-room_after_stop core x plan s m t (stops.NoCore words size) fits = tt
-room_after_stop core x plan s m t (stops.BackingFull sum size) fits = λ code. fits
-room_after_stop core x plan s m t stops.BackingFault fits = λ code. fits
-room_after_stop core x plan s m t stops.PrintFault fits = fits
+room_after_stop core x plan s m t stop fits = grind arith
 
 -- a stop after which the device may have been written
 pub may_call : (x : Storage) (plan : Placement) (m : SessionJob) (t : Task) → MayWrite x plan m t → CallsDevice m t
-may_call x plan m t (inl longer) = inl longer.0
-may_call x plan m t (inr starts) = inr starts
+may_call x plan m t h = grind arith
 
 pub stop_calls : (x : Storage) (plan : Placement) (m : SessionJob) (t : Task) (stop : Stop) → TryWrites x plan m t (Err stop) → CallsDevice m t
-stop_calls x plan m t (stops.NoCore words size) w = absurd w
-stop_calls x plan m t (stops.BackingFull sum size) w = may_call x plan m t w
-stop_calls x plan m t stops.BackingFault w = may_call x plan m t w
-stop_calls x plan m t stops.PrintFault w = absurd w
+stop_calls x plan m t stop w = grind arith
 
 -- the device of a call that wasn't made
 pub still_holds : {D : Type 0} (holds : D → Told) (d d' : D) → d' ≡ d → Becomes holds d d' (λ all. all)
@@ -242,41 +205,25 @@ module _ {K : Type 0} (taken : K → Option (List ℕ)) (told : Told) (count : �
 -- a hole for the one thing that a step wants is one for what was found absent
 pub hole_for : (x : Storage) (plan : Placement) (s : Session) (m : SessionJob) (t : Task) → IsInOrderButCounts s → IsRunning plan s.jobs m t → (found : What) (words : ℕ) → IsWanted x plan m t found words → IsWantedByStep plan m t found words → HoleFits x plan m t
     → HasHole (words_wanted m t found words) x.spans
-hole_for x plan s m t o runs (what.Code d) words wanted touched (segment_fits none arrays room) = room
-hole_for x plan s m t o runs (what.Code d) words wanted touched (array_fits a code among absent is room) = absurd (code wanted.1)
-hole_for x plan s m t o runs (what.Array home) words wanted touched (segment_fits none arrays room) = absurd (wanted.code none)
-hole_for x plan s m t o runs (what.Array home) words wanted touched (array_fits a code among absent is room) =
-    let (b, there, home_is, touches, count) = touched in
-    let same : a.identity ≡ b.identity = same_Some a.identity b.identity (sym is ∙ touches) in
-    let alike : length a.numbers ≡ length b.numbers = same_array plan s m t o runs a b among there same in
-    subst (λ (n : ℕ). HasHole (n + 2) x.spans) (alike ∙ sym count) room
+hole_for x plan s m t o runs found words wanted touched h = grind (arith, same_array)
 
 -- and where what was wanted wasn't brought in
 pub room_after_want : (core size : ℕ) (x : Storage) (plan : Placement) (s : Session) (m : SessionJob) (t : Task) (stop : Stop) → size ≡ core → stop ≢ stops.PrintFault → BroughtFits size x plan s m t (Err stop) → AttemptFits core x plan s m t (Err stop)
-room_after_want core size x plan s m t (stops.NoCore words size') e other fits = tt
-room_after_want core size x plan s m t (stops.BackingFull sum size') e other fits = λ code. subst (λ (n : ℕ). need n s m t ≤ n) e (fits code)
-room_after_want core size x plan s m t stops.BackingFault e other fits = λ code. subst (λ (n : ℕ). need n s m t ≤ n) e (fits code)
-room_after_want core size x plan s m t stops.PrintFault e other fits = absurd (other refl)
+room_after_want core size x plan s m t stop e h fits = grind arith
 
 -- where the segment is present in one storage, it may be asked about another
 fits_from : (core : ℕ) (x y : Storage) (plan : Placement) (s : Session) (m : SessionJob) (t : Task) (answered : Result Attempt Stop) → code_area y plan m t ≢ None → AttemptFits core y plan s m t answered → AttemptFits core x plan s m t answered
-fits_from core x y plan s m t (Ok attempted) code fits = fits
-fits_from core x y plan s m t (Err (stops.NoCore words size)) code fits = tt
-fits_from core x y plan s m t (Err (stops.BackingFull sum size)) code fits = λ here. fits code
-fits_from core x y plan s m t (Err stops.BackingFault) code fits = λ here. fits code
-fits_from core x y plan s m t (Err stops.PrintFault) code fits = fits
+fits_from core x y plan s m t answered code fits = grind arith
 
 -- over a device that tells, a task ends as its step says
 pub ends_exact : (exact : Type 0) (m : SessionJob) (t : Task) (ending : Ending) → exact → EndsWithin exact m t ending → EndsSo m t ending
-ends_exact exact m t ending tells (inl so) = so
-ends_exact exact m t ending tells (inr other) = absurd (other.0 tells)
+ends_exact exact m t ending tells h = grind arith
 
 -- less is told of a device that tells nothing
 module _ {K : Type 0} (taken : K → Option (List ℕ)) (told : Told) (exact other : Type 0) (core count before : ℕ) (plan : Placement) (s : Session) (m : SessionJob) (t : Task) (new : Machine) (paper paper' : K) (f : other → exact) where
   weaker : (answered : Result Attempt Stop) → AttemptMeets taken told exact core count before plan s m t answered new paper paper' → AttemptMeets taken told other core count before plan s m t answered new paper paper'
   weaker (Ok attempts.Made) meets = meets
-  weaker (Ok (attempts.Ends ending)) meets =
-      (⊎_elim (λ (so : EndsSo m t ending). inl so) (λ (other_code : (exact → ⊥) × (ending ≡ Faulted InvalidOperator)). inr (λ e. other_code.0 (f e), other_code.1)) meets.0, meets.1, meets.2)
+  weaker (Ok (attempts.Ends ending)) meets = grind arith
   weaker (Ok (attempts.Waits state)) meets = meets
   weaker (Err (stops.NoCore words size)) meets = meets
   weaker (Err (stops.BackingFull sum size)) meets =
@@ -313,20 +260,11 @@ module _ {K : Type 0} (taken : K → Option (List ℕ)) (x : Storage) (told told
 -- a stop is the attempt's
 pub stopped_attempt : {K : Type 0} (taken : K → Option (List ℕ)) (x : Storage) (told : Told) (core count before : ℕ) (plan : Placement) (s : Session) (t : Task) (stop : Stop) (new : Machine) (paper : K) → Stopped x told core count plan s t stop new
     → Attempts taken x told core count before plan s t (Err stop) new paper paper
-stopped_attempt taken x told core count before plan s t stop new paper a = record { jobs = a.jobs; others = a.others; same = a.same; member = a.member; running = a.running; meets = by stop a.meets } where
-  by : (why : Stop) → StopMeets told (x.device ≢ None) core count plan (record s { jobs = a.jobs }) a.member t why new → AttemptMeets taken told (x.device ≢ None) core count before plan (record s { jobs = a.jobs }) a.member t (Err why) new paper paper
-  by (stops.NoCore words size) meets = (meets.0, meets.1, meets.2, meets.3, refl)
-  by (stops.BackingFull sum size) meets = (meets.0, meets.1, meets.2, refl)
-  by stops.BackingFault meets = (meets, refl)
-  by stops.PrintFault meets = absurd meets
+stopped_attempt taken x told core count before plan s t stop new paper a = grind arith
 
 -- the same member where there are the same jobs
 pub same_member : (plan : Placement) (s : Session) (jobs : List SessionJob) (m : SessionJob) (t : Task) → IsRunning plan s.jobs m t → (r : RunsOther plan jobs m t) → jobs ≡ s.jobs → r.member ≡ m
-same_member plan s jobs m t runs r e =
-    let number_is : r.member.constants.number ≡ m.constants.number = ap (λ (z : SessionJob). z.constants.number) r.other.rest in
-    let at : keyed number_of m.constants.number s.jobs ≡ Some r.member =
-    ap (λ (j : ℕ). keyed number_of j s.jobs) (sym number_is) ∙ ap (λ (z : List SessionJob). keyed number_of r.member.constants.number z) (sym e) ∙ r.runs.member in
-    same_Some r.member m (sym at ∙ runs.member)
+same_member plan s jobs m t runs r e = grind arith
 
 -- the machine after something was brought in
 module _ (x : Storage) (told : Told) (k : Machine) (plan : Placement) (s : Session) (m : SessionJob) (t : Task) (o : IsInOrderButCounts s) (runs : IsRunning plan s.jobs m t) (found : What) (b : Brings x told k plan s m t found) where
@@ -351,27 +289,14 @@ module _ (x : Storage) (told : Told) (k : Machine) (plan : Placement) (s : Sessi
 
   nothing : (wanted : What) (words : ℕ) → code_area x plan m t ≢ None → IsWanted x plan m t wanted words → IsWantedByStep plan m t wanted words → Brings x told k plan s m t wanted → (c : Brings x told k plan s m t wanted) → WantsNothing c.again.storage plan m t
   nothing (what.Code displacement) words code w touched c d = absurd (code w.1)
-  nothing (what.Array home) words code w touched c d =
-      let (a, among, home_is, is, count) = touched in
-      record {
-        code = d.code;
-        array = λ n e none. let same : a.identity ≡ n = same_Some a.identity n (sym is ∙ e) in
-            d.there (ap (λ (at : ℕ). (d.again.storage.held at).area) (sym home_is ∙ ap (plan.home m.constants.number) same) ∙ none);
-      }
+  nothing (what.Array home) words code w touched c d = grind arith
 
   -- what was brought into a hole was the one thing that was wanted
   wants_no_more : (wanted : What) (words : ℕ) → HoleFits x plan m t → IsWanted x plan m t wanted words → IsWantedByStep plan m t wanted words → (c : Brings x told k plan s m t wanted) → AreasStay x c.again.storage → WantsNothing c.again.storage plan m t
-  wants_no_more (what.Code displacement) words (segment_fits none arrays room) w touched c stay = record {
-    code = c.code;
-    array = λ a is none. arrays a is (sym (stay (plan.home m.constants.number a) (arrays a is)) ∙ none);
-  }
-  wants_no_more (what.Code displacement) words (array_fits a code among absent is room) w touched c stay = absurd (code w.1)
-  wants_no_more (what.Array home) words fits w touched c stay = nothing (what.Array home) words w.code w touched c c
+  wants_no_more wanted words fits w touched c stay = grind arith
 
   pub then_nothing : (words : ℕ) → HoleFits x plan m t → IsWanted x plan m t found words → IsWantedByStep plan m t found words → AreasStay x b.again.storage → x.device ≢ None → WantsNothing b.again.storage plan other.member t
-  then_nothing words fits w touched stay tells =
-      let W : SessionJob → Type 0 = λ z. WantsNothing b.again.storage plan z t in
-      subst W (sym (member_is (b.again.same tells))) (wants_no_more found words fits w touched b stay)
+  then_nothing words fits w touched stay tells = grind (arith, member_is)
 
   pub no_call : x.device ≢ None → (CallsDevice m t → ⊥) → CallsDevice other.member t → ⊥
   no_call tells none =
@@ -379,11 +304,7 @@ module _ (x : Storage) (told : Told) (k : Machine) (plan : Placement) (s : Sessi
       subst W (sym (member_is (b.again.same tells))) none
 
   pub wants_nothing : (words : ℕ) → code_area x plan m t ≢ None → IsWanted x plan m t found words → IsWantedByStep plan m t found words → b.again.storage.device ≢ None → WantsNothing b.again.storage plan other.member t
-  wants_nothing words code w touched n =
-      let P : Told → Type 0 = λ d. d ≢ None in
-      let tells : x.device ≢ None = retold_back x.device told (subst P b.again.device n) in
-      let W : SessionJob → Type 0 = λ z. WantsNothing b.again.storage plan z t in
-      subst W (sym (member_is (b.again.same tells))) (nothing found words code w touched b b)
+  wants_nothing words code w touched n = grind arith
 
 -- what core has room for afterwards it had room for before, where the device tells
 module _ (x : Storage) (told : Told) (k : Machine) (plan : Placement) (s : Session) (m : SessionJob) (t : Task) (o : IsInOrderButCounts s) (runs : IsRunning plan s.jobs m t) (found : What) (b : Brings x told k plan s m t found) (n : x.device ≢ None) (tells : x.device ≢ None → told ≢ None) where
@@ -391,14 +312,7 @@ module _ (x : Storage) (told : Told) (k : Machine) (plan : Placement) (s : Sessi
   still_told = let P : Told → Type 0 = λ d. d ≢ None in subst P (sym b.again.device) (retold_some x.device told tells n)
 
   pub same_needs : (size core : ℕ) (answered : Result Attempt Stop) → size ≡ core → AttemptFits size b.again.storage plan (record s { jobs = b.again.jobs }) (other x told k plan s m t o runs found b).member t answered → AttemptFits core x plan s m t answered
-  same_needs size core answered e fits =
-      let same = b.again.same n in
-      let z = (other x told k plan s m t o runs found b).member in
-      let here = fits_from size x b.again.storage plan (record s { jobs = b.again.jobs }) z t answered (code_there x told k plan s m t o runs found b) fits in
-      let C : ℕ → Type 0 = λ c. AttemptFits c x plan (record s { jobs = b.again.jobs }) z t answered in
-      let M : SessionJob → Type 0 = λ y. AttemptFits core x plan (record s { jobs = b.again.jobs }) y t answered in
-      let S : List SessionJob → Type 0 = λ jobs. AttemptFits core x plan (record s { jobs = jobs }) m t answered in
-      subst S same (subst M (member_is x told k plan s m t o runs found b same) (subst C e here))
+  same_needs size core answered e fits = grind (arith, member_is)
 
 -- what was held as it was lies in the same area
 pub keeps_areas : {K : Type 0} (taken : K → Option (List ℕ)) (x : Storage) (told : Told) (before : ℕ) (plan : Placement) (s : Session) (m : SessionJob) (t : Task) (new : Machine) (paper paper' : K)
@@ -411,8 +325,7 @@ keeps_areas taken x told before plan s m t new paper paper' (called, rest) = (
 
 -- where something has a hole, something is wanted
 pub hole_wants : (x : Storage) (plan : Placement) (m : SessionJob) (t : Task) → HoleFits x plan m t → WantsNothing x plan m t → ⊥
-hole_wants x plan m t (segment_fits none arrays room) nothing = nothing.code none
-hole_wants x plan m t (array_fits a code among absent is room) nothing = nothing.array a.identity is absent
+hole_wants x plan m t h e = grind arith
 
 -- and so it does after what was wanted was brought into a hole
 module _ {K : Type 0} (taken : K → Option (List ℕ)) (x : Storage) (told after : Told) (k last : Machine) (before printed : ℕ) (plan : Placement) (s : Session) (m : SessionJob) (t : Task) (o : IsInOrderButCounts s) (runs : IsRunning plan s.jobs m t) (found : What) (b : Brings x told k plan s m t found)
@@ -454,13 +367,7 @@ wants_some taken told told' after count old new paper paper' found r tells w = r
 -- at equal numbers and printers
 pub attempt_as : {K : Type 0} (taken : K → Option (List ℕ)) (x : Storage) (told told' : Told) (core core' count count' before before' : ℕ) (plan : Placement) (s : Session) (t : Task) (answered : Result Attempt Stop) (new : Machine) (paper first paper' : K) → told ≡ told' → core ≡ core' → count ≡ count'
     → before ≡ before' → first ≡ paper → Attempts taken x told core count before plan s t answered new first paper' → Attempts taken x told' core' count' before' plan s t answered new paper paper'
-attempt_as {K} taken x told told' core core' count count' before before' plan s t answered new paper first paper' a b c d e h =
-    let A : Told → Type 0 = λ z. Attempts taken x z core' count' before' plan s t answered new paper paper' in
-    let B : ℕ → Type 0 = λ z. Attempts taken x told z count' before' plan s t answered new paper paper' in
-    let C : ℕ → Type 0 = λ z. Attempts taken x told core z before' plan s t answered new paper paper' in
-    let D : ℕ → Type 0 = λ z. Attempts taken x told core count z plan s t answered new paper paper' in
-    let E : K → Type 0 = λ z. Attempts taken x told core count before plan s t answered new z paper' in
-    subst A a (subst B b (subst C c (subst D d (subst E e h))))
+attempt_as {K} taken x told told' core core' count count' before before' plan s t answered new paper first paper' a b c d e h = grind arith
 
 -- the tries after something was brought in
 module _ {K : Type 0} (taken : K → Option (List ℕ)) (x : Storage) (told after : Told) (new last : Machine) (core count printed : ℕ) (plan : Placement) (s : Session) (m : SessionJob) (t : Task) (o : IsInOrderButCounts s) (runs : IsRunning plan s.jobs m t) (found : What) (b : Brings x told new plan s m t found) (ready : t.condition ≡ Ready)

@@ -50,6 +50,4 @@ module _ (x : Storage) (cpu : Cpu) (plan : Placement) (s : Session) (m : Session
       (subst (λ (k : ℕ). need_with s m t k words ≤ length cpu.core) (sym none) fits)
 
 pub made_fit : MadeFits
-made_fit cpu x plan s m t o h runs at touched present is there among none =
-    need_fits x cpu plan s m t o h runs at present
-    (subst (TouchedIsPresent x plan m.constants.number) (sym is) there) (subst (IsArrayOfJob m.progress.job) (sym is) among) none
+made_fit cpu x plan s m t o h runs at touched present is there among none = grind (arith, need_fits)

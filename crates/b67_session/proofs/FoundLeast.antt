@@ -133,10 +133,7 @@ module _ {K : Type 0} (taken : K → Option (List ℕ)) (exact : Type 0) (told :
 
 -- a stop that isn't the printer's makes no part of its step
 pub none_stepped : (said : Option (List (List ℕ))) (sure : Type 0) (core count steps : ℕ) (s : Session) (is_due : List ℕ) (new : Machine) (stop : Stop) → stop ≢ stops.PrintFault → SliceMeets said sure core count 1 steps s is_due (Err stop) new → steps ≡ 0
-none_stepped said sure core count steps s is_due new (stops.NoCore words size) fine m = omega (arith, m.0.left)
-none_stepped said sure core count steps s is_due new (stops.BackingFull sum size) fine m = omega (arith, m.0.left)
-none_stepped said sure core count steps s is_due new stops.BackingFault fine m = omega (arith, m.0.left)
-none_stepped said sure core count steps s is_due new stops.PrintFault fine m = absurd (fine refl)
+none_stepped said sure core h steps s is_due new stop fine m = grind arith
 
 -- where the search stands another slice may begin
 pub open_here : {K : Type 0} (taken : K → Option (List ℕ)) (exact : Type 0) (said told : Option (List (List ℕ))) (made : ℕ) (s : Session) (old now : Machine) (paper paper' : K) → Going taken exact said made s old now paper paper' → Says said told → AreCountable now.tasks.jobs → IsOpen told now

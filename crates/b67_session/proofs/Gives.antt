@@ -36,8 +36,7 @@ GivesBack old new after =
 
 -- the top's address fits
 pub upto_fits : (old : Machine) → RunsTask old → old.cpu.regs.s + 1 < 2 ^ 20
-upto_fits old r =
-    let g = rooms r.storage old.cpu r.plan r.session r.member r.task r.ordered r.stands.session r.running in omega (arith, g.last, g.under, g.inside, g.bound)
+upto_fits old r = grind (arith, rooms)
 
 -- what is said of the operator that was made
 abbrev pub Rows : Cpu → Cpu → Step → Type 0
@@ -49,10 +48,7 @@ Lefts old left = ForEach old (λ x plan s m t. code_area x plan m t ≢ None →
 -- it was made and leaves a record
 module _ (old : Machine) (new : Cpu) (answered : Step) (left : Bool) (rows : Rows old.cpu new answered) (lefts : Lefts old.cpu left) (all_cuts : left ≡ true → answered ≡ Done → CutsRecord old.cpu new) (is_left : not left ≡ false) (is_done : answered ≡ Done) where
   true_left : left ≡ true
-  true_left = by left is_left where
-    by : (b : Bool) → not b ≡ false → b ≡ true
-    by true e = refl
-    by false e = absurd (true≢false e)
+  true_left = grind arith
 
   cuts : CutsRecord old.cpu new
   cuts = all_cuts true_left is_done

@@ -19,7 +19,6 @@ use Rattle.b67_task_tables.specs.Tables.{task_row}
 use Rattle.b67_session.specs.AttemptPassed.{CallCauses}
 use Rattle.b67_session.specs.AttemptStops.{Stop}
 use Rattle.b67_session.specs.AttemptStops as stops
-use Rattle.b67_session.proofs.Runs.{caused_stop, caused_later}
 use Rattle.b67_session.specs.declared.slices.Progress.{Progress}
 use Rattle.b67_session.specs.declared.slices.Progress.TheVariants as progress
 use Rattle.b67_session.specs.Attempts.{IsNotFull}
@@ -89,8 +88,7 @@ ready_some s m u inm inu r none =
 
 -- where there is one, a task makes the next step
 next_by : (s : Session) (o : IsInOrderButPlaces s) (x : Option Choice) → choice s ≡ x → ready s ≢ [] → (m : SessionJob) × (t : Task) × IsNext s m t
-next_by s o None e some = absurd (some (none_ready s e))
-next_by s o (Some c) e some = let (m, t, n, same, ready) = chosen_tasks_are_ready s c o e in (m, t, n)
+next_by s o x e some = grind (arith, none_ready, chosen_tasks_are_ready)
 
 pub next_now : (told : Option (List (List ℕ))) (now : Machine) (s : Session) → StandsAt told now s → now.tasks.rows.items ≢ [] → (m : SessionJob) × (t : Task) × IsNext s m t
 next_now told now s h some = by now.tasks.rows.items refl
@@ -111,11 +109,7 @@ one_more first steps s was after printed more came same m =
 
 -- a step, or its first part, after steps
 leads_then : (first : Session) (steps n : ℕ) (s was now : Session) (printed more : List RunLine) → Came first steps s printed → was ≡ s → StepLeads was n now more → StepsReach first (steps + n) now (printed ++ more)
-leads_then first steps n s was now printed more came same (stays none is nothing) =
-    let P : ℕ → List RunLine → Type 0 = λ k ls. StepsReach first k now ls in
-    let same_steps : steps ≡ steps + n = omega (arith, none) in
-    subst (λ (k : ℕ). P k (printed ++ more)) same_steps
-    (subst (P steps) (sym (ap (λ (ls : List RunLine). printed ++ ls) nothing ∙ append-nil printed)) (in_whole_steps (came.session ∙ sym same ∙ sym is) came.lines_are))
+leads_then first steps n s was now printed more came same (stays none is nothing) = grind (arith, append-nil)
 leads_then first steps n s was now printed more came same (makes one m) =
     let c = one_more first steps s was now printed more came same m in
     subst (λ (k : ℕ). StepsReach first (steps + k) now (printed ++ more)) (sym one) (in_whole_steps c.session c.lines_are)
@@ -329,16 +323,9 @@ made_no_fewer x = omega (arith, x.made)
 
 -- a step's stop is the slice's
 pub stop_rooms : (core : ℕ) (s : Session) (m : SessionJob) (t : Task) (stop : Stop) (step : Result (Unit {0}) Stop) → step ≡ Err stop → StopsWithRoom core s m t step → StopsWithRoom {A = Progress} core s m t (Err stop)
-stop_rooms core s m t stop step is room = by stop (subst (λ (z : Result (Unit {0}) Stop). StopsWithRoom core s m t z) is room) where
-  by : (why : Stop) → StopsWithRoom {A = Unit {0}} core s m t (Err why) → StopsWithRoom {A = Progress} core s m t (Err why)
-  by (stops.NoCore words size) r = tt
-  by (stops.BackingFull sum size) r = r
-  by stops.BackingFault r = r
-  by stops.PrintFault r = tt
+stop_rooms core s m t stop step is room = grind arith
 
 -- and what it says of a failure
 pub stop_causes : {D K : Type 0} (failed : D → ℕ) (refused : K → ℕ) (stop : Stop) (step : Result (Unit {0}) Stop) (a b c : D) (p q r : K) → step ≡ Err stop → failed a ≤ failed b → refused p ≤ refused q
     → CallCauses failed refused b c q r step → CallCauses {A = Progress} failed refused a c p r (Err stop)
-stop_causes failed refused stop step a b c p q r is device printer h =
-    caused_later {A = Progress} failed refused a b c p q r (Err stop) device printer
-    (caused_stop {A = Unit {0}} {C = Progress} failed refused b c q r stop (subst (λ (z : Result (Unit {0}) Stop). CallCauses failed refused b c q r z) is h))
+stop_causes failed refused stop step a b c p q r is device printer h = grind arith

@@ -1,18 +1,16 @@
 -- How high a task's stack and its topmost mark stand over the stack's base, by its registers or by the word at that base.
-use Rattle.std.proofs.Common.{◌≡◌, ◌≢◌, ℕ, ◌+◌, ◌-◌, List, [], ◌∷◌, refl, ap, ◌∙◌, arith, Bool}
+use Rattle.std.proofs.Common.{◌≡◌, ◌≢◌, ℕ, ◌+◌, ◌-◌, List, [], ◌∷◌, ap, ◌∙◌, arith, Bool}
 use Rattle.std.specs.Prelude.{if◌then◌else◌}
 use Rattle.std.proofs.lemmas.Bool.{ne_eqb}
 use Rattle.b67_model.specs.Common.{Frame, Task, Job, SessionJob, Session, height, below_top}
 use Rattle.b67_stack.specs.Common.{StackPlace, Activation, stack_words, mark_place, Running, Waiting, MachineView, Storage, Represents}
 use Rattle.b67_stack.specs.declared.Cpu.{Cpu}
-use Rattle.b67_stack.proofs.Slots.{running_slot, running_fits}
-use Rattle.b67_layout.specs.Common.{Placement, slot_of, outer_spots, activations, stack_of_task, machine_view, IsRunning, RepresentsSession}
+use Rattle.b67_layout.specs.Common.{Placement, slot_of, activations, stack_of_task, machine_view, IsRunning, RepresentsSession}
 use Rattle.b67_layout.proofs.Frames.{height-is}
 use Rattle.b67_layout.proofs.Rows.{slot_below}
 use Rattle.b67_layout.proofs.Starts.{runs_here}
 use Rattle.b67_task_switch.specs.Turns.{WaitsOn, WaitsInOne}
 use Rattle.b67_task_switch.proofs.Replans.{slot_here}
-use Rattle.b67_task_switch.proofs.Words.{waiting_fits}
 use Rattle.b67_law_sessions.specs.Turns.{IsNext}
 use Rattle.b67_session.specs.Search.{mark_height}
 use Rattle.b67_session.proofs.Next.{in_session, in_job, found, task_found}
@@ -22,17 +20,13 @@ abbrev pub AreHeights : ℕ → ℕ → Task → Type 0
 AreHeights top mark t = (top + 1 ≡ height t.frames) × (mark ≡ mark_height t)
 
 of_frames : (plan : Placement) (j : ℕ) (job : Job) (k : ℕ) (outer : ℕ → StackPlace) (fs : List Frame) → activations plan j job k outer fs ≢ [] → (stack_words (activations plan j job k outer fs) + 1 ≡ height fs) × (mark_place (activations plan j job k outer fs) ≡ height (below_top fs))
-of_frames plan j job k outer [] some = absurd (some refl)
-of_frames plan j job k outer (f ∷ below) some = (omega (arith, height-is plan j job k outer (f ∷ below)), omega (arith, height-is plan j job k outer below))
+of_frames plan j job k outer fs some = grind (arith, height-is)
 
 pub running_heights : (x : Storage) (cpu : Cpu) (plan : Placement) (s : Session) (m : SessionJob) (t : Task) → RepresentsSession x cpu plan s → IsRunning plan s.jobs m t → AreHeights (cpu.regs.s - cpu.regs.bosr) (cpu.regs.f - cpu.regs.bosr) t
 running_heights x cpu plan s m t h runs =
     let stack = stack_of_task plan m.constants.number m.progress.job plan.running t in
     let on = runs_here x cpu plan s m t h runs in
-    let is = running_slot x cpu.core cpu.regs (machine_view plan s.jobs) cpu.regs.slot stack h.holds.memory on in
-    let fits = running_fits x cpu.core cpu.regs (machine_view plan s.jobs) cpu.regs.slot stack h.holds.memory on in
-    let high = of_frames plan m.constants.number m.progress.job plan.running (outer_spots plan m.constants.number m.progress.job t.critical t.parents) t.frames fits.0.some in
-    (omega (arith, is.top, is.first, high.0), omega (arith, is.mark, is.first, high.1))
+    grind (arith, of_frames)
 
 -- the task that makes the next step waits where its registers aren't in use
 module _ (x : Storage) (cpu : Cpu) (plan : Placement) (s : Session) (m : SessionJob) (t : Task) (h : RepresentsSession x cpu plan s) (n : IsNext s m t) (slot : ℕ) (here : slot ≡ slot_of plan m.constants.number t.number) (other : slot ≢ plan.running) where
@@ -52,6 +46,4 @@ module _ (x : Storage) (cpu : Cpu) (plan : Placement) (s : Session) (m : Session
   pub waiting_heights : (top mark : ℕ) → ((y : Storage) (p : MachineView) (st : List Activation) → Represents y cpu.core cpu.regs p → WaitsOn p slot st → (top ≡ stack_words st) × (mark ≡ mark_place st)) → AreHeights top mark t
   waiting_heights top mark tell =
       let told = tell x (machine_view plan s.jobs) stack h.holds.memory waits in
-      let fits = waiting_fits x cpu.core cpu.regs (machine_view plan s.jobs) h.holds.memory slot stack waits in
-      let high = of_frames plan m.constants.number m.progress.job slot (outer_spots plan m.constants.number m.progress.job t.critical t.parents) t.frames fits.0.some in
-      (omega (arith, told.0, high.0), told.1 ∙ high.1)
+      grind (arith, waits, of_frames)

@@ -1,5 +1,5 @@
 -- Giving arrays back writes no word but the directory's first and those of holes.
-use Rattle.std.proofs.Common.{◌≡◌, ℕ, ◌+◌, ◌<◌, ◌≤◌, ◌==◌, List, [], ◌∷◌, ◌++◌, length, Option, Some, None, refl, sym, ◌∙◌, ap, arith, inl, inr, ◌⊎◌, ⊎_elim, subst}
+use Rattle.std.proofs.Common.{◌≡◌, ℕ, ◌+◌, ◌<◌, ◌≤◌, ◌==◌, List, [], ◌∷◌, ◌++◌, length, Option, Some, refl, sym, ◌∙◌, ap, arith, inl, inr, ◌⊎◌, ⊎_elim}
 use Rattle.std.specs.List.{slice_get}
 use Rattle.std.proofs.lemmas.Bool.{cases_eq, cases_lt, eq-eqb, ne_eqb, cases_Bool, eqb-true}
 use Rattle.std.proofs.lemmas.List.{length-map}
@@ -46,10 +46,7 @@ laid_at core link high at (Area c ∷ ss) l b a e = ⊎_elim
 -- words that lie in both
 same_lie : (old new : List Tagged) (at : ℕ) (ws : List Tagged) → LieUpward old at ws → LieUpward new at ws → (i : ℕ) → at ≤ i → i < at + length ws → slice_get new i ≡ slice_get old i
 same_lie old new at [] o n i low up = absurd (omega (arith, low, up))
-same_lie old new at (w ∷ ws) o n i low up = ⊎_elim
-    (λ (e : at ≡ i). ap (slice_get new) (sym e) ∙ n.0 ∙ sym o.0 ∙ ap (slice_get old) e)
-    (λ (m : at ≡ i → ⊥). same_lie old new (at + 1) ws o.1 n.1 i (omega (arith, m, low)) (omega (arith, up)))
-    (cases_eq at i)
+same_lie old new at (w ∷ ws) o n i low up = grind (arith, same_lie old new (at + 1) ws o.1 n.1 i)
 
 first_here : (at : ℕ) (c : Info) (ss : List Span) → area_at at (Area c ∷ ss) (at + 1) ≡ Some c
 first_here at c ss = rw (eq-eqb (at + 1) (at + 1) refl) refl
@@ -61,10 +58,7 @@ later at c ss b a e = rw (ne_eqb (at + 1) b (λ q. omega (arith, q, area_at-low 
 outside_holes : (old new : List Tagged) (at : ℕ) (ss : List Span) → ((b : ℕ) (a : Info) → area_at at ss b ≡ Some a → Same old new b a) → (i : ℕ) → at ≤ i → i < end at ss
     → (slice_get new i ≡ slice_get old i) ⊎ InHole at ss i
 outside_holes old new at [] each i low up = absurd (omega (arith, low, up))
-outside_holes old new at (Hole n ∷ ss) each i low up = ⊎_elim
-    (λ (h : i < at + n). inr (inl (low, h)))
-    (λ (h : at + n ≤ i). ⊎_elim (λ e. inl e) (λ k. inr (inr k)) (outside_holes old new (at + n) ss each i h up))
-    (cases_lt i (at + n))
+outside_holes old new at (Hole n ∷ ss) each i low up = grind (arith, outside_holes old new (at + n) ss each i)
 outside_holes old new at (Area c ∷ ss) each i low up = ⊎_elim
     (λ (h : i < at + (c.words + 2)). inl (each (at + 1) c (first_here at c ss) i (omega (arith, low)) (omega (arith, h))))
     (λ (h : at + (c.words + 2) ≤ i). outside_holes old new (at + (c.words + 2)) ss (λ b a e. each b a (later at c ss b a e)) i h up)
@@ -99,8 +93,7 @@ module _ (left : List PagedObject) (x : Storage) (cpu new : Cpu) (plan : Placeme
     info_same = ap (λ (h : Location). record { kind = t.kind; words = length t.numbers; owner = t.home; kept = h.chain }) held_same
 
   words_in : (z : Storage) (core : List Tagged) (t : PagedObject) (o : Option ℕ) (first at : ℕ) → Content z core t o first → o ≡ Some at → LieUpward core at (object_words t)
-  words_in z core t None first at c e = absurd (none-some at e)
-  words_in z core t (Some k) first at c e = subst (λ (q : ℕ). LieUpward core q (object_words t)) (same_Some k at e) c.0
+  words_in z core t o first at c e = grind arith
 
   -- an area that stays
   area_same : (at : ℕ) (a : Info) → area_at y.low y.spans at ≡ Some a → Same cpu.core new.core at a

@@ -1,9 +1,9 @@
 -- A row that left a frame: the task's top frame was entered, and the job has all arrays but that frame's.
-use Rattle.std.proofs.Common.{◌≡◌, ◌≢◌, ℕ, List, [], ◌∷◌, Bool, true, false, Option, Some, None, Ok, refl, subst}
+use Rattle.std.proofs.Common.{◌≡◌, ◌≢◌, ℕ, List, [], ◌∷◌, Bool, true, false, Option, None, Ok, arith}
 use Rattle.b67_word.specs.declared.couples.Place.{Place}
-use Rattle.b67_model.specs.Common.{Answer, Word, Operand, Name, Ref, Row, Element, Original, Proc, Intrinsic, Array, Frame, Standing, Marked, Entered, Return, Task, Job, SessionJob, OperatorContext, top, End, AtCell, AtElement, AtArray, AtProc, AtIntrinsic, follow, Line, Done, Goes, Leaves, Waits, top_of, cells_of, leaves_cells, without_arrays_of, accident, evaluates, left, leaves, exit, returnable, returned, retn_word, retn}
+use Rattle.b67_model.specs.Common.{Answer, Word, Operand, Name, Ref, Row, Element, Original, Proc, Intrinsic, Array, Frame, Standing, Marked, Entered, Return, Task, Job, SessionJob, OperatorContext, top, End, follow, Line, Done, Goes, Leaves, Waits, top_of, leaves_cells, without_arrays_of, accident, evaluates, left, leaves, exit, returnable, returned, retn_word, retn}
 use Rattle.b67_model.specs.Words as Words
-use Rattle.b67_law_order.proofs.Posts.{Post, post_ok, post_err, post_any, post_then, post_at}
+use Rattle.b67_law_order.proofs.Posts.{Post, post_ok, post_err, post_any, post_then}
 use Rattle.b67_layout.specs.Meets.{here}
 use Rattle.b67_layout.proofs.Objects.{others}
 
@@ -27,18 +27,10 @@ module _ (standing : Standing) (arrays : List Array) (entered : IsEntered standi
   cells_left h cells touched e = post_then L _ _ (post_ok L _ (entered, e))
 
   accident_left : (h : OperatorContext) (cells : List Word) (back : Return) (end : End) → h.job.arrays ≡ arrays → Post L (accident h cells back end)
-  accident_left h cells back (AtProc f segment level place) e = post_then L _ _ (post_then L _ _ (post_ok L _ (entered, e)))
-  accident_left h cells back (AtCell f offset bits) e = post_err L _
-  accident_left h cells back (AtElement a index) e = post_err L _
-  accident_left h cells back (AtArray a) e = post_err L _
-  accident_left h cells back (AtIntrinsic n) e = post_err L _
+  accident_left h cells back end e = grind arith
 
   evaluates_left : (h : OperatorContext) (end : End) → h.job.arrays ≡ arrays → Post L (evaluates h end)
-  evaluates_left h (AtCell f offset bits) e = cells_left h _ None e
-  evaluates_left h (AtElement a index) e = cells_left h _ (Some a) e
-  evaluates_left h (AtProc f segment level place) e = accident_left h _ _ (AtProc f segment level place) e
-  evaluates_left h (AtArray a) e = post_err L _
-  evaluates_left h (AtIntrinsic n) e = post_err L _
+  evaluates_left h end e = grind arith
 
   returned_left : (h : OperatorContext) (w : Word) (value : Bool) → h.job.arrays ≡ arrays → Post L (returned h w value)
   returned_left h w false e = cells_left h _ None e
@@ -56,9 +48,7 @@ module _ (standing : Standing) (arrays : List Array) (entered : IsEntered standi
 leaves_left : (h : OperatorContext) (standing : Standing) (go : OperatorContext → Bool → Answer Done)
     → ((k : OperatorContext) (value : Bool) → IsEntered standing → k.job.arrays ≡ (without_arrays_of (top_of h).identity h.job).arrays → Post (Leaving standing (without_arrays_of (top_of h).identity h.job).arrays) (go k value))
     → Post (Leaving standing (without_arrays_of (top_of h).identity h.job).arrays) (leaves h standing go)
-leaves_left h Marked go each = post_err _ _
-leaves_left h (Entered level environment None) go each = post_then _ _ _ (post_ok _ _ tt)
-leaves_left h (Entered level environment (Some back)) go each = post_then _ _ _ (each (left h back) back.value (record { level = level; environment = environment; back = Some back; is = refl }) refl)
+leaves_left h standing go each = grind arith
 
 exit_left : (h : OperatorContext) → Post (Leaving (top_of h).standing (without_arrays_of (top_of h).identity h.job).arrays) (exit h)
 exit_left h = leaves_left h (top_of h).standing _ (λ k value entered e. post_then _ _ _ (post_ok _ _ (entered, e)))
@@ -81,19 +71,10 @@ pub record LeftFrame (t : Task) (old job : Job) : Type 0 where
 
 left_frame : (old job : Job) (t : Task) (fs : List Frame) (printed : List Line) (touched : Option ℕ) → t.frames ≡ fs → fs ≢ []
     → Leaving (top t.frames).standing (without_arrays_of (top t.frames).identity old).arrays (Goes job printed touched) → LeftFrame t old job
-left_frame old job t [] printed touched e some l = absurd (some refl)
-left_frame old job t (f ∷ below) printed touched e some l =
-    let P : List Frame → Type 0 = λ gs. Leaving (top gs).standing (without_arrays_of (top gs).identity old).arrays (Goes job printed touched) in
-    let r = subst P e l in
-    record { f = f; below = below; frames = e; entered = r.0; arrays = r.1 }
+left_frame old job t fs printed touched e some l = grind arith
 
 pub exit_frame : (m : SessionJob) (t : Task) (q : Place) → t.frames ≢ [] → (job : Job) (printed : List Line) (touched : Option ℕ) → exit (here m t q) ≡ Ok (Goes job printed touched) → LeftFrame t m.progress.job job
-exit_frame m t q some job printed touched is =
-    left_frame m.progress.job job t t.frames printed touched refl some
-    (post_at (Leaving (top t.frames).standing (without_arrays_of (top t.frames).identity m.progress.job).arrays) (exit (here m t q)) (Goes job printed touched) is (exit_left (here m t q)))
+exit_frame m t q some job printed touched is = grind arith
 
 pub retn_frame : (m : SessionJob) (t : Task) (q : Place) → t.frames ≢ [] → (job : Job) (printed : List Line) (touched : Option ℕ) → retn (here m t q) ≡ Ok (Goes job printed touched) → LeftFrame t m.progress.job job
-retn_frame m t q some job printed touched is =
-    left_frame m.progress.job job t t.frames printed touched refl some
-    (post_at (Leaving (top t.frames).standing (without_arrays_of (top t.frames).identity m.progress.job).arrays) (retn (here m t q)) (Goes job printed touched) is
-    (retn_word_left (here m t q) (top t.frames).standing (cells_of (here m t q))))
+retn_frame m t q some job printed touched is = grind (arith, retn_word_left)

@@ -1,6 +1,6 @@
 -- Each way in which rows are made keeps where the frames stand that others depend on, what a task shows that makes no
 -- operator, the next task's number and the numbers that are left to read.
-use Rattle.std.proofs.Common.{subst, ◌≡◌, ◌≢◌, ℕ, ◌+◌, ◌<◌, ◌≤◌, Bool, true, false, List, [], ◌∷◌, reverse, Option, Some, None, Ok, Err, refl, sym, ap, ◌∙◌, arith}
+use Rattle.std.proofs.Common.{subst, ◌≡◌, ◌≢◌, ℕ, ◌+◌, ◌<◌, ◌≤◌, Bool, true, false, List, [], ◌∷◌, reverse, Option, Some, None, Ok, refl, sym, ap, ◌∙◌, arith}
 use Rattle.std.specs.Prelude.{not, ℤ}
 use Rattle.std.proofs.lemmas.Bool.{not-true}
 use Rattle.b67_word.specs.declared.couples.Place.{Place}
@@ -8,12 +8,12 @@ use Rattle.b67_model.specs.declared.operators.Op.{Op}
 use Rattle.b67_model.specs.declared.operators.Op.TheVariants.{Valc, Namc, Lt8, Lt16, Lt48, Mpcw, Brun, Brtr, Brfl, Bset, Brst, Isol, Insr, Plain}
 use Rattle.b67_model.specs.declared.operators.Code.{Code}
 use Rattle.b67_model.specs.declared.operators.Code.TheVariants as codes
-use Rattle.b67_model.specs.Common.{Answer, ◌>>=◌, add, subt, mult, idiv, rdiv, less, greq, grtr, lseq, equl, neql, land, lor, leqv, same, chsn, lnot, bset, brst, isol, insr, Word, Operand, Name, operand, Frame, Standing, Marked, Entered, Return, Task, Job, SessionJob, OperatorContext, with_task, below_top, top, with_top_cells, End, AtCell, AtElement, AtArray, AtProc, AtIntrinsic, chase, follow, follow_reference, with_element, indexed, in_order, Line, Done, Goes, Leaves, Waits, top_of, cells_of, result, with_cells, leaves_cells, pushes, is_critical, without_arrays_of, accident, needs_level, back_to, evaluates, enters, left, leaves, returnable, returned, retn_word, CellRow, on_one, on_two, dlet, exch, dupl, on_cells, branches, branch_if, stff, load_at, load, indx, nxlv, store_at, store, entr_at, entr_with, entr, plain, row, from_frame, called_at, called_by, called_on, called}
+use Rattle.b67_model.specs.Common.{Answer, ◌>>=◌, add, subt, mult, idiv, rdiv, less, greq, grtr, lseq, equl, neql, land, lor, leqv, same, chsn, lnot, bset, brst, isol, insr, Word, Operand, Name, operand, Frame, Standing, Marked, Entered, Return, Task, Job, SessionJob, OperatorContext, with_task, below_top, top, with_top_cells, End, AtCell, AtElement, AtArray, AtProc, AtIntrinsic, chase, follow, follow_reference, with_element, Line, Done, Goes, Leaves, Waits, top_of, cells_of, result, with_cells, leaves_cells, pushes, is_critical, without_arrays_of, accident, needs_level, back_to, evaluates, enters, left, leaves, returnable, returned, retn_word, CellRow, on_one, on_two, dlet, exch, dupl, on_cells, branches, branch_if, stff, load_at, load, indx, nxlv, store_at, store, entr_at, entr_with, entr, plain, row, from_frame, called_at, called_by, called_on, called}
 use Rattle.b67_model.specs.Keyed.{keyed, change_keyed}
 use Rattle.b67_law_order.proofs.Posts.{Post, post_ok, post_err, post_any, post_then, post_needs, post_at}
 use Rattle.b67_law_order.specs.Profiles.{Profile, profile}
 use Rattle.b67_layout.specs.Meets.{here}
-use Rattle.b67_session.proofs.Places.{places, top_from, push_from, drop_from, enter_from, Same, AllSame, all_same, put, store_same}
+use Rattle.b67_session.proofs.Places.{places, top_from, drop_from, enter_from, Same, AllSame, all_same, put, store_same}
 
 -- what a row leaves of a job whose tasks, next number and numbers were these: others depend on frames of D
 abbrev pub Keeps : (D : ℕ → Type 0) (first : List Task) (n next : ℕ) (numbers : List ℤ) → Done → Type 0
@@ -66,10 +66,7 @@ module _ (D : ℕ → Type 0) (first : List Task) (own : Task) (known : keyed (�
   more job s = let up = s.up in record { tasks = s.tasks; next = s.next; numbers = s.numbers; up = omega arith }
 
   pushed : (job : Job) (u : Task) (g : Frame) → g.identity ≡ job.next_frame → JobSame job → OwnSame u → OwnSame (record u { frames = g ∷ u.frames })
-  pushed job u g is s o = record {
-    profile = o.profile;
-    from = λ c d. let l = low c d in let up = s.up in ap places (push_from c g u.frames (λ e. omega arith)) ∙ o.from c d;
-  }
+  pushed job u g is s o = grind arith
 
   cells_good : (h : OperatorContext) (cells : List Word) (touched : Option ℕ) → Source h → Good (leaves_cells h cells touched)
   cells_good h cells touched s = result_good h h.job (with_cells h cells) [] touched s.job (top_same h.task cells s.task)
@@ -152,18 +149,13 @@ module _ (D : ℕ → Type 0) (first : List Task) (own : Task) (known : keyed (�
   load_at_good h rest (AtIntrinsic n) s = post_err K _
 
   load_good : (h : OperatorContext) (cells : List Word) → Source h → Good (load h cells)
-  load_good h [] s = post_err K _
-  load_good h (w ∷ rest) s = post_any K (follow h w) _ (λ end. load_at_good h rest end s)
+  load_good h cells s = grind (arith, load_at_good)
 
   indx_good : (h : OperatorContext) (cells : List Word) → Source h → Good (indx h cells)
-  indx_good h [] s = post_err K _
-  indx_good h (b ∷ []) s = post_err K _
-  indx_good h (b ∷ a ∷ rest) s = post_any K (indexed h (in_order b a).0 (in_order b a).1) _ (λ at. cells_good h _ None s)
+  indx_good h cells s = grind (arith, cells_good)
 
   nxlv_good : (h : OperatorContext) (cells : List Word) → Source h → Good (nxlv h cells)
-  nxlv_good h [] s = post_err K _
-  nxlv_good h (b ∷ []) s = post_err K _
-  nxlv_good h (b ∷ a ∷ rest) s = post_any K (indexed h (in_order b a).0 (in_order b a).1) _ (λ at. cells_good h _ (Some at.0) s)
+  nxlv_good h cells s = grind (arith, cells_good)
 
   store_at_good : (h : OperatorContext) (rest kept : List Word) (bits : ℕ) (end : End) → Source h → Good (store_at h rest kept bits end)
   store_at_good h rest kept bits (AtCell f offset old) s =
@@ -174,9 +166,7 @@ module _ (D : ℕ → Type 0) (first : List Task) (own : Task) (known : keyed (�
   store_at_good h rest kept bits (AtIntrinsic n) s = post_err K _
 
   store_good : (keeps : Bool) (h : OperatorContext) (cells : List Word) → Source h → Good (store keeps h cells)
-  store_good keeps h [] s = post_err K _
-  store_good keeps h (b ∷ []) s = post_err K _
-  store_good keeps h (b ∷ a ∷ rest) s = post_any K (operand (in_order b a).1) _ (λ bits. post_any K (follow h (in_order b a).0) _ (λ end. store_at_good h rest _ bits end s))
+  store_good keeps h cells s = grind (arith, store_at_good)
 
   entr_at_good : (h : OperatorContext) (arguments : List Word) (end : End) → h.task.frames ≢ [] → Source h → called_at (Ok end) ≡ None → Good (entr_at h arguments end)
   entr_at_good h arguments (AtProc f segment level place) some s e = enters_good h arguments (AtProc f segment level place) some s
@@ -186,16 +176,14 @@ module _ (D : ℕ → Type 0) (first : List Task) (own : Task) (known : keyed (�
   entr_at_good h arguments (AtIntrinsic n) some s e = absurd cc
 
   entr_end : (h : OperatorContext) (arguments : List Word) (end : Answer End) → h.task.frames ≢ [] → Source h → called_at end ≡ None → Good (end >>= entr_at h arguments)
-  entr_end h arguments (Ok end) some s e = entr_at_good h arguments end some s e
-  entr_end h arguments (Err fault) some s e = post_err K _
+  entr_end h arguments end some s e = grind (arith, entr_at_good)
 
   entr_with_good : (h : OperatorContext) (cells : List Word) → h.task.frames ≢ [] → Source h → called_by h cells ≡ None → Good (entr_with h cells)
   entr_with_good h [] some s e = post_err K _
   entr_with_good h (r ∷ arguments) some s e = entr_end h arguments (follow_reference h r) some s e
 
   entr_good : (h : OperatorContext) (standing : Standing) → h.task.frames ≢ [] → Source h → called_on h standing ≡ None → Good (entr h standing)
-  entr_good h Marked some s e = entr_with_good h (reverse (cells_of h)) some s e
-  entr_good h (Entered level environment back) some s e = post_err K _
+  entr_good h standing some s e = grind (arith, entr_with_good)
 
   plain_good : (code : Code) (h : OperatorContext) → h.task.frames ≢ [] → Apart h → Source h → called (Plain code) h ≡ None → Good (plain code h)
   plain_good codes.Exit h some apart s e = leaves_good h (top_of h).standing _ apart s (λ k value from. result_good k k.job k.task [] None from.job from.task)

@@ -1,5 +1,5 @@
 -- The operators that leave an activation record.
-use Rattle.std.proofs.Common.{◌≡◌, ◌≢◌, ℕ, List, [], true, Option, Some, None, Ok, Err, refl, sym, ◌∙◌, ap, subst}
+use Rattle.std.proofs.Common.{◌≡◌, ◌≢◌, ℕ, List, [], true, Option, Some, None, Ok, Err, refl, sym, ◌∙◌, ap, subst, arith}
 use Rattle.b67_word.specs.declared.couples.Place.{Place}
 use Rattle.b67_model.specs.declared.operators.Op.{Op}
 use Rattle.b67_model.specs.declared.operators.Op.TheVariants.{Plain}
@@ -13,7 +13,7 @@ use Rattle.b67_layout.specs.Common.{Placement, here, IsMade}
 use Rattle.b67_layout_step.specs.Keeping.{is_leaving}
 use Rattle.b67_exec_cells.specs.Running.{code_area}
 use Rattle.b67_exec_cells.specs.Called.{called_in, called_by_reading}
-use Rattle.b67_exec.specs.Operators.{CallsOrMeets, OperatorAt, OperatorMeets, leaves_record}
+use Rattle.b67_exec.specs.Operators.{OperatorAt, OperatorMeets, leaves_record}
 use Rattle.b67_session.proofs.Inversion.{LeftFrame, exit_frame, retn_frame}
 use Rattle.b67_session.proofs.Read.{step_read}
 
@@ -31,9 +31,7 @@ pub retn_leaves : LeavesFrame (Plain Retn)
 retn_leaves = record { last = refl; fits = λ h. tt; calls = λ h. refl; frame = retn_frame }
 
 leaving : (op : Op) → is_leaving op ≡ true → LeavesFrame op
-leaving (Plain Exit) e = exit_leaves
-leaving (Plain Retn) e = retn_leaves
-leaving _ e = absurd cc
+leaving op e = grind (arith, exit_leaves, retn_leaves)
 
 -- the operator that a task's step is left its record
 pub record LeftBy (x : Storage) (plan : Placement) (s : Session) (m : SessionJob) (t : Task) (old new : Cpu) : Type 0 where
@@ -47,14 +45,8 @@ pub record LeftBy (x : Storage) (plan : Placement) (s : Session) (m : SessionJob
 module _ (x : Storage) (plan : Placement) (s : Session) (m : SessionJob) (t : Task) (old new : Cpu) where
   was_made : (area calls : Option ℕ) → code_area x plan m t ≡ area → called_in m t ≡ calls → OperatorMeets x plan s m t answers.Done old new → IsMade x plan s m old new (step m.constants m.progress.job t)
   was_made None calls a c h = let (e, same) = subst (OperatorAt x plan s m t answers.Done old new) a h in absurd (let z : ⊥ = cc in z)
-  was_made (Some at) (Some n) a c h =
-      let k : CallsOrMeets x plan s m answers.Done old new (called_in m t) (step m.constants m.progress.job t) = subst (OperatorAt x plan s m t answers.Done old new) a h in
-      let P : Option ℕ → Type 0 = λ o. CallsOrMeets x plan s m answers.Done old new o (step m.constants m.progress.job t) in
-      let (e, same) = subst P c k in absurd (let z : ⊥ = cc in z)
-  was_made (Some at) None a c h =
-      let k : CallsOrMeets x plan s m answers.Done old new (called_in m t) (step m.constants m.progress.job t) = subst (OperatorAt x plan s m t answers.Done old new) a h in
-      let P : Option ℕ → Type 0 = λ o. CallsOrMeets x plan s m answers.Done old new o (step m.constants m.progress.job t) in
-      subst P c k
+  was_made (Some at) (Some n) a c h = grind arith
+  was_made (Some at) None a c h = grind arith
 
   by_reading : (read : Reading) → read ≡ reading_of m.constants t → leaves_record read ≡ true → IsMade x plan s m old new (step m.constants m.progress.job t) → LeftBy x plan s m t old new
   by_reading (Err why) is e made = absurd cc

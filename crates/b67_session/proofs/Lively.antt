@@ -1,10 +1,10 @@
 -- After each operator of a ready task that goes on, as many tasks live as before, or one more, and a task is ready.
-use Rattle.std.proofs.Common.{◌≡◌, ℕ, ◌+◌, ◌≤◌, true, ℤ, pos, negsuc, List, [], ◌∷◌, length, map, reverse, replicate, Option, Some, None, Ok, Err, refl, ap, ◌∙◌, inl, inr, arith}
+use Rattle.std.proofs.Common.{◌≡◌, ℕ, ◌+◌, ◌≤◌, true, ℤ, pos, negsuc, List, [], ◌∷◌, length, map, reverse, replicate, Option, Some, None, Ok, refl, ap, ◌∙◌, inl, inr, arith}
 use Rattle.std.specs.Prelude.{◌==◌, nat_lt, nat_le, not}
 use Rattle.std.specs.List.{list_any}
 use Rattle.std.proofs.lemmas.Bool.Decides.{eqb_tells}
 use Rattle.std.proofs.lemmas.List.{length-map}
-use Rattle.std.proofs.lemmas.Option.{same_Some, none-some}
+use Rattle.std.proofs.lemmas.Option.{none-some}
 use Rattle.b67_lemmas.specs.Lists.{Has}
 use Rattle.b67_lemmas.proofs.Keyed.{changed_there}
 use Rattle.b67_lemmas.proofs.Members.{has_map, keyed_has, length_change}
@@ -64,8 +64,7 @@ module _ (before : List Task) where
   answers_good h job words printed touched live found ready few = post_then Keeps _ _ (post_then Keeps _ _ (post_ok Keeps _ (put (answered h words) live job.tasks found ready few)))
 
   same_good : (h : OperatorContext) (job : Job) (words : List Word) (printed : List Line) (touched : Option ℕ) → Source h → job.tasks ≡ h.job.tasks → Good (answers h job words printed touched)
-  same_good h job words printed touched s same =
-      answers_good h job words printed touched s.live (ap (λ (ts : List Task). keyed number_of h.task.number ts) same ∙ s.found) s.ready (omega (arith, s.few, ap (λ (ts : List Task). length ts) same))
+  same_good h job words printed touched s same = grind (arith, answers_good)
 
   arraydec_good : (h : OperatorContext) (arguments : List Word) → Source h → Good (arraydec h arguments)
   arraydec_good h [] s = post_err Keeps _
@@ -115,9 +114,7 @@ module _ (before : List Task) where
   awaits_good h (negsuc n) s = same_good h h.job [] [] None s refl
 
   await_good : (h : OperatorContext) (arguments : List Word) → Source h → Good (await h arguments)
-  await_good h [] s = post_err Keeps _
-  await_good h (w ∷ []) s = post_any Keeps (whole w) _ (λ n. awaits_good h n s)
-  await_good h (w ∷ v ∷ more) s = post_err Keeps _
+  await_good h arguments s = grind (arith, awaits_good)
 
   status_good : (h : OperatorContext) (arguments : List Word) → Source h → Good (status h arguments)
   status_good h [] s = post_err Keeps _
@@ -190,15 +187,10 @@ module _ (before : List Task) where
   -- ---- the operators that call one
 
   at_good : (h : OperatorContext) (arguments : List Word) (end : End) (n : ℕ) → called_at (Ok end) ≡ Some n → Source h → Good (entr_at h arguments end)
-  at_good h arguments (AtIntrinsic k) n e s = intrinsic_good k h arguments s
-  at_good h arguments (AtCell f offset bits) n e s = absurd (none-some n e)
-  at_good h arguments (AtElement a index) n e s = absurd (none-some n e)
-  at_good h arguments (AtArray a) n e s = absurd (none-some n e)
-  at_good h arguments (AtProc f segment level place) n e s = absurd (none-some n e)
+  at_good h arguments end n e s = grind (arith, intrinsic_good)
 
   end_good : (h : OperatorContext) (arguments : List Word) (end : Answer End) (n : ℕ) → called_at end ≡ Some n → Source h → Good (end >>= entr_at h arguments)
-  end_good h arguments (Ok end) n e s = at_good h arguments end n e s
-  end_good h arguments (Err fault) n e s = absurd (none-some n e)
+  end_good h arguments end n e s = grind (arith, at_good)
 
   with_good_call : (h : OperatorContext) (cells : List Word) (n : ℕ) → called_by h cells ≡ Some n → Source h → Good (entr_with h cells)
   with_good_call h [] n e s = absurd (none-some n e)
@@ -221,9 +213,7 @@ twin_task (x ∷ ts) [] t e h = absurd cc
 twin_task (x ∷ ts) (u ∷ us) t e (inl same) =
     let first : List Profile → Profile = λ ps. elim ps [ [] ↦ profile x | p ∷ more ↦ p ] in
     (u, inl refl, ap first e ∙ ap profile same)
-twin_task (x ∷ ts) (u ∷ us) t e (inr later) =
-    let rest : List Profile → List Profile = λ ps. elim ps [ [] ↦ [] | p ∷ more ↦ more ] in
-    let k = twin_task ts us t (ap rest e) later in (k.0, inr k.1, k.2)
+twin_task (x ∷ ts) (u ∷ us) t e (inr later) = grind (arith, twin_task ts us t)
 
 profiles_stay : (ts us : List Task) (t : Task) → profiles us ≡ profiles ts → Has ts t → t.condition ≡ Ready → Stays ts us
 profiles_stay ts us t e among ready =
@@ -237,10 +227,7 @@ profiles_stay ts us t e among ready =
 
 profile_found : (n : ℕ) (ts : List Task) (t : Task) → keyed number_of n ts ≡ Some t → keyed (λ (p : Profile). p.number) n (profiles ts) ≡ Some (profile t)
 profile_found n [] t e = absurd (none-some t e)
-profile_found n (u ∷ ts) t e = elim (eqb_tells u.number n) [
-  | inl k ↦ let same : u ≡ t = same_Some u t (rw k.0 at e) in rw k.0 (ap (λ (v : Task). Some (profile v)) same)
-  | inr k ↦ let later : keyed number_of n ts ≡ Some t = rw k.0 at e in rw k.0 (profile_found n ts t later)
-]
+profile_found n (u ∷ ts) t e = grind (arith, profile_found n ts t)
 
 -- each operator of a ready task
 pub rows_stay : (op : Op) (m : SessionJob) (t : Task) (q : Place) → keyed number_of t.number m.progress.job.tasks ≡ Some t → t.condition ≡ Ready

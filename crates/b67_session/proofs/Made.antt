@@ -1,15 +1,13 @@
 -- An operator that was made and counted: a step whose first part was made.
-use Rattle.std.proofs.Common.{◌≡◌, ℕ, ◌+◌, ◌-◌, ◌≤◌, Bool, false, not, max, List, length, map, Option, Some, Ok, refl, sym, ap, ◌∙◌, subst, arith}
+use Rattle.std.proofs.Common.{◌≡◌, ℕ, ◌+◌, ◌-◌, ◌≤◌, max, List, length, map, Option, Some, Ok, refl, sym, ap, ◌∙◌, subst, arith}
 use Rattle.b67_lemmas.specs.Lists.{Has}
 use Rattle.b67_lemmas.proofs.Members.{all_in, total_has}
 use Rattle.b67_lemmas.proofs.Sums.{sum_total}
-use Rattle.b67_model.specs.Common.{Answer, JobMoment, moment_with, Settled, Stepped, is_ready, deadlocked, unsettled, ends_each_if, IsSegment, JobInOrder, TasksInOrder, IsInOrderButPlaces, step, StepResult, number_of, of_job, live_tasks, with_moment, Session, Choice, Condition, Ready, Task, Job, SessionJob, Line, Done, Goes}
+use Rattle.b67_model.specs.Common.{JobMoment, moment_with, Settled, Stepped, deadlocked, unsettled, IsSegment, JobInOrder, TasksInOrder, IsInOrderButPlaces, step, StepResult, number_of, of_job, live_tasks, with_moment, Session, Choice, Ready, Task, Job, SessionJob, Line, Goes}
 use Rattle.b67_model.specs.Endings.{goes_on}
-use Rattle.b67_word.specs.declared.faults.Ending.TheVariants.{Deadlock}
 use Rattle.b67_model.specs.Keyed.{keyed}
 use Rattle.b67_law_order.specs.Ends.{StepsFrom}
 use Rattle.b67_law_order.proofs.Numbered.{tasks_of}
-use Rattle.b67_law_order.specs.Keeping.{KeepsOrder}
 use Rattle.b67_law_order.proofs.Segments.{rows_keep_order_but_places}
 use Rattle.b67_law_sessions.specs.Orders.{IsInOrderButLimit}
 use Rattle.b67_law_sessions.specs.Turns.{IsNext, part_of}
@@ -32,10 +30,7 @@ use Rattle.b67_session.proofs.Next.{in_session, task_found}
 
 -- where a task is ready there is no deadlock
 no_deadlock : (z : Settled) (u : Task) → Has z.job.tasks u → u.condition ≡ Ready → deadlocked z ≡ z
-no_deadlock z u here ready =
-    let waits : Task → Bool = λ t. not (is_ready t) in
-    let test : waits u ≡ false = ap (λ (c : Condition). waits (record u { condition = c })) ready in
-    ap (λ (b : Bool). ends_each_if b Deadlock z) (one_not waits z.job.tasks u here test)
+no_deadlock z u here ready = grind (arith, one_not)
 
 -- One operator more of a session whose peak counts the tasks that it started: its job's step, which had `alive` tasks live
 -- before the endings
@@ -86,9 +81,7 @@ module _ (s : Session) (m : SessionJob) (t : Task) (c : Chosen) (o : IsInOrderBu
   from = record { unchanging = order.unchanging; order = order.tasks; live = task_found s m t n; ready = ready; few = omega (arith, order.counts.next, order.counts.within, order.unchanging.limit) }
 
   job_order : TasksInOrder (IsSegment m.constants) m.constants job
-  job_order =
-      let K : Answer Done → Type 0 = KeepsOrder (IsSegment m.constants) m.constants m.progress.job t in
-      let there : K (Ok (Goes job printed touched)) = subst K is (rows_keep_order_but_places m.constants m.progress.job t from) in there
+  job_order = grind (arith, rows_keep_order_but_places, from)
 
   -- a task goes on as ready as it was
   pub open_job : deadlocked (unsettled job) ≡ unsettled job

@@ -1,5 +1,5 @@
 -- The task that makes the next step: its row, its need, and the same task over other numbers.
-use Rattle.std.proofs.Common.{◌≡◌, ℕ, ◌≤◌, List, map, Option, Some, refl, sym, ap, ◌∙◌, subst}
+use Rattle.std.proofs.Common.{◌≡◌, ℕ, ◌≤◌, List, map, Option, Some, refl, sym, ap, ◌∙◌, subst, arith}
 use Rattle.std.specs.Prelude.{option_map}
 use Rattle.std.specs.List.{slice_get}
 use Rattle.std.proofs.lemmas.Option.{same_Some}
@@ -73,8 +73,7 @@ module _ (s : Session) (m : SessionJob) (t : Task) (n : IsNext s m t) where
       let j = all_in (λ (z : SessionJob). JobInOrder (IsSegment z.constants) z.constants z.progress) s.jobs m o.jobs in_session in
       let own : keyed (λ (v : Task). v.number) n.chosen.who.task m.progress.job.tasks ≡ Some u =
       subst (λ (k : ℕ). keyed (λ (v : Task). v.number) k m.progress.job.tasks ≡ Some u) number (keyed_falls (λ (v : Task). v.number) m.progress.job.next_task m.progress.job.tasks u j.tasks.numbers here) in
-      let task : u ≡ t = same_Some u t (sym own ∙ n.task) in
-      subst (λ (v : Task). TaskShows plan m v (task_row r)) task (subst (λ (z : SessionJob). TaskShows plan z u (task_row r)) member w)
+      grind (arith, same_Some)
 
   pub chose : (plan : Placement) (tasks : Tasks) (c : Chosen) → IsInOrderButPlaces s → TasksShow plan s tasks → n.chosen ≡ choice_of c → IsReadyAt tasks.rows.items c.row (choice_of c).who → Chose plan tasks c
   chose plan tasks c o shows same a = record { row = a.row; at = a.at; shows = chose_row plan tasks c.row a.row o shows a.at (a.is ∙ ap (λ (z : Choice). z.who) (sym same)) }
@@ -99,10 +98,4 @@ next_other plan s m y t jobs fit all runs runs' n =
 
 -- one task makes the next step
 pub as_next : (s : Session) (m y : SessionJob) (t u : Task) (P : SessionJob → Task → Type 0) → IsNext s y u → IsNext s m t → P y u → P m t
-as_next s m y t u P a b p =
-    let chosen : a.chosen ≡ b.chosen = same_Some a.chosen b.chosen (sym a.is ∙ b.is) in
-    let member : y ≡ m = same_Some y m (sym (subst (λ (z : Choice). keyed number_of z.who.job s.jobs ≡ Some y) chosen a.member) ∙ b.member) in
-    let own : keyed (λ (v : Task). v.number) b.chosen.who.task y.progress.job.tasks ≡ Some u = subst (λ (z : Choice). keyed (λ (v : Task). v.number) z.who.task y.progress.job.tasks ≡ Some u) chosen a.task in
-    let there : keyed (λ (v : Task). v.number) b.chosen.who.task m.progress.job.tasks ≡ Some u = subst (λ (z : SessionJob). keyed (λ (v : Task). v.number) b.chosen.who.task z.progress.job.tasks ≡ Some u) member own in
-    let task : u ≡ t = same_Some u t (sym there ∙ b.task) in
-    subst (λ (v : Task). P m v) task (subst (λ (z : SessionJob). P z u) member p)
+as_next s m y t u P a b p = grind arith

@@ -26,23 +26,14 @@ use Rattle.b67_session.proofs.SameTask.{going_next, none_switches, turn_is}
 
 -- what is sought of a session by itself is another kind than the deepest
 pub sought_other : (what : Sought) (places : List CodePlace) (s : Session) → IsSought what places s → what ≢ sought.Deepest
-sought_other sought.Place places s is e = let z : ⊥ = cc in z
-sought_other sought.Switch places s is e = let z : ⊥ = cc in z
-sought_other (sought.Within job number upto) places s is e = let z : ⊥ = cc in z
-sought_other sought.Deepest places s is e = is
+sought_other what places s is e = grind arith
 
 -- of the other kinds it holds of the session after so many steps
 pub holds_sought : (what : Sought) (places : List CodePlace) (looked : ℕ → Type 0) (s : Session) (n : ℕ) → IsSought what places (after n s) → HoldsAmong what places looked s n
-holds_sought sought.Place places looked s n is = is
-holds_sought sought.Switch places looked s n is = is
-holds_sought (sought.Within job number upto) places looked s n is = is
-holds_sought sought.Deepest places looked s n is = absurd is
+holds_sought what places looked s n is = grind arith
 
 pub sought_held : (what : Sought) (places : List CodePlace) (looked : ℕ → Type 0) (s : Session) (n : ℕ) → what ≢ sought.Deepest → HoldsAmong what places looked s n → IsSought what places (after n s)
-sought_held sought.Place places looked s n other is = is
-sought_held sought.Switch places looked s n other is = is
-sought_held (sought.Within job number upto) places looked s n other is = is
-sought_held sought.Deepest places looked s n other is = absurd (other refl)
+sought_held what places looked s n other is = grind arith
 
 -- it holds too where the same counts are looked at
 pub holds_as : (what : Sought) (places : List CodePlace) (A B : ℕ → Type 0) (s : Session) (n : ℕ) → ((k : ℕ) → B k → A k) → HoldsAmong what places A s n → HoldsAmong what places B s n
@@ -65,10 +56,7 @@ none_noted what from s = record { deepest = λ e k m t up low n. omega (arith, l
 
 -- below the first count that is looked at nothing is
 pub none_further : (what : Sought) (from at upto : ℕ) (s : Session) (best : Option Depth) → upto ≤ from → at ≤ upto → HasNoted what from at s best → HasNoted what from upto s best
-none_further what from at upto s best low on h = record { deepest = λ e. by best (h.deepest e); other = h.other } where
-  by : (b : Option Depth) → DeepestSoFar from at s b → DeepestSoFar from upto s b
-  by None none = λ k m t up less n. omega (arith, up, less, low)
-  by (Some d) x = absurd (omega (arith, x.later, x.before, low, on))
+none_further what from at upto s best low on h = grind arith
 
 -- nor by a search for anything else
 pub other_noted : (what : Sought) (from at upto : ℕ) (s : Session) (best : Option Depth) → what ≢ sought.Deepest → HasNoted what from at s best → HasNoted what from upto s best
@@ -154,13 +142,7 @@ passes_then what places from at mid upto start a b c x y = record {
 
 -- one count more
 pub passes_one : (what : Sought) (places : List CodePlace) (from made : ℕ) (start s : Session) (a b : Option Depth) → after made start ≡ s → (from ≤ made → IsSought what places s → ⊥) → (HasNoted what from made start a → HasNoted what from (made + 1) start b) → PassesBy what places from made (made + 1) start a b
-passes_one what places from made start s a b came other noted = record {
-  none = λ j up on low is.
-      let at : j ≡ made = omega (arith, on, low) in
-      let later : from ≤ made = omega (arith, at, up) in
-      other later (subst (IsSought what places) (ap (λ (i : ℕ). after i start) at ∙ came) is);
-  noted = noted;
-}
+passes_one what places from made start s a b came other noted = grind arith
 
 -- the last task makes one operator more in its turn, of which nothing is sought
 pub passes_operator : (told : Option (List (List ℕ))) (what : Sought) (places : List CodePlace) (from made : ℕ) (start s : Session) (mid new : Machine) (h : StandsAt told mid s) → after made start ≡ s → 1 ≤ s.turn → from ≤ made

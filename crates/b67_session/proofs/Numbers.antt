@@ -1,10 +1,9 @@
 -- The core that a step needs, where its code or the array that it touches is wanted.
-use Rattle.std.proofs.Common.{◌≡◌, ◌≢◌, ℕ, ◌+◌, ◌*◌, ◌<◌, ◌≤◌, cond, Bool, ⊎_elim, List, length, Option, Some, None, unwrap_or, refl, sym, ◌∙◌, ap, arith, subst}
+use Rattle.std.proofs.Common.{◌≡◌, ◌≢◌, ℕ, ◌+◌, ◌*◌, ◌<◌, ◌≤◌, ⊎_elim, List, length, Option, Some, None, unwrap_or, refl, sym, ◌∙◌, ap, arith, subst}
 use Rattle.std.specs.Prelude.{max}
-use Rattle.std.proofs.lemmas.Bool.{lt-ltb, le-ltb, cases_lt}
 use Rattle.b67_area.proofs.Laws.{area_inside}
 use Rattle.b67_model.specs.Keyed.{keyed}
-use Rattle.b67_model.specs.Common.{Array, Task, Job, SessionJob, no_array, array, fixed, touched_of, started_by, area_of, need, code_of, step, live_tasks, Session, ArrayInOrder}
+use Rattle.b67_model.specs.Common.{Array, Task, Job, SessionJob, no_array, array, fixed, touched_of, started_by, need, code_of, step, live_tasks, Session, ArrayInOrder}
 use Rattle.b67_layout.specs.Common.{IsInOrderButCounts, Placement, IsRunning}
 use Rattle.b67_stack.specs.declared.What.{What}
 use Rattle.b67_stack.specs.declared.What.TheVariants as what
@@ -38,31 +37,16 @@ module _ (core : ℕ) (s : Session) (m : SessionJob) (t : Task) (low : live_task
 
   -- the code isn't there
   pub need_code : core < need_with s m t 0 0 → need core s m t ≡ need_with s m t 0 0
-  need_code above =
-      let under : core < base = omega (arith, above, base_is) in
-      let F : ℕ = fixed s.jobs + max s.peak (live_tasks s.jobs + started_by m.progress.job (step m.constants m.progress.job t)) * m.constants.stack_size + (length (code_of m.constants t.segment) + 2)
-      + area_of m.progress.job (touched_of m.constants m.progress.job t (step m.constants m.progress.job t)) in
-      ap (λ (b : Bool). cond b base F) (lt-ltb core base under) ∙ base_is
+  need_code above = grind arith
 
   -- the code is there, and an array is touched
   pub need_array : (a : ℕ) → need_with s m t 0 0 ≤ core → started_by m.progress.job (step m.constants m.progress.job t) ≡ 0 → touched_of m.constants m.progress.job t (step m.constants m.progress.job t) ≡ Some a
       → need core s m t ≡ need_with s m t 0 0 + (length (array m.progress.job a).numbers + 2)
-  need_array a room none touched =
-      let over : base ≤ core = omega (arith, room, base_is) in
-      let n = started_by m.progress.job (step m.constants m.progress.job t) in
-      let area = area_of m.progress.job (touched_of m.constants m.progress.job t (step m.constants m.progress.job t)) in
-      let F : ℕ = fixed s.jobs + max s.peak (live_tasks s.jobs + n) * m.constants.stack_size + (length (code_of m.constants t.segment) + 2) + area in
-      ap (λ (b : Bool). cond b base F) (le-ltb core base over)
-      ∙ whole_is n area none
-      ∙ ap (λ (k : ℕ). k + area) base_is
-      ∙ ap (λ (o : Option ℕ). need_with s m t 0 0 + area_of m.progress.job o) touched
+  need_array a room none touched = grind arith
 
   -- core has room for the code where it has for the step
   pub code_of_step : need core s m t ≤ core → need_with s m t 0 0 ≤ core
-  code_of_step fits = ⊎_elim
-      (λ (above : core < need_with s m t 0 0). let is = need_code above in absurd (omega (arith, above, is, fits)))
-      (λ (under : need_with s m t 0 0 ≤ core). under)
-      (cases_lt core (need_with s m t 0 0))
+  code_of_step fits = grind arith
 
 -- and where it has for an array beside it
 pub code_beside : (core : ℕ) (s : Session) (m : SessionJob) (t : Task) (words : ℕ) → need_with s m t 0 words ≤ core → need_with s m t 0 0 ≤ core
@@ -76,8 +60,7 @@ array_is job a e = ap (λ (o : Option Array). unwrap_or o no_array) e
 pub same_array : (plan : Placement) (s : Session) (m : SessionJob) (t : Task) → IsInOrderButCounts s → IsRunning plan s.jobs m t → (a b : Array) → Has m.progress.job.arrays a → Has m.progress.job.arrays b → a.identity ≡ b.identity → length a.numbers ≡ length b.numbers
 same_array plan s m t o runs a b there here same =
     let order = (running_in_order plan s m t o runs).0.tasks in
-    let by_name : (z : Array) → Has m.progress.job.arrays z → array m.progress.job z.identity ≡ z = λ z among. array_is m.progress.job z (keyed_falls (λ (y : Array). y.identity) m.progress.job.next_array m.progress.job.arrays z order.names among) in
-    ap (λ (z : Array). length z.numbers) (sym (by_name a there) ∙ ap (array m.progress.job) same ∙ by_name b here)
+    grind (arith, keyed_falls)
 
 module _ (x : Storage) (told : Option (List (List ℕ))) (k : Machine) (plan : Placement) (s : Session) (m : SessionJob) (t : Task) (o : IsInOrderButCounts s) (h : MachineRepresents x told k plan s) (runs : IsRunning plan s.jobs m t) where
   -- the running segment's area lies in core, behind the stacks
@@ -88,8 +71,7 @@ module _ (x : Storage) (told : Option (List (List ℕ))) (k : Machine) (plan : P
       let low = (area_inside k.cpu.core x.low x.spans at (info_of x owned.0) h.session.holds.memory.directory owned.3).0 in
       let high = area-inside x k.cpu plan s m t o h.session runs at is in
       let need_is = need_above_low x told k plan s m t o h runs 0 in
-      let none : array_area 0 ≡ 0 = refl in
-      omega (arith, low, high, need_is, none, h.storage.low)
+      grind arith
 
   -- the need of a step whose segment is there, and whose array is wanted
   array_need : (home words : ℕ) → IsWanted x plan m t (what.Array home) words → IsWantedByStep plan m t (what.Array home) words → need (length k.cpu.core) s m t ≡ need_with s m t 0 words
@@ -107,11 +89,7 @@ module _ (x : Storage) (told : Option (List (List ℕ))) (k : Machine) (plan : P
 
   -- what is wanted has the number of the step's need
   pub need_of : (found : What) (words : ℕ) → IsWanted x plan m t found words → IsWantedByStep plan m t found words → length k.cpu.core < need_with s m t 0 words → need (length k.cpu.core) s m t ≡ need_with s m t 0 words
-  need_of (what.Code displacement) words wanted touched above =
-      let W : ℕ → Type 0 = λ n. length k.cpu.core < need_with s m t 0 n in
-      let code : length k.cpu.core < need_with s m t 0 0 = subst W wanted.2 above in
-      need_code (length k.cpu.core) s m t o.peak_low code ∙ ap (need_with s m t 0) (sym wanted.2)
-  need_of (what.Array home) words wanted touched above = array_need home words wanted touched
+  need_of found words wanted touched above = grind (arith, array_need)
 
   -- core has room for the step where it has for the array that is wanted
   pub need_fits : (home words : ℕ) → IsWanted x plan m t (what.Array home) words → IsWantedByStep plan m t (what.Array home) words → need_with s m t 0 words ≤ length k.cpu.core → need (length k.cpu.core) s m t ≤ length k.cpu.core

@@ -1,5 +1,5 @@
 -- One step more of a run, as the device then tells it.
-use Rattle.std.proofs.Common.{◌≡◌, ◌≢◌, ◌≤◌, ℕ, ◌+◌, List, length, Option, Some, None, Result, Ok, Err, sym, ap, ◌∙◌, subst, arith}
+use Rattle.std.proofs.Common.{◌≡◌, ◌≢◌, ◌≤◌, ℕ, ◌+◌, List, Option, Some, None, Result, Ok, Err, sym, ap, ◌∙◌, subst, arith}
 use Rattle.b67_model.specs.Common.{Session, next, after}
 use Rattle.b67_law_sessions.proofs.TurnRuns.{came-more}
 use Rattle.b67_layout_storage.specs.Machine.{Says, DeviceAfterCalls, content_after}
@@ -51,5 +51,4 @@ module _ {D K : Type 0} (holds : D → Option (List (List ℕ))) (size calls fau
   pub none_made : (stop : Stop) → answered ≡ Err stop → stop ≢ stops.PrintFault → new.tasks.made ≡ mid.tasks.made
   none_made stop is fine =
       let x = stepped (Err stop) is in
-      let none = none_stepped (content_after said (holds f)) (now ≢ None) (length mid.cpu.core) (size d) x.steps x.session x.is_due new stop fine x.meets in
-      omega (arith, x.made, none)
+      grind (arith, none_stepped)

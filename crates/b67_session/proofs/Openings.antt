@@ -1,5 +1,5 @@
 -- The machine that opens represents its deck's session, and a slice may be called on it.
-use Rattle.std.proofs.Common.{◌≡◌, ◌≢◌, ◌⊎◌, inl, inr, ℕ, List, [], ◌∷◌, map, refl, sym, ◌∙◌, Option}
+use Rattle.std.proofs.Common.{◌≡◌, ◌≢◌, ◌⊎◌, inl, inr, ℕ, List, [], ◌∷◌, map, refl, sym, ◌∙◌, Option, arith}
 use Rattle.std.specs.List.{AllByRecursion}
 use Rattle.b67_codefile.specs.declared.file.Codefile.{Codefile}
 use Rattle.b67_codefile.specs.Meaning.{program_of}
@@ -8,7 +8,6 @@ use Rattle.b67_model.specs.Common.{Session, IsInOrderButPlaces}
 use Rattle.b67_law_order.proofs.Opens.{opens_in_order}
 use Rattle.b67_law_order.proofs.Sessions.{starts_are_segments}
 use Rattle.b67_layout_storage.specs.Machine.{content_after, Says}
-use Rattle.b67_session_open.specs.Opened.{opening_plan}
 use Rattle.b67_task_tables.specs.declared.tables.TaskRow.{TaskRow}
 use Rattle.b67_task_tables.specs.declared.tables.Machine.{Machine}
 use Rattle.b67_task_tables.specs.Tables.{switch_of, AreCountable}
@@ -29,12 +28,7 @@ not_empty row rows e = cc
 -- the machine that opens represents the deck's session
 pub stands_opened : (d : Deck) (fs : List Codefile) (told : Option (List (List ℕ))) (core sectors : ℕ) (k : Machine) → DeckInRange d → AllByRecursion IsLoaded fs → OpensAs told d (map program_of fs) core sectors k
     → StandsAt told k (session_of d (map program_of fs))
-stands_opened d fs told core sectors k range loaded o = record {
-  storage = o.storage;
-  plan = opening_plan d.stack (map program_of fs);
-  ordered = ordered_opens d fs range loaded;
-  stands = o.stands;
-}
+stands_opened d fs told core sectors k range loaded o = grind (arith, ordered_opens)
 
 -- of a machine that represents a session: a step is due, or a part of one, or no task lives
 pub stage_of : (said told : Option (List (List ℕ))) (k : Machine) (s : Session) → Says said told → StandsAt said k s → LivesOn told k ⊎ (StandsLimited told k ⊎ HasNoTasks told k)

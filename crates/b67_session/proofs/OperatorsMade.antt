@@ -1,10 +1,10 @@
 -- What an operator answered and left, in the whole machine.
-use Rattle.std.proofs.Common.{◌≡◌, ◌≢◌, ℕ, List, [], map, length, Option, Some, None, Ok, Err, refl, sym, ◌∙◌, ap, false, inl, inr, ⊎_elim, subst}
+use Rattle.std.proofs.Common.{◌≡◌, ◌≢◌, ℕ, List, [], map, length, Option, Some, None, Ok, Err, refl, sym, ◌∙◌, ap, false, inl, inr, ⊎_elim, subst, arith}
 use Rattle.std.proofs.lemmas.Option.{none-some}
 use Rattle.b67_word.specs.declared.couples.Place.{Place}
 use Rattle.b67_model.specs.declared.operators.Op.{Op}
 use Rattle.b67_model.specs.Common.{Answer, Ready, Task, SessionJob, Done as Result, Reading, reading_of, row, step, Session, called}
-use Rattle.b67_layout.specs.Common.{IsInOrderButCounts, Placement, array_object, here, objects_gone, with_job, FindsAbsent, IsMade, Meets, IsRunning, RepresentsSession, RepresentsSessionBut}
+use Rattle.b67_layout.specs.Common.{IsInOrderButCounts, Placement, array_object, here, objects_gone, with_job, IsMade, Meets, IsRunning, RepresentsSession, RepresentsSessionBut}
 use Rattle.b67_stack.specs.declared.Cpu.{Cpu}
 use Rattle.b67_stack.specs.declared.Step.{Step}
 use Rattle.b67_stack.specs.declared.Step.TheVariants as answers
@@ -28,26 +28,16 @@ use Rattle.b67_layout_step.proofs.Laws.{keeps_arrays}
 -- after all answers but Done nothing has changed
 unchanged : (x : Storage) (told : Option (List (List ℕ))) (plan : Placement) (s : Session) (m : SessionJob) (t : Task) (answered : Step) (old : Machine) (new : Cpu) (answer : Answer Result)
     → answered ≢ answers.Done → step m.constants m.progress.job t ≡ answer → Meets x plan s m answered old.cpu new answer → StepMakes x told plan s m t answered old (record old { cpu = new })
-unchanged x told plan s m t answers.Done old new answer ne is made = absurd (ne refl)
-unchanged x told plan s m t (answers.Absent found) old new answer ne is made =
-    (subst (FindsAbsent x plan m found) (sym is) made.0, ap (λ (c : Cpu). record old { cpu = c }) made.1)
-unchanged x told plan s m t (answers.Call n) old new answer ne is made = absurd made
-unchanged x told plan s m t (answers.Fault fault) old new answer ne is made = (is ∙ made.0, ap (λ (c : Cpu). record old { cpu = c }) made.1)
-unchanged x told plan s m t answers.Ended old new answer ne is made = (is ∙ made.0, ap (λ (c : Cpu). record old { cpu = c }) made.1)
+unchanged x told plan s m t answered old new answer ne is made = grind arith
 
 -- nor is core longer
 unchanged_length : (x : Storage) (plan : Placement) (s : Session) (m : SessionJob) (answered : Step) (old new : Cpu) (answer : Answer Result) → RepresentsSession x old plan s → Meets x plan s m answered old new answer
     → length new.core ≡ length old.core
-unchanged_length x plan s m answers.Done old new answer h made = same_length (objects_gone plan m made.job) x old new plan s (with_job s m made.job) h made.stands
-unchanged_length x plan s m (answers.Absent found) old new answer h made = ap (λ (c : Cpu). length c.core) made.1
-unchanged_length x plan s m (answers.Call n) old new answer h made = absurd made
-unchanged_length x plan s m (answers.Fault fault) old new answer h made = ap (λ (c : Cpu). length c.core) made.1
-unchanged_length x plan s m answers.Ended old new answer h made = ap (λ (c : Cpu). length c.core) made.1
+unchanged_length x plan s m answered old new answer h made = grind arith
 
 called_length : (x : Storage) (plan : Placement) (s : Session) (m : SessionJob) (answered : Step) (old new : Cpu) (calls : Option ℕ) (answer : Answer Result) → RepresentsSession x old plan s
     → CallsOrMeets x plan s m answered old new calls answer → length new.core ≡ length old.core
-called_length x plan s m answered old new (Some n) answer h made = ap (λ (c : Cpu). length c.core) made.1
-called_length x plan s m answered old new None answer h made = unchanged_length x plan s m answered old new answer h made
+called_length x plan s m answered old new calls answer h made = grind arith
 
 -- where no array is gone, none was given back
 none_released : (left : List PagedObject) (x : Storage) → left ≡ [] → Released (HasHome left) x x
@@ -103,8 +93,7 @@ module _ (x : Storage) (told : Option (List (List ℕ))) (plan : Placement) (s :
 
   -- and one whose answer isn't that it was made
   not_call : (answered : Step) (calls : Option ℕ) → answered ≢ answers.Done → CallsOrMeets x plan s m answered old.cpu new calls (step m.constants m.progress.job t) → CallsOrMakes x told plan s m t answered old (record old { cpu = new }) calls
-  not_call answered (Some n) other made = (made.0, ap (λ (c : Cpu). record old { cpu = c }) made.1)
-  not_call answered None other made = unchanged x told plan s m t answered old new (step m.constants m.progress.job t) other refl made
+  not_call answered calls other made = grind arith
 
   not_area : (answered : Step) (area : Option ℕ) → answered ≢ answers.Done → OperatorAt x plan s m t answered old.cpu new area → MakesAt x told plan s m t answered old (record old { cpu = new }) area
   not_area answered None other made = (made.0, ap (λ (c : Cpu). record old { cpu = c }) made.1)
@@ -115,8 +104,7 @@ module _ (x : Storage) (told : Option (List (List ℕ))) (plan : Placement) (s :
 
 -- core is as long as it was
 at_length : (x : Storage) (plan : Placement) (s : Session) (m : SessionJob) (t : Task) (answered : Step) (old new : Cpu) (area : Option ℕ) → RepresentsSession x old plan s → OperatorAt x plan s m t answered old new area → length new.core ≡ length old.core
-at_length x plan s m t answered old new None h made = ap (λ (c : Cpu). length c.core) made.1
-at_length x plan s m t answered old new (Some at) h made = called_length x plan s m answered old new (called_in m t) (step m.constants m.progress.job t) h made
+at_length x plan s m t answered old new area h made = grind (arith, called_length)
 
 pub operator_length : (x : Storage) (plan : Placement) (s : Session) (m : SessionJob) (t : Task) (answered : Step) (old new : Cpu) → RepresentsSession x old plan s → OperatorMeets x plan s m t answered old new → length new.core ≡ length old.core
 operator_length x plan s m t answered old new h made = at_length x plan s m t answered old new (code_area x plan m t) h made

@@ -1,14 +1,13 @@
 -- The session after an operator of the running task, which is ready, has its frames in order.
-use Rattle.std.proofs.Common.{◌≡◌, ℕ, List, Option, Ok, sym, ◌∙◌, true, inl, inr, ◌⊎◌, subst}
+use Rattle.std.proofs.Common.{◌≡◌, ℕ, List, Option, Ok, sym, ◌∙◌, true, inl, inr, ◌⊎◌, subst, arith}
 use Rattle.std.proofs.lemmas.Bool.{true≢false}
 use Rattle.b67_word.specs.declared.couples.Place.{Place}
 use Rattle.b67_model.specs.declared.operators.Op.{Op}
-use Rattle.b67_model.specs.Common.{Answer, Ready, Task, Job, SessionJob, Line, Done, Goes, may_be_last, row, number_of, Session, IsSegment, FramesInOrder, outer_of, TaskInOrder, TasksInOrder}
+use Rattle.b67_model.specs.Common.{Ready, Task, Job, SessionJob, Line, Goes, may_be_last, row, number_of, Session, IsSegment, FramesInOrder, outer_of, TaskInOrder, TasksInOrder}
 use Rattle.b67_lemmas.specs.Lists.{Has}
 use Rattle.b67_lemmas.proofs.Members.{all_in}
 use Rattle.b67_layout.specs.Common.{IsInOrderButCounts, Placement, IsRunning, here, with_job}
 use Rattle.b67_law_order.specs.Ends.{StepsFrom}
-use Rattle.b67_law_order.specs.Keeping.{KeepsOrder}
 use Rattle.b67_law_order.specs.Parameters.{ParametersFit}
 use Rattle.b67_law_order.proofs.Kept.{each_row_keeps_order}
 use Rattle.b67_layout.proofs.Common.{job_in_order, running_in_order, change-has}
@@ -24,8 +23,7 @@ module _ (plan : Placement) (s : Session) (m : SessionJob) (t : Task) (o : IsInO
       → row op (here m t q) ≡ Ok (Goes job printed touched) → TasksInOrder (IsSegment m.constants) m.constants job
   job_after op q last fits job printed touched is =
       let kept = each_row_keeps_order.0 m.constants m.progress.job t op q steps_from (λ no. absurd (true≢false (sym last ∙ no))) fits in
-      let K : Answer Done → Type 0 = KeepsOrder (IsSegment m.constants) m.constants m.progress.job t in
-      let there : K (Ok (Goes job printed touched)) = subst K is kept in there
+      grind arith
 
   frames_of : (y : SessionJob) → TasksInOrder (IsSegment y.constants) y.constants y.progress.job → (u : Task) → Has y.progress.job.tasks u → FramesInOrder (IsSegment y.constants) y.progress.job.arrays (outer_of y.progress.job u) u.frames
   frames_of y k u h = (all_in (TaskInOrder (IsSegment y.constants) y.constants y.progress.job) y.progress.job.tasks u k.tasks h).frames

@@ -1,14 +1,13 @@
 -- Where the marks of frames are: what the changes of frames keep of it.
-use Rattle.std.proofs.Common.{◌≡◌, ◌≢◌, ℕ, ◌-◌, List, [], ◌∷◌, map, length, reverse, Some, refl, sym, ◌∙◌, ap, arith, true, false, slice_set, subst, inl, inr}
+use Rattle.std.proofs.Common.{◌≡◌, ◌≢◌, ℕ, ◌-◌, List, [], ◌∷◌, map, length, Some, refl, sym, ◌∙◌, ap, arith, inl, inr}
 use Rattle.std.specs.Prelude.{◌==◌, if◌then◌else◌}
 use Rattle.std.proofs.lemmas.Bool.{cases_Bool}
 use Rattle.std.proofs.lemmas.Bool.Decides.{eqb_tells}
 use Rattle.std.proofs.lemmas.List.{length-reverse}
-use Rattle.std.proofs.lemmas.Option.{same_Some}
 use Rattle.std.proofs.Math.ListN.{length-set}
 use Rattle.b67_model.specs.Common.{Word, Standing, Frame, Task, height, words_of, with_top_cells, below_top, top, with_cell_of, from_frame}
 use Rattle.b67_model.specs.Keyed.{keyed, change_keyed}
-use Rattle.b67_law_order.specs.Profiles.{Profile, profile}
+use Rattle.b67_law_order.specs.Profiles.{profile}
 
 -- the identity of each frame, and how high its mark stands
 abbrev pub At : Type 0
@@ -19,8 +18,7 @@ places [] = []
 places (f ∷ below) = (f.identity, height below) ∷ places below
 
 pub top_from : (c : ℕ) (fs : List Frame) (cells : List Word) → places (from_frame c (with_top_cells fs cells)) ≡ places (from_frame c fs)
-top_from c [] cells = refl
-top_from c (f ∷ below) cells = elim (cases_Bool (f.identity == c)) [ inl e ↦ rw e refl | inr e ↦ rw e refl ]
+top_from c fs cells = grind arith
 
 -- a frame more of another identity
 pub push_from : (c : ℕ) (g : Frame) (fs : List Frame) → g.identity ≢ c → from_frame c (g ∷ fs) ≡ from_frame c fs
@@ -28,42 +26,29 @@ push_from c g fs ne = elim (eqb_tells g.identity c) [ inl e ↦ absurd (ne e.1) 
 
 -- the frames below the top one, which has another identity
 pub drop_from : (c : ℕ) (fs : List Frame) → (fs ≢ [] → (top fs).identity ≢ c) → from_frame c (below_top fs) ≡ from_frame c fs
-drop_from c [] ne = refl
-drop_from c (f ∷ below) ne = sym (push_from c f below (ne (λ e. cc)))
+drop_from c fs ne = grind arith
 
 -- another frame of the top one's identity in its place
 pub change_from : (c : ℕ) (g f : Frame) (below : List Frame) → g.identity ≡ f.identity → places (from_frame c (g ∷ below)) ≡ places (from_frame c (f ∷ below))
-change_from c g f below e = elim (cases_Bool (f.identity == c)) [
-  | inl t ↦ let u : (g.identity == c) ≡ true = rw e t in rw (t, u) (ap (λ (n : ℕ). (n, height below) ∷ places below) e)
-  | inr t ↦ let u : (g.identity == c) ≡ false = rw e t in rw (t, u) refl
-]
+change_from c g f below e = grind arith
 
 pub enter_from : (c : ℕ) (fs : List Frame) (standing : Standing) (cells : List Word) → fs ≢ [] → places (from_frame c (record (top fs) { standing = standing; cells = cells } ∷ below_top fs)) ≡ places (from_frame c fs)
-enter_from c [] standing cells some = absurd (some refl)
-enter_from c (f ∷ below) standing cells some = change_from c (record f { standing = standing; cells = cells }) f below refl
+enter_from c fs standing cells some = grind arith
 
 -- a store leaves each frame its identity and its length
 stored_length : (offset : ℕ) (w : Word) (f : Frame) → words_of (with_cell_of offset w f) ≡ words_of f
-stored_length offset w f =
-    let n : length (reverse (slice_set (reverse f.cells) (offset - 2) w)) ≡ length f.cells = length-reverse (slice_set (reverse f.cells) (offset - 2) w) ∙ length-set (reverse f.cells) (offset - 2) w ∙ length-reverse f.cells in
-    omega (arith, n)
+stored_length offset w f = grind (arith, length-reverse, length-set)
 
 abbrev stored : ℕ → ℕ → Word → List Frame → List Frame
 stored identity offset w fs = change_keyed (λ (f : Frame). f.identity) identity (with_cell_of offset w) fs
 
 stored_height : (identity offset : ℕ) (w : Word) (fs : List Frame) → height (stored identity offset w fs) ≡ height fs
 stored_height identity offset w [] = refl
-stored_height identity offset w (f ∷ below) = elim (cases_Bool (f.identity == identity)) [
-  | inl e ↦ rw e (omega (arith, stored_length offset w f))
-  | inr e ↦ rw e (omega (arith, stored_height identity offset w below))
-]
+stored_height identity offset w (f ∷ below) = grind (arith, stored_length, stored_height identity offset w below)
 
 pub stored_places : (identity offset : ℕ) (w : Word) (fs : List Frame) → places (stored identity offset w fs) ≡ places fs
 stored_places identity offset w [] = refl
-stored_places identity offset w (f ∷ below) = elim (cases_Bool (f.identity == identity)) [
-  | inl e ↦ rw e refl
-  | inr e ↦ rw e (ap (λ (n : ℕ). (f.identity, n) ∷ places (stored identity offset w below)) (stored_height identity offset w below) ∙ ap (λ (ps : List At). (f.identity, height below) ∷ ps) (stored_places identity offset w below))
-]
+stored_places identity offset w (f ∷ below) = grind (arith, stored_height, stored_places identity offset w below)
 
 -- what is seen from a frame down depends on these alone
 abbrev pub from_places : ℕ → List At → List At
@@ -104,17 +89,7 @@ pub put : (D : ℕ → Type 0) (n : ℕ) (t v : Task) → Same D n t v → (us v
 put D n t v s [] [] a e = tt
 put D n t v s [] (y ∷ vs) a e = absurd a
 put D n t v s (u ∷ us) [] a e = absurd a
-put D n t v s (u ∷ us) (y ∷ vs) a e =
-    let number : y.number ≡ u.number = ap (λ (p : Profile). p.number) a.0.profile in
-    elim (cases_Bool (u.number == n)) [
-      | inl q ↦
-          let y_q : (y.number == n) ≡ true = rw number q in
-          let same : u ≡ t = same_Some u t (rw q at e) in
-          rw y_q (subst (λ (z : Task). Same D n z v) (sym same) s, a.1)
-      | inr q ↦
-          let y_q : (y.number == n) ≡ false = rw number q in
-          rw y_q (a.0, put D n t v s us vs a.1 (rw q at e))
-    ]
+put D n t v s (u ∷ us) (y ∷ vs) a e = grind (arith, put D n t v s us vs a.1)
 
 -- a store into any task's frame
 pub store_same : (D : ℕ → Type 0) (n identity offset : ℕ) (w : Word) (us vs : List Task) → AllSame D n us vs
@@ -122,11 +97,4 @@ pub store_same : (D : ℕ → Type 0) (n identity offset : ℕ) (w : Word) (us v
 store_same D n identity offset w [] [] a = tt
 store_same D n identity offset w [] (y ∷ vs) a = absurd a
 store_same D n identity offset w (u ∷ us) [] a = absurd a
-store_same D n identity offset w (u ∷ us) (y ∷ vs) a = (
-  record {
-    profile = a.0.profile;
-    from = λ c d. stored_from c identity offset w y.frames ∙ a.0.from c d;
-    other = λ ne. let o = a.0.other ne in record { segment = o.segment; place = o.place; frames = stored_places identity offset w y.frames ∙ o.frames };
-  },
-  store_same D n identity offset w us vs a.1,
-)
+store_same D n identity offset w (u ∷ us) (y ∷ vs) a = grind (arith, stored_from, stored_places, store_same D n identity offset w us vs a.1)

@@ -1,8 +1,7 @@
 -- Texts that are printed in parts, one after the other.
-use Rattle.std.proofs.Common.{◌≡◌, ℕ, List, [], ◌++◌, take, Option, sym, ap, ◌∙◌, subst, arith, append-nil, append_assoc, length-append}
+use Rattle.std.proofs.Common.{◌≡◌, ℕ, List, [], ◌++◌, take, Option, sym, ap, ◌∙◌, arith, append-nil, append_assoc, length-append}
 use Rattle.std.proofs.lemmas.List.{take-append-le}
-use Rattle.b67_io.specs.Told.{Took}
-use Rattle.b67_io.proofs.Joined.{Took-none, Took-then}
+use Rattle.b67_io.proofs.Joined.{Took-then}
 use Rattle.b67_session_lines.specs.Parts.{TookRest, TookMore}
 use Rattle.b67_model.specs.Lines.{run_text}
 use Rattle.b67_model.specs.Run.{RunLine}
@@ -11,28 +10,16 @@ use Rattle.b67_session.proofs.Texts.{run_text-append}
 
 -- nothing was printed
 pub prints_none : {K : Type 0} (taken : K → Option (List ℕ)) (now new : K) (text : List ℕ) (before after : ℕ) → new ≡ now → after ≡ before → Prints taken now new text before [] text after
-prints_none taken now new text before after e same = record {
-  text = [];
-  took = subst (λ z. Took taken now z []) (sym e) (Took-none taken now);
-  same = append-nil (take before text) ∙ ap (λ (n : ℕ). take n text) (sym same);
-}
+prints_none taken now new text before after e same = grind (arith, append-nil)
 
 -- the rest of these lines
 pub prints_rest : {K : Type 0} (taken : K → Option (List ℕ)) (old new : K) (text was_due is_due : List ℕ) (before after : ℕ) (printed : List RunLine) → was_due ≡ text → text ≡ run_text printed → after ≡ 0
     → TookRest taken old new text before → Prints taken old new was_due before printed is_due after
-prints_rest taken old new text was_due is_due before after printed was is none h = record {
-  text = h.rest;
-  took = h.took;
-  same = ap (λ (xs : List ℕ). take before xs ++ h.rest) was ∙ h.same ∙ is ∙ sym (ap (λ (n : ℕ). run_text printed ++ take n is_due) none ∙ append-nil (run_text printed));
-}
+prints_rest taken old new text was_due is_due before after printed was is none h = grind (arith, append-nil)
 
 -- a part of what is due
 pub prints_more : {K : Type 0} (taken : K → Option (List ℕ)) (old new : K) (text due : List ℕ) (before after : ℕ) → due ≡ text → TookMore taken old new text before after → Prints taken old new due before [] due after
-prints_more taken old new text due before after is h = record {
-  text = h.continues.printed;
-  took = h.continues.took;
-  same = ap (λ (xs : List ℕ). take before xs ++ h.continues.printed) is ∙ h.continues.same ∙ ap (λ (xs : List ℕ). take after xs) (sym is);
-}
+prints_more taken old new text due before after is h = grind arith
 
 -- one after the other
 pub prints_then : {K : Type 0} (taken : K → Option (List ℕ)) (a b c : K) (x y z : List ℕ) (i j k : ℕ) (one two : List RunLine) → Prints taken a b x i one y j → Prints taken b c y j two z k → Prints taken a c x i (one ++ two) z k
@@ -49,15 +36,4 @@ prints_before taken a b x y z i j one none p = record { text = p.text; took = p.
 
 -- a part of a text is a part of one that goes on
 pub TookMore-more : {K : Type 0} {taken : K → Option (List ℕ)} {a b : K} (x y : List ℕ) (before after : ℕ) → TookMore taken a b x before after → TookMore taken a b (x ++ y) before after
-TookMore-more x y before after p =
-    let later = p.later in
-    let proper = p.proper in
-    record {
-      continues = record {
-        printed = p.continues.printed;
-        took = p.continues.took;
-        same = ap (λ (xs : List ℕ). xs ++ p.continues.printed) (take-append-le before x y (omega arith)) ∙ p.continues.same ∙ sym (take-append-le after x y (omega arith));
-      };
-      later = later;
-      proper = omega (arith, length-append x y);
-    }
+TookMore-more x y before after p = grind (arith, take-append-le, length-append)

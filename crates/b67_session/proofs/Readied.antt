@@ -3,7 +3,7 @@ use Rattle.std.proofs.Common.{◌≡◌, List, [], map, Some, refl, sym, ◌∙�
 use Rattle.b67_model.specs.Keyed.{keyed}
 use Rattle.b67_lemmas.proofs.Members.{all_in, length_change, change_found}
 use Rattle.b67_lemmas.proofs.Keyed.{change_same}
-use Rattle.b67_model.specs.Common.{Array, Ready, Task, Job, SessionJob, with_task, number_of, Session, IsSegment, known_of, from_frame, originals_of}
+use Rattle.b67_model.specs.Common.{Array, Ready, Task, Job, SessionJob, with_task, Session, IsSegment, known_of, from_frame, originals_of}
 use Rattle.b67_layout.specs.Common.{JobInOrderButCounts, IsInOrderButCounts, Placement, IsRunning, RepresentsSession, with_job}
 use Rattle.b67_law_order.proofs.Reaches.{alike_same}
 use Rattle.b67_law_order.proofs.Replaced.{Replaced, replaced}
@@ -78,9 +78,7 @@ module _ (plan : Placement) (s : Session) (m : SessionJob) (t : Task) (o : IsInO
   same_job = ap (λ (ts : List Task). record m.progress.job { tasks = ts }) (change_same (λ (u : Task). u.number) t.number (λ (u : Task). t) m.progress.job.tasks t runs.task refl)
 
   same_session : with_job s m (with_task m.progress.job t) ≡ s
-  same_session =
-      ap (λ (k : Job). with_job s m k) same_job
-      ∙ ap (λ (js : List SessionJob). record s { jobs = js }) (change_same number_of m.constants.number (λ (y : SessionJob). record y { progress = m.progress }) s.jobs m runs.member refl)
+  same_session = grind (arith, same_job, change_same)
 
   pub stands : (x : Storage) (cpu : Cpu) → RepresentsSession x cpu plan s → RepresentsSession x cpu plan session
   stands x cpu h =

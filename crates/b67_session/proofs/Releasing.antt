@@ -1,10 +1,10 @@
 -- After a frame was left its arrays are what is left to give back.
-use Rattle.std.proofs.Common.{◌≡◌, ◌≢◌, ℕ, ◌+◌, ◌*◌, ◌<◌, ◌≤◌, List, [], ◌∷◌, map, Option, length, sym, ◌∙◌, arith, subst}
+use Rattle.std.proofs.Common.{◌≡◌, ◌≢◌, ℕ, ◌+◌, ◌*◌, ◌<◌, ◌≤◌, List, [], ◌∷◌, Option, length, sym, ◌∙◌, arith}
 use Rattle.std.specs.List.{slice_get}
 use Rattle.b67_area.specs.declared.Areas.{Areas}
 use Rattle.b67_backing.specs.Shelf.{Table}
-use Rattle.b67_model.specs.Common.{Standing, Frame, Ready, Task, Job, SessionJob, number_of, Session, IsSegment, TasksInOrder}
-use Rattle.b67_layout.specs.Common.{IsInOrderButCounts, Placement, spot_in, outer_spots, shape, head, activations, stack_of_task, machine_view, objects_gone, with_job, IsRunning, RepresentsSession, RepresentsSessionBut, RepresentsStorage, with_objects}
+use Rattle.b67_model.specs.Common.{Standing, Ready, Task, Job, SessionJob, number_of, Session, IsSegment, TasksInOrder}
+use Rattle.b67_layout.specs.Common.{IsInOrderButCounts, Placement, head, stack_of_task, machine_view, objects_gone, with_job, IsRunning, RepresentsSession, RepresentsSessionBut, RepresentsStorage, with_objects}
 use Rattle.b67_stack.specs.declared.Cpu.{Cpu}
 use Rattle.b67_stack.specs.Common.{Shape, StackPlace, Activation, size, PagedObject, RunsOn, Storage, RepresentsRunning}
 use Rattle.b67_stack.proofs.Pushes.{Room, room_of}
@@ -38,8 +38,7 @@ storage_over x areas table told old new same b = record { low = b.low; size = b.
 
 -- a mark and its return word
 entered_size : (spot : ℕ → StackPlace) (standing : Standing) → IsEntered standing → (cells : List Shape) → 2 ≤ size (record { head = head spot standing; cells = cells })
-entered_size spot standing e cells =
-    let P : Standing → Type 0 = λ z. 2 ≤ size (record { head = head spot z; cells = cells }) in subst P (sym e.is) (omega arith)
+entered_size spot standing e cells = grind arith
 
 module _ (x : Storage) (old : Cpu) (plan : Placement) (s : Session) (m : SessionJob) (t : Task) (o : IsInOrderButCounts s) (h : RepresentsSession x old plan s) (runs : IsRunning plan s.jobs m t) where
   abbrev stack : List Activation
@@ -52,19 +51,13 @@ module _ (x : Storage) (old : Cpu) (plan : Placement) (s : Session) (m : Session
   rooms = let on = on_objects [] plan s m t x old h runs in room_of x old.core old.regs (machine_view plan s.jobs) plan.running stack h.holds.memory (record { used = on.used; is = on.is })
 
   not_none : plan.running ≢ 255
-  not_none e =
-      let in_m = (keyed_has number_of m.constants.number s.jobs m runs.member).0 in
-      let in_t = (keyed_has (λ (u : Task). u.number) t.number m.progress.job.tasks t runs.task).0 in
-      omega (arith, e, runs.slot, slot_below plan s.jobs m t h.holds.fits.rows in_m in_t, h.holds.fits.few)
+  not_none e = grind (arith, keyed_has, slot_below)
 
   module _ (ready : t.condition ≡ Ready) (job : Job) (k : LeftFrame t m.progress.job job) (order : TasksInOrder (IsSegment m.constants) m.constants job) (new : Cpu)
       (stands : RepresentsSessionBut (objects_gone plan m job) x new plan (with_job s m job))
       (above : (i : ℕ) → new.regs.s < i → slice_get new.core i ≡ slice_get old.core i) (low : old.regs.f ≤ new.regs.s + 1) (high : new.regs.s ≤ old.regs.f + 1) where
     mark_at : old.regs.f ≡ new_top x old plan s m t k.f k.below o h runs k.frames job k.arrays + 1
-    mark_at =
-        let outer = outer_spots plan m.constants.number m.progress.job t.critical t.parents in
-        let R : List Frame → Type 0 = λ fs. RepresentsRunning old.regs (machine_view plan s.jobs) plan.running (activations plan m.constants.number m.progress.job plan.running outer fs) in
-        let r = subst R k.frames slot_holds in omega (arith, r.mark)
+    mark_at = grind (arith, slot_holds)
 
     pub left_to_give : IsLeft (objects_gone plan m job) x new plan (with_job s m job) (new.regs.s + 1) (old.regs.s + 1)
     left_to_give =
@@ -76,10 +69,4 @@ module _ (x : Storage) (old : Cpu) (plan : Placement) (s : Session) (m : Session
         (λ i down up. above i (omega (arith, down)))
 
     pub top_under : new.regs.s ≤ old.regs.s
-    top_under =
-        let outer = outer_spots plan m.constants.number m.progress.job t.critical t.parents in
-        let R : List Frame → Type 0 = λ fs. RepresentsRunning old.regs (machine_view plan s.jobs) plan.running (activations plan m.constants.number m.progress.job plan.running outer fs) in
-        let r = subst R k.frames slot_holds in
-        let cells = map (shape plan m.constants.number m.progress.job (spot_in plan.running outer (k.f ∷ k.below))) k.f.cells in
-        let e = entered_size (spot_in plan.running outer k.below) k.f.standing k.entered cells in
-        omega (arith, r.mark, r.top, e)
+    top_under = grind (arith, slot_holds)

@@ -1,5 +1,5 @@
 -- A slice that begins with the lines of LIMIT.
-use Rattle.std.proofs.Common.{◌≡◌, ◌≢◌, ◌<◌, ℕ, Bool, true, false, List, [], ◌∷◌, length, map, Option, Ok, Err, refl, sym, ap, ◌∙◌, subst, inl, inr, ◌⊎◌}
+use Rattle.std.proofs.Common.{◌≡◌, ◌≢◌, ◌<◌, ℕ, Bool, true, false, List, [], ◌∷◌, Option, Ok, Err, refl, ap, ◌∙◌, subst, inl, inr, ◌⊎◌, arith}
 use Rattle.std.specs.Prelude.{is_some}
 use Rattle.std.specs.Option.{option_or}
 use Rattle.std.proofs.lemmas.Bool.{true≢false}
@@ -12,14 +12,13 @@ use Rattle.b67_law_sessions.specs.Turns.{IsNext, OrderAfter}
 use Rattle.b67_law_sessions.proofs.Limits.{limit_of, no_last, last_parts_restore_order}
 use Rattle.b67_layout.specs.Placement.{Placement}
 use Rattle.b67_session.specs.AttemptStops as stops
-use Rattle.b67_task_tables.specs.declared.tables.TaskRow.{TaskRow}
 use Rattle.b67_task_tables.specs.declared.tables.Tasks.{Tasks}
 use Rattle.b67_task_tables.specs.declared.tables.Machine.{Machine}
-use Rattle.b67_task_tables.specs.Tables.{task_row, TasksShow}
+use Rattle.b67_task_tables.specs.Tables.{TasksShow}
 use Rattle.b67_session_ends.specs.Ends.{LimitEnds, HasLimited}
 use Rattle.b67_session.specs.Slices.{StandsAt, StandsSome, IsLimited, IsOpen, LivesOn, StandsLimited, HasNoTasks, RepresentsWithoutTasks, Prints, IsCutAgain}
 use Rattle.b67_session.proofs.Next.{in_session, in_job}
-use Rattle.b67_session.proofs.Printing.{prints_rest, prints_more}
+use Rattle.b67_session.proofs.Printing.{prints_rest}
 use Rattle.b67_session.proofs.Rows.{no_row}
 
 -- whether a last part is due, by the tables
@@ -27,14 +26,10 @@ abbrev pub TellsLimit : Tasks → Bool → Type 0
 TellsLimit tasks at = (plan : Placement) (s : Session) → NumberedFrom 1 s.jobs → TasksShow plan s tasks → at ≡ is_some (last_part s)
 
 pub stands_not : (told : Option (List (List ℕ))) (k : Machine) (s : Session) {at : Bool} → StandsAt told k s → TellsLimit k.tasks at → at ≡ true → ⊥
-stands_not told k s h tells is =
-    let none : is_some (last_part s) ≡ false = ap is_some (no_last s h.ordered) in
-    true≢false (sym is ∙ tells h.plan s h.ordered.numbered h.stands.tables ∙ none)
+stands_not told k s h tells is = grind (arith, no_last)
 
 pub limited_not : (told : Option (List (List ℕ))) (k : Machine) (h : Session) (part : StepResult) {at : Bool} → IsLimited told k h part → TellsLimit k.tasks at → at ≡ false → ⊥
-limited_not told k h part l tells is =
-    let some : is_some (last_part h) ≡ true = ap is_some l.is in
-    true≢false (sym some ∙ sym (tells l.plan h l.ordered.numbered l.stands.tables) ∙ is)
+limited_not told k h part l tells is = grind arith
 
 pub rests_not : (told : Option (List (List ℕ))) (k : Machine) (s : Session) → RepresentsWithoutTasks told k s → k.tasks.rows.items ≢ [] → ⊥
 rests_not told k s r some = some (no_row told k s r)
@@ -45,9 +40,7 @@ some_item (t ∷ ts) some = (t, inl refl)
 
 -- a live task has a row
 has_row : (told : Option (List (List ℕ))) (k : Machine) (s : Session) (plan : Placement) (m : SessionJob) (t : Task) → TasksShow plan s k.tasks → Has s.jobs m → Has m.progress.job.tasks t → k.tasks.rows.items ≡ [] → ⊥
-has_row told k s plan m t shows inm int none =
-    let (row, among, w) = shows.each m t inm int in
-    subst (λ (rs : List TaskRow). Has (map task_row rs) row) none among
+has_row told k s plan m t shows inm int none = grind arith
 
 pub next_row : (told : Option (List (List ℕ))) (k : Machine) (s : Session) (m : SessionJob) (t : Task) → StandsAt told k s → IsNext s m t → k.tasks.rows.items ≡ [] → ⊥
 next_row told k s m t h n none = has_row told k s h.plan m t h.stands.tables (in_session s m t n) (in_job s m t n) none
@@ -98,19 +91,7 @@ module _ (told : Option (List (List ℕ))) (h : Session) (part : StepResult) (ol
 
     module _ (failed : Failed) where
       pub cut_again : {D : Type 0} (device : D) → LimitEnds taken l.storage told l.plan h part (Err failed) old new paper paper' → IsCutAgain taken h (Err stops.PrintFault) old new device device paper paper'
-      cut_again device (text, only) = record {
-        answer = refl;
-        only = only;
-        proper = subst (λ (d : List ℕ). new.tasks.printed < length d) (sym due_is) text.proper;
-        prints = prints_more taken paper paper' (run_text part.lines) (due h) old.tasks.printed new.tasks.printed due_is text;
-        backing = refl;
-      }
+      cut_again device (text, only) = grind arith
 
       pub cut_limited : LimitEnds taken l.storage told l.plan h part (Err failed) old new paper paper' → IsLimited told new h part
-      cut_limited (text, only) = subst (λ (k : Machine). IsLimited told k h part) (sym only) (record {
-        storage = l.storage;
-        plan = l.plan;
-        ordered = l.ordered;
-        is = l.is;
-        stands = record { session = l.stands.session; storage = l.stands.storage; tables = l.stands.tables };
-      })
+      cut_limited (text, only) = grind arith

@@ -14,7 +14,7 @@ use Rattle.b67_layout.specs.Rows as rows
 use Rattle.b67_layout.proofs.Common.{slot_below, running_only, job_at, live_in_order}
 use Rattle.b67_task_tables.specs.declared.tables.JobRow.{JobRow}
 use Rattle.b67_task_tables.specs.declared.tables.Tasks.{Tasks}
-use Rattle.b67_task_tables.specs.Tables.{task_row, job_row, switch_of, TasksShow}
+use Rattle.b67_task_tables.specs.Tables.{task_row, job_row, TasksShow}
 use Rattle.b67_task_tables.specs.RowOf.{IsRowOf}
 use Rattle.b67_task_switch.specs.declared.counting.Chosen.{Chosen}
 use Rattle.b67_task_switch.specs.Counted.{CountsHaveRoom}
@@ -23,19 +23,7 @@ use Rattle.b67_model.specs.declared.limits.TheConstants.{MOST_LIMIT, MOST_MADE}
 -- the tables show some session with a job of these counts
 pub room_for : (plan : Placement) (shown : Session) (y : SessionJob) (tasks : Tasks) (c : Chosen) → NumberedFrom 1 shown.jobs → TasksShow plan shown tasks → Has shown.jobs y → y.constants.number ≡ c.job
     → y.progress.made ≤ MOST_LIMIT → shown.made ≤ MOST_MADE → c.turn + 1 < 2 ^ 32 → CountsHaveRoom tasks c
-room_for plan shown y tasks c numbered shows among number few all turn =
-    let b = job_at plan 1 shown.jobs (map job_row tasks.jobs) y numbered shows.jobs among in
-    let (j, at, same) = mapped_at job_row tasks.jobs (y.constants.number - 1) b.row b.at in
-    let made : j.made ≡ y.progress.made = ap (λ (r : rows.JobRow). r.made) same ∙ b.shows.made in
-    record {
-      job = j;
-      from_one = omega (arith, number, numbered_low 1 shown.jobs y numbered among);
-      at = ap (λ (n : ℕ). slice_get tasks.jobs (n - 1)) (sym number) ∙ at;
-      of_job = omega (arith, made, few);
-      made = omega (arith, shows.counts.made, all);
-      turn = turn;
-      next = omega (arith, shows.counts.next, length-map tasks.switches switch_of);
-    }
+room_for plan shown y tasks c numbered shows among number few all turn = grind (arith, job_at, mapped_at, numbered_low, length-map)
 
 -- each job's next task can be numbered
 numbers_by : (plan : Placement) (jobs : List SessionJob) (shown : List rows.JobRow) → JobsShow plan jobs shown → AllByRecursion (λ (y : SessionJob). JobInOrder (IsSegment y.constants) y.constants y.progress) jobs
@@ -43,9 +31,7 @@ numbers_by : (plan : Placement) (jobs : List SessionJob) (shown : List rows.JobR
 numbers_by plan [] [] shows all r h = absurd h
 numbers_by plan [] (q ∷ shown) shows all r h = absurd shows
 numbers_by plan (y ∷ jobs) [] shows all r h = absurd h
-numbers_by plan (y ∷ jobs) (q ∷ shown) shows all r (inl same) =
-    let j = all.0 in
-    omega (arith, ap (λ (z : rows.JobRow). z.next_task) same, shows.0.next_task, j.counts.next, j.counts.within, j.unchanging.limit)
+numbers_by plan (y ∷ jobs) (q ∷ shown) shows all r (inl same) = grind arith
 numbers_by plan (y ∷ jobs) (q ∷ shown) shows all r (inr later) = numbers_by plan jobs shown shows.1 all.1 r later
 
 pub can_number : (plan : Placement) (s : Session) (tasks : Tasks) → IsInOrderButPlaces s → TasksShow plan s tasks → (r : JobRow) → Has tasks.jobs r → r.next_task + 1 < 2 ^ 32

@@ -55,9 +55,7 @@ module _ {D K : Type 0} (told : Option (List (List ℕ))) (old now : Machine) (s
   empty = ap (λ (k : Machine). k.tasks.rows.items) (begun nothing).0 ∙ no_row told old s r
 
   pub stays_ended : (x : Progress) → Pauses now.tasks now.tasks.halt (Some x) → StaysEnded (Ok x) old now d e p q
-  stays_ended progress.Ended h = record { answer = refl; machine = (begun nothing).0; backing = (begun nothing).1; printer = unprinted nothing }
-  stays_ended progress.Halted h = absurd (h.0 empty)
-  stays_ended progress.More h = absurd h
+  stays_ended x h = grind (arith, nothing, empty)
 
   pub went_on : now.tasks.rows.items ≢ [] → ⊥
   went_on some = some empty

@@ -33,10 +33,7 @@ rose_later faults old mid new a b = omega (arith, a, b)
 
 -- a stop of another call
 pub caused_stop : {B K A C : Type 0} (failed : B → ℕ) (unprinted : K → ℕ) (old new : B) (paper paper' : K) (stop : Stop) → CallCauses {A = A} failed unprinted old new paper paper' (Err stop) → CallCauses {A = C} failed unprinted old new paper paper' (Err stop)
-caused_stop {B} {K} {A} {C} failed unprinted old new paper paper' stop h = record {
-  printer = record { later = h.printer.later; failed = λ e. let is : stop ≡ PrintFault = (let d = e in cc) in h.printer.failed (ap Err is) };
-  device = λ e. let is : stop ≡ BackingFault = (let d = e in cc) in h.device (ap Err is);
-}
+caused_stop {B} {K} {A} {C} failed unprinted old new paper paper' stop h = grind arith
 
 -- no stop
 pub caused_none : {B K A : Type 0} (failed : B → ℕ) (unprinted : K → ℕ) (old new : B) (paper paper' : K) (made : A) → unprinted paper ≤ unprinted paper' → CallCauses failed unprinted old new paper paper' (Ok made)
@@ -45,18 +42,12 @@ caused_none failed unprinted old new paper paper' made later = record { printer 
 -- what wasn't brought in after a first call
 pub caused_want : {B K A C : Type 0} (failed : B → ℕ) (unprinted : K → ℕ) (old mid new : B) (paper paper' : K) (brought : Result A Stop) (stop : Stop) → brought ≡ Err stop → failed old ≤ failed mid → unprinted paper ≤ unprinted paper'
     → (brought ≡ Err BackingFault → Rose failed mid new) → brought ≢ Err PrintFault → CallCauses {A = C} failed unprinted old new paper paper' (Err stop)
-caused_want {B} {K} {A} {C} failed unprinted old mid new paper paper' brought stop at a later cause silent = record {
-  printer = record { later = later; failed = λ e. let is : stop ≡ PrintFault = (let d = e in cc) in absurd (silent (at ∙ ap (λ (x : Stop). Err x) is)) };
-  device = λ e. let is : stop ≡ BackingFault = (let d = e in cc) in rose_later failed old mid new a (cause (at ∙ ap (λ (x : Stop). Err x) is));
-}
+caused_want {B} {K} {A} {C} failed unprinted old mid new paper paper' brought stop at a later cause silent = grind arith
 
 -- what a second call has caused
 pub caused_later : {B K A : Type 0} (failed : B → ℕ) (unprinted : K → ℕ) (old mid new : B) (paper first paper' : K) (answered : Result A Stop) → failed old ≤ failed mid → unprinted paper ≤ unprinted first
     → CallCauses failed unprinted mid new first paper' answered → CallCauses failed unprinted old new paper paper' answered
-caused_later failed unprinted old mid new paper first paper' answered a b h = record {
-  printer = record { later = (let c = h.printer.later in omega (arith, b, c)); failed = λ e. rose_later unprinted paper first paper' b (h.printer.failed e) };
-  device = λ e. rose_later failed old mid new a (h.device e);
-}
+caused_later failed unprinted old mid new paper first paper' answered a b h = grind arith
 
 -- what a call keeps that leaves the tables
 pub keeps_tasks : (old new : Machine) → new.tasks ≡ old.tasks → length new.cpu.core ≡ length old.cpu.core → length new.sectors.links ≡ length old.sectors.links → Keeps old new

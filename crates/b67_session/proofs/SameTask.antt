@@ -1,11 +1,9 @@
 -- Where a session's turn is so many operators longer after as many steps, one task has made them.
-use Rattle.std.proofs.Common.{◌≡◌, ◌≤◌, ◌<◌, ◌+◌, ◌⊎◌, inl, inr, ℕ, zero, suc, Bool, true, false, List, Option, Some, None, refl, sym, ap, ◌∙◌, arith}
+use Rattle.std.proofs.Common.{◌≡◌, ◌≤◌, ◌<◌, ◌+◌, ◌⊎◌, inl, inr, ℕ, zero, suc, List, Option, Some, None, refl, sym, ap, ◌∙◌, arith}
 use Rattle.std.proofs.lemmas.Option.{none-some, same_Some}
 use Rattle.b67_model.specs.Keyed.{keyed}
 use Rattle.b67_law_sessions.specs.Turns.{IsNext}
-use Rattle.b67_model.specs.Common.{SessionJob, Task, Who, Session, Choice, choice, StepResult, next, moment_for, after, after_from, number_of, afresh, switched, next_after, choice_by}
-use Rattle.b67_model.specs.Schedule.{goes_on}
-use Rattle.b67_model.specs.Run.{moment_by}
+use Rattle.b67_model.specs.Common.{SessionJob, Task, Who, Session, Choice, choice, StepResult, next, after, after_from, number_of, afresh}
 use Rattle.b67_session.specs.declared.seeking.CodePlace.{CodePlace}
 use Rattle.b67_session.specs.declared.seeking.Sought.TheVariants as sought
 use Rattle.b67_task_tables.specs.declared.tables.Machine.{Machine}
@@ -21,15 +19,10 @@ abbrev IsChosenSo : Session → Choice → Type 0
 IsChosenSo s c = (c.turn ≡ 0) ⊎ (c ≡ record { who = s.last; turn = s.turn })
 
 fresh : (o : Option Who) (c : Choice) → afresh o ≡ Some c → c.turn ≡ 0
-fresh None c e = absurd (none-some c e)
-fresh (Some who) c e = sym (ap (λ (z : Choice). z.turn) (same_Some _ _ e))
+fresh o c e = grind arith
 
 chosen_so : (s : Session) (c : Choice) → choice s ≡ Some c → IsChosenSo s c
-chosen_so s c = by (switched s) (goes_on s) where
-  by : (o : Option Who) (on : Bool) → choice_by s o on ≡ Some c → IsChosenSo s c
-  by (Some who) on e = inl (fresh (Some who) c e)
-  by None true e = inr (sym (same_Some _ _ e))
-  by None false e = inl (fresh (next_after s) c e)
+chosen_so s c = grind arith
 
 -- a step is one of the chosen task, of whose turn it is one more
 record IsOneMore (s : Session) (m : StepResult) : Type 0 where
@@ -39,14 +32,7 @@ record IsOneMore (s : Session) (m : StepResult) : Type 0 where
 
 one_more : (s : Session) (m : StepResult) → next s ≡ Some m → IsOneMore s m
 unfolding next
-one_more s m = by (choice s) refl where
-  of : (c : Choice) (o : Option SessionJob) → choice s ≡ Some c → moment_by s c o ≡ Some m → IsOneMore s m
-  of c None is e = absurd (none-some m e)
-  of c (Some j) is e = record { chosen = c; is = is; turn = sym (ap (λ (z : StepResult). z.session.turn) (same_Some _ _ e)) }
-
-  by : (o : Option Choice) → choice s ≡ o → moment_for s o ≡ Some m → IsOneMore s m
-  by None is e = absurd (none-some m e)
-  by (Some c) is e = of c (keyed number_of c.who.job s.jobs) is e
+one_more s m = grind arith
 
 rises_by_one : (s : Session) (m : StepResult) → next s ≡ Some m → m.session.turn ≤ s.turn + 1
 rises_by_one s m e = let x = one_more s m e in by x.chosen x.turn (chosen_so s x.chosen x.is) where
@@ -56,10 +42,7 @@ rises_by_one s m e = let x = one_more s m e in by x.chosen x.turn (chosen_so s x
 
 rises : (k : ℕ) (s : Session) → (after k s).turn ≤ s.turn + k
 rises zero s = omega arith
-rises (suc k) s = by (λ z. rises k z) (next s) refl where
-  by : ((z : Session) → (after k z).turn ≤ z.turn + k) → (o : Option StepResult) → next s ≡ o → (after_from (suc k) s o).turn ≤ s.turn + suc k
-  by rest None e = omega arith
-  by rest (Some m) e = omega (arith, rest m.session, rises_by_one s m e)
+rises (suc k) s = grind (arith, rises_by_one, rises k)
 
 -- the task that makes a step of which the turn is one longer is the last one
 same_task : (s : Session) (m : StepResult) → next s ≡ Some m → 1 ≤ s.turn → m.session.turn ≡ s.turn + 1 → (c : Choice) → choice s ≡ Some c → c.who ≡ s.last
@@ -70,10 +53,7 @@ same_task s m e some longer c is = let x = one_more s m e in by (sym (ap (λ (z 
 
 -- so it is where one step makes the turn one longer
 pub last_goes_on : (s : Session) → 1 ≤ s.turn → (after 1 s).turn ≡ s.turn + 1 → (c : Choice) → choice s ≡ Some c → c.who ≡ s.last
-last_goes_on s some longer c is = by (next s) refl longer where
-  by : (o : Option StepResult) → next s ≡ o → (after_from 1 s o).turn ≡ s.turn + 1 → c.who ≡ s.last
-  by None e longer = absurd (omega (arith, longer))
-  by (Some m) e longer = same_task s m e some longer c is
+last_goes_on s some longer c is = grind (arith, same_task)
 
 -- so before none of these steps the task is another
 pub none_switches : (k : ℕ) (places : List CodePlace) (s : Session) → 1 ≤ s.turn → (after k s).turn ≡ s.turn + k → (j : ℕ) → j < k → IsSought sought.Switch places (after j s) → ⊥
@@ -91,9 +71,7 @@ none_switches (suc k) places s some all j low = by (λ z. none_switches k places
 
 -- the turn of the session after steps is what the tables tell, which count one more for each
 pub turn_is : (told : Option (List (List ℕ))) (k : ℕ) (s : Session) (old new : Machine) → StandsAt told old s → GoesOnInTurn told k s old new → new.tasks.turn ≡ old.tasks.turn + k → (after k s).turn ≡ s.turn + k
-turn_is told k s old new h x counted =
-    let now : x.session.turn ≡ s.turn + k = sym x.stands.stands.tables.counts.turn ∙ counted ∙ ap (λ (n : ℕ). n + k) h.stands.tables.counts.turn in
-    ap (λ (z : Session). z.turn) x.leads ∙ now
+turn_is told k s old new h x counted = grind arith
 
 -- after a step a task has the turn
 pub turn_some : (s : Session) (m : StepResult) → next s ≡ Some m → 1 ≤ m.session.turn

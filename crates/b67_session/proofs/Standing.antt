@@ -1,7 +1,7 @@
 -- Where the chosen task stands, by the registers or by its row, and whether what is sought holds of it.
 use Rattle.std.proofs.Common.{◌≡◌, ◌≢◌, ◌≤◌, ℕ, ◌-◌, List, map, Option, Some, None, refl, sym, ap, ◌∙◌, subst, arith}
 use Rattle.std.specs.List.{slice_get}
-use Rattle.std.proofs.lemmas.Option.{none-some, same_Some}
+use Rattle.std.proofs.lemmas.Option.{same_Some}
 use Rattle.b67_lemmas.specs.Lists.{Has}
 use Rattle.b67_lemmas.proofs.Places.{at_mapped}
 use Rattle.b67_word.specs.declared.couples.Place.{Place}
@@ -33,13 +33,11 @@ abbrev pub code_place : ℕ → ℕ → Place → CodePlace
 code_place job segment place = record { job = job; segment = segment; place = place }
 
 same_place : {job job' segment segment' : ℕ} {place place' : Place} → job ≡ job' → segment ≡ segment' → place ≡ place' → code_place job segment place ≡ code_place job' segment' place'
-same_place {job' = job'} {segment = segment} {segment' = segment'} {place = place} a b c =
-    ap (λ (z : ℕ). code_place z segment place) a ∙ ap (λ (z : ℕ). code_place job' z place) b ∙ ap (code_place job' segment') c
+same_place {job' = job'} {segment = segment} {segment' = segment'} {place = place} a b c = grind arith
 
 -- the chosen row is that of the task that makes the next step
 pub its_who : (rows : List TaskRow) (c : Chosen) (s : Session) (m : SessionJob) (t : Task) (n : IsNext s m t) → n.chosen ≡ choice_of c → IsReadyAt rows c.row (choice_of c).who → (r : TaskRow) → slice_get rows c.row ≡ Some r → who_of r ≡ n.chosen.who
-its_who rows c s m t n same ready r at =
-    ap who_of (same_Some r ready.row (sym at ∙ ready.at)) ∙ ready.is ∙ ap (λ (z : Choice). z.who) (sym same)
+its_who rows c s m t n same ready r at = grind arith
 
 module _ (said : Option (List (List ℕ))) (k : Machine) (s : Session) (m : SessionJob) (t : Task) (n : IsNext s m t) (h : StandsAt said k s) (i : ℕ) (r : TaskRow) (at : slice_get k.tasks.rows.items i ≡ Some r) (is : who_of r ≡ n.chosen.who) where
   its_row : TaskShows h.plan m t (task_row r)
@@ -100,10 +98,7 @@ module _ (x : Storage) (told : Option (List (List ℕ))) (k : Machine) (plan : P
 
 -- where no task is chosen, nothing is sought
 pub none_sought : (what : Sought) (places : List CodePlace) (s : Session) → choice s ≡ None → IsSought what places s → ⊥
-none_sought sought.Place places s none (m, t, n, has) = none-some n.chosen (sym none ∙ n.is)
-none_sought sought.Switch places s none (c, is, other) = none-some c (sym none ∙ is)
-none_sought (sought.Within job number upto) places s none (m, t, n, a, b, low) = none-some n.chosen (sym none ∙ n.is)
-none_sought sought.Deepest places s none is = is
+none_sought what places s none is = grind arith
 
 -- a chosen task stands there
 abbrev pub IsPlaceOf : Machine → Chosen → CodePlace → Type 0
@@ -159,18 +154,10 @@ module _ (said : Option (List (List ℕ))) (k : Machine) (s : Session) (h : Stan
       (sym (job_is s m t n ∙ ap (λ (z : Choice). z.who.job) here) ∙ same_job, sym (task_is s m t n ∙ ap (λ (z : Choice). z.who.task) here) ∙ same_number, low))
 
   pub switch_sought : (c.job ≡ k.tasks.last_job → c.number ≢ k.tasks.last_number) → IsSought sought.Switch places s
-  switch_sought other = (
-    choice_of c,
-    chooses.1,
-    λ (is : (choice_of c).who ≡ s.last).
-        other (ap (λ (z : Who). z.job) is ∙ sym h.stands.tables.counts.last_job) (ap (λ (z : Who). z.task) is ∙ sym h.stands.tables.counts.last_number),
-  )
+  switch_sought other = grind arith
 
   pub switch_unsought : (c.job ≡ k.tasks.last_job) × (c.number ≡ k.tasks.last_number) → IsSought sought.Switch places s → ⊥
-  switch_unsought (job, number) (d, is, other) =
-      let here : (choice_of c).who ≡ s.last =
-      ap (λ (z : ℕ). who_by z c.number) (job ∙ h.stands.tables.counts.last_job) ∙ ap (who_by s.last.job) (number ∙ h.stands.tables.counts.last_number) in
-      other (ap (λ (z : Choice). z.who) (same_Some d (choice_of c) (sym is ∙ chooses.1)) ∙ here)
+  switch_unsought (job, number) (d, is, other) = grind arith
 
 -- the last task makes the next operator, and its registers are in use
 module _ (said : Option (List (List ℕ))) (k : Machine) (s : Session) (m : SessionJob) (t : Task) (n : IsNext s m t) (h : StandsAt said k s) (last : n.chosen.who ≡ s.last) (runs : IsRunning h.plan s.jobs m t) (places : List CodePlace) where
@@ -181,9 +168,7 @@ module _ (said : Option (List (List ℕ))) (k : Machine) (s : Session) (m : Sess
   last_number = h.stands.tables.counts.last_number ∙ ap (λ (z : Who). z.task) (sym last) ∙ sym (task_is s m t n)
 
   pub place_elsewhere : IsSought sought.Place places s → Has places (code_place k.tasks.last_job k.cpu.regs.segment k.cpu.regs.place)
-  place_elsewhere (y, u, next, has) =
-      let q = h.stands.session.holds.running m t runs in
-      subst (Has places) (sym (same_place last_job q.segment q.place)) (as_next s m y t u (λ (z : SessionJob) (v : Task). Has places (stands_at z v)) next n has)
+  place_elsewhere (y, u, next, has) = grind (arith, last_job)
 
   pub no_switch : IsSought sought.Switch places s → ⊥
   no_switch (c, is, other) = other (ap (λ (z : Choice). z.who) (same_Some c n.chosen (sym is ∙ n.is)) ∙ last)
@@ -191,5 +176,4 @@ module _ (said : Option (List (List ℕ))) (k : Machine) (s : Session) (m : Sess
   pub within_elsewhere : (job number upto : ℕ) → IsSought (sought.Within job number upto) places s → (k.tasks.last_job ≡ job) × (k.tasks.last_number ≡ number) × (k.cpu.regs.f - k.cpu.regs.bosr ≤ upto)
   within_elsewhere job number upto (y, u, next, same_job, same_number, low) =
       let high = running_heights h.storage k.cpu h.plan s m t h.stands.session runs in
-      let is = as_next s m y t u (λ (z : SessionJob) (v : Task). (z.constants.number ≡ job) × (v.number ≡ number) × (mark_height v ≤ upto)) next n (same_job, same_number, low) in
-      (last_job ∙ is.0, last_number ∙ is.1, subst (λ (i : ℕ). i ≤ upto) (sym high.1) is.2)
+      grind (arith, last_job, last_number)

@@ -1,15 +1,11 @@
 -- A step that touches an array starts no task.
-use Rattle.std.proofs.Common.{◌≡◌, ℕ, ◌+◌, eqb, inl, inr, ltb, leb, true, false, List, [], ◌∷◌, reverse, replicate, length, Option, Some, None, Ok, Err, refl, sym, ◌∙◌, ap, arith, ℤ, pos, negsuc}
+use Rattle.std.proofs.Common.{◌≡◌, ℕ, ◌+◌, ltb, leb, List, [], ◌∷◌, length, Option, Some, None, Ok, Err, sym, ◌∙◌, ap, arith, ℤ}
 use Rattle.std.proofs.lemmas.List.{length-map}
-use Rattle.std.proofs.lemmas.Bool.{cases_Bool}
 use Rattle.b67_word.specs.declared.faults.Fault.TheVariants.{StackOverflow}
 use Rattle.b67_model.specs.declared.operators.Op.{Op}
-use Rattle.b67_model.specs.declared.operators.Op.TheVariants.{Plain}
-use Rattle.b67_model.specs.declared.operators.Code.TheVariants.{Entr}
-use Rattle.b67_model.specs.Common.{Answer, needs, Word, Operand, Original, Reading, Frame, Array, Standing, Marked, Entered, Task, JobConstants, Job, SessionJob, OperatorContext, top, below_top, array, with_array, all_zero, End, AtCell, AtElement, AtArray, AtProc, AtIntrinsic, follow_reference, Line, Done, Goes, Leaves, Waits, top_of, cells_of, result, needs_level, back_to, answered, answers, array_length, arraydec, print, numbers_of, row_copy, printrow, read_from, read, child_of, starts, process, awaits, await, status_of, status, waits_at, wait, causes, cause, needs_writable, deallocate, resize, intrinsic, touched_of, started_by, entr_at, entr_with, entr, row, reading_of, step_by, step, called}
-use Rattle.b67_model.specs.Words.{whole}
+use Rattle.b67_model.specs.Common.{Answer, needs, Word, Operand, Reading, Standing, Task, JobConstants, Job, SessionJob, OperatorContext, array, End, AtCell, AtElement, AtArray, AtProc, AtIntrinsic, Line, Done, Goes, Leaves, Waits, result, needs_level, answered, answers, arraydec, print, printrow, read, child_of, starts, process, awaits, await, status, waits_at, wait, causes, cause, deallocate, resize, intrinsic, touched_of, started_by, entr_at, entr_with, entr, row, reading_of, step_by, step, called}
 use Rattle.b67_model.specs.Keyed.{keyed}
-use Rattle.b67_law_order.proofs.Posts.{Post, post_ok, post_err, post_any, post_then, post_if, post_more, post_is}
+use Rattle.b67_law_order.proofs.Posts.{Post, post_ok, post_err, post_then, post_if, post_more, post_is}
 use Rattle.b67_layout.specs.Placement.{Placement}
 use Rattle.b67_layout.specs.Session.{IsRunning}
 use Rattle.b67_law_order.specs.Profiles.{Profile, profile, profiles, IsKnown}
@@ -34,26 +30,16 @@ module _ (n : ℕ) where
   none h job words printed = post_then (Quiet n) _ _ (none_result h job (answered h words) printed)
 
   arraydec_quiet : (h : OperatorContext) (arguments : List Word) → Post (Quiet n) (arraydec h arguments)
-  arraydec_quiet h [] = post_err (Quiet n) _
-  arraydec_quiet h (w ∷ []) = post_any (Quiet n) (whole w) _ (λ v. post_any (Quiet n) (array_length v) _ (λ len.
-      let made : Array = record { identity = h.job.next_array; owner = (top (below_top h.task.frames)).identity; writable = true; numbers = replicate len 0 } in
-      none h (record h.job { arrays = made ∷ h.job.arrays; next_array = h.job.next_array + 1 }) (Original h.job.next_array ∷ []) []))
-  arraydec_quiet h (w ∷ v ∷ more) = post_err (Quiet n) _
+  arraydec_quiet h arguments = grind arith
 
   print_quiet : (h : OperatorContext) (arguments : List Word) → Post (Quiet n) (print h arguments)
-  print_quiet h [] = post_err (Quiet n) _
-  print_quiet h (w ∷ []) = post_any (Quiet n) (whole w) _ (λ v. none h h.job [] _)
-  print_quiet h (w ∷ v ∷ more) = post_err (Quiet n) _
+  print_quiet h arguments = grind arith
 
   printrow_quiet : (h : OperatorContext) (arguments : List Word) → length h.job.tasks ≡ n → Post (Quiet n) (printrow h arguments)
-  printrow_quiet h [] e = post_err (Quiet n) _
-  printrow_quiet h (w ∷ []) e = post_any (Quiet n) (row_copy w) _ (λ a. post_any (Quiet n) (numbers_of (array h.job a).numbers) _ (λ values.
-      post_then (Quiet n) _ _ (post_then (Quiet n) _ _ (post_ok (Quiet n) _ (length_change (λ (u : Task). u.number) (answered h []).number (answered h []) h.job.tasks ∙ e)))))
-  printrow_quiet h (w ∷ v ∷ more) e = post_err (Quiet n) _
+  printrow_quiet h arguments e = grind (arith, length_change)
 
   read_quiet : (h : OperatorContext) (arguments : List Word) → Post (Quiet n) (read h arguments)
-  read_quiet h [] = none h (record h.job { numbers = (read_from h.job.numbers).1 }) (Operand (read_from h.job.numbers).0 ∷ []) []
-  read_quiet h (w ∷ more) = post_err (Quiet n) _
+  read_quiet h arguments = grind arith
 
   starts_quiet : (h : OperatorContext) (words : List Word) (end : End) → Post (Quiet n) (starts h words end)
   starts_quiet h words (AtProc f segment level place) =
@@ -66,82 +52,46 @@ module _ (n : ℕ) where
   starts_quiet h words (AtIntrinsic k) = post_err (Quiet n) _
 
   process_quiet : (h : OperatorContext) (arguments : List Word) → Post (Quiet n) (process h arguments)
-  process_quiet h [] = post_err (Quiet n) _
-  process_quiet h (r ∷ words) = post_then (Quiet n) _ _ (post_any (Quiet n) (follow_reference h r) _ (λ end. starts_quiet h words end))
+  process_quiet h arguments = grind (arith, starts_quiet)
 
   awaits_quiet : (h : OperatorContext) (v : ℤ) → Post (Quiet n) (awaits h v)
-  awaits_quiet h (negsuc v) = none h h.job [] []
-  awaits_quiet h (pos v) = post_if (Quiet n) _ _ _ (post_ok (Quiet n) _ tt) (none h h.job [] [])
+  awaits_quiet h v = grind arith
 
   await_quiet : (h : OperatorContext) (arguments : List Word) → Post (Quiet n) (await h arguments)
-  await_quiet h [] = post_err (Quiet n) _
-  await_quiet h (w ∷ []) = post_any (Quiet n) (whole w) _ (λ v. awaits_quiet h v)
-  await_quiet h (w ∷ v ∷ more) = post_err (Quiet n) _
+  await_quiet h arguments = grind arith
 
   status_quiet : (h : OperatorContext) (arguments : List Word) → Post (Quiet n) (status h arguments)
-  status_quiet h [] = post_err (Quiet n) _
-  status_quiet h (w ∷ []) = post_any (Quiet n) (whole w) _ (λ v. none h h.job (Operand (status_of h.job v) ∷ []) [])
-  status_quiet h (w ∷ v ∷ more) = post_err (Quiet n) _
+  status_quiet h arguments = grind arith
 
   waits_at_quiet : (h : OperatorContext) (end : End) → Post (Quiet n) (waits_at h end)
-  waits_at_quiet h (AtCell f offset bits) = post_if (Quiet n) _ _ _ (post_ok (Quiet n) _ tt) (none h h.job [] [])
-  waits_at_quiet h (AtElement a index) = post_err (Quiet n) _
-  waits_at_quiet h (AtArray a) = post_err (Quiet n) _
-  waits_at_quiet h (AtProc f segment level place) = post_err (Quiet n) _
-  waits_at_quiet h (AtIntrinsic k) = post_err (Quiet n) _
+  waits_at_quiet h end = grind arith
 
   wait_quiet : (h : OperatorContext) (arguments : List Word) → Post (Quiet n) (wait h arguments)
-  wait_quiet h [] = post_err (Quiet n) _
-  wait_quiet h (r ∷ []) = post_any (Quiet n) (follow_reference h r) _ (λ end. waits_at_quiet h end)
-  wait_quiet h (r ∷ v ∷ more) = post_err (Quiet n) _
+  wait_quiet h arguments = grind arith
 
   causes_quiet : (h : OperatorContext) (end : End) → Post (Quiet n) (causes h end)
-  causes_quiet h (AtCell f offset bits) = post_then (Quiet n) _ _ (post_ok (Quiet n) _ tt)
-  causes_quiet h (AtElement a index) = post_err (Quiet n) _
-  causes_quiet h (AtArray a) = post_err (Quiet n) _
-  causes_quiet h (AtProc f segment level place) = post_err (Quiet n) _
-  causes_quiet h (AtIntrinsic k) = post_err (Quiet n) _
+  causes_quiet h end = grind arith
 
   cause_quiet : (h : OperatorContext) (arguments : List Word) → Post (Quiet n) (cause h arguments)
-  cause_quiet h [] = post_err (Quiet n) _
-  cause_quiet h (r ∷ []) = post_any (Quiet n) (follow_reference h r) _ (λ end. causes_quiet h end)
-  cause_quiet h (r ∷ v ∷ more) = post_err (Quiet n) _
+  cause_quiet h arguments = grind arith
 
   deallocate_quiet : (h : OperatorContext) (arguments : List Word) → Post (Quiet n) (deallocate h arguments)
-  deallocate_quiet h [] = post_err (Quiet n) _
-  deallocate_quiet h (w ∷ []) = post_any (Quiet n) (row_copy w) _ (λ a. post_then (Quiet n) (needs_writable h a) _ (none h (with_array h.job a all_zero) [] []))
-  deallocate_quiet h (w ∷ v ∷ more) = post_err (Quiet n) _
+  deallocate_quiet h arguments = grind arith
 
   resize_quiet : (h : OperatorContext) (arguments : List Word) → length h.job.tasks ≡ n → Post (Quiet n) (resize h arguments)
-  resize_quiet h [] e = post_err (Quiet n) _
-  resize_quiet h (r ∷ []) e = post_err (Quiet n) _
-  resize_quiet h (r ∷ w ∷ []) e = post_any (Quiet n) (row_copy r) _ (λ a. post_any (Quiet n) (whole w) _ (λ v. post_any (Quiet n) (array_length v) _ (λ len.
-      post_then (Quiet n) (needs_writable h a) _
-      (post_then (Quiet n) _ _ (post_then (Quiet n) _ _ (post_ok (Quiet n) _ (length_change (λ (u : Task). u.number) (answered h []).number (answered h []) h.job.tasks ∙ e)))))))
-  resize_quiet h (r ∷ w ∷ v ∷ more) e = post_err (Quiet n) _
+  resize_quiet h arguments e = grind (arith, length_change)
 
   intrinsic_quiet : (k : ℕ) (h : OperatorContext) (arguments : List Word) → length h.job.tasks ≡ n → Post (Quiet n) (intrinsic k h arguments)
-  intrinsic_quiet k h arguments e =
-      post_if (Quiet n) _ _ _ (arraydec_quiet h arguments) (post_if (Quiet n) _ _ _ (print_quiet h arguments) (post_if (Quiet n) _ _ _ (printrow_quiet h arguments e) (post_if (Quiet n) _ _ _ (read_quiet h arguments)
-      (post_if (Quiet n) _ _ _ (process_quiet h arguments) (post_if (Quiet n) _ _ _ (await_quiet h arguments) (post_if (Quiet n) _ _ _ (status_quiet h arguments) (post_if (Quiet n) _ _ _ (wait_quiet h arguments) (post_if (Quiet n) _ _ _ (cause_quiet h arguments)
-      (post_if (Quiet n) _ _ _ (deallocate_quiet h arguments) (post_if (Quiet n) _ _ _ (resize_quiet h arguments e) (post_err (Quiet n) _)))))))))))
+  intrinsic_quiet k h arguments e = grind (arith, post_if, arraydec_quiet, print_quiet, printrow_quiet, read_quiet, process_quiet, await_quiet, status_quiet, wait_quiet, cause_quiet, deallocate_quiet, resize_quiet)
 
   entr_at_quiet : (h : OperatorContext) (arguments : List Word) (end : End) → length h.job.tasks ≡ n → Post (Quiet n) (entr_at h arguments end)
-  entr_at_quiet h arguments (AtIntrinsic k) e = intrinsic_quiet k h arguments e
-  entr_at_quiet h arguments (AtProc f segment level place) e =
-      let entered : Frame = record (top_of h) { standing = Entered level f (Some (back_to h false h.task.place)); cells = reverse arguments } in
-      post_then (Quiet n) (needs_level h f level) _ (none_result h h.job (record h.task { frames = entered ∷ below_top h.task.frames; segment = segment; place = place }) [])
-  entr_at_quiet h arguments (AtCell f offset bits) e = post_err (Quiet n) _
-  entr_at_quiet h arguments (AtElement a index) e = post_err (Quiet n) _
-  entr_at_quiet h arguments (AtArray a) e = post_err (Quiet n) _
+  entr_at_quiet h arguments end e = grind (arith, intrinsic_quiet)
 
   entr_with_quiet : (h : OperatorContext) (cells : List Word) → length h.job.tasks ≡ n → Post (Quiet n) (entr_with h cells)
-  entr_with_quiet h [] e = post_err (Quiet n) _
-  entr_with_quiet h (r ∷ arguments) e = post_any (Quiet n) (follow_reference h r) _ (λ end. entr_at_quiet h arguments end e)
+  entr_with_quiet h cells e = grind (arith, entr_at_quiet)
 
   entr_quiet : (h : OperatorContext) (standing : Standing) → length h.job.tasks ≡ n → Post (Quiet n) (entr h standing)
-  entr_quiet h Marked e = entr_with_quiet h (reverse (cells_of h)) e
-  entr_quiet h (Entered level environment back) e = post_err (Quiet n) _
+  entr_quiet h standing e = grind (arith, entr_with_quiet)
 
 -- other operators keep the profiles of all tasks
 kept : (op : Op) (h : OperatorContext) → IsKnown h → called op h ≡ None → Post (Quiet (length h.job.tasks)) (row op h)
@@ -154,15 +104,11 @@ kept op h known none_called = post_more (λ (x : Done). row op h ≡ Ok x) (Quie
   by (Waits condition) is = tt
 
 row_quiet : (op : Op) (h : OperatorContext) → IsKnown h → Post (Quiet (length h.job.tasks)) (row op h)
-row_quiet (Plain Entr) h known = entr_quiet (length h.job.tasks) h (top_of h).standing refl
-row_quiet op h known = kept op h known refl
+row_quiet op h known = grind (arith, entr_quiet, kept)
 
 pub known_in : (n : ℕ) (ts : List Task) (t : Task) → keyed (λ (u : Task). u.number) n ts ≡ Some t → keyed (λ (p : Profile). p.number) n (profiles ts) ≡ Some (profile t)
 known_in n [] t e = cc
-known_in n (u ∷ us) t e = elim (cases_Bool (eqb u.number n)) [
-  | inl q ↦ rw q (let at : Some u ≡ Some t = rw q at e in let same : u ≡ t = cc in ap (λ (v : Task). Some (profile v)) same)
-  | inr q ↦ rw q (known_in n us t (rw q at e))
-]
+known_in n (u ∷ us) t e = grind (arith, known_in n us t)
 
 by_reading : (constants : JobConstants) (job : Job) (t : Task) (r : Reading) → keyed (λ (u : Task). u.number) t.number job.tasks ≡ Some t → Post (Quiet (length job.tasks)) (step_by constants job t r)
 by_reading constants job t (Err why) e = post_err (Quiet (length job.tasks)) _
@@ -173,11 +119,7 @@ unfolding step
 step_quiet constants job t e = by_reading constants job t (reading_of constants t) e
 
 starts_none : (constants : JobConstants) (job : Job) (t : Task) (a : ℕ) (made : Answer Done) → Post (Quiet (length job.tasks)) made → touched_of constants job t made ≡ Some a → started_by job made ≡ 0
-starts_none constants job t a (Ok (Goes after printed None)) quiet e = cc
-starts_none constants job t a (Ok (Goes after printed (Some b))) quiet e = let same = quiet.by in omega (arith, same)
-starts_none constants job t a (Ok Leaves) quiet e = refl
-starts_none constants job t a (Ok (Waits condition)) quiet e = refl
-starts_none constants job t a (Err fault) quiet e = refl
+starts_none constants job t a made quiet e = grind arith
 
 pub none_started : (plan : Placement) (jobs : List SessionJob) (m : SessionJob) (t : Task) (a : ℕ) → IsRunning plan jobs m t → touched_of m.constants m.progress.job t (step m.constants m.progress.job t) ≡ Some a → started_by m.progress.job (step m.constants m.progress.job t) ≡ 0
 none_started plan jobs m t a runs e = starts_none m.constants m.progress.job t a (step m.constants m.progress.job t) (step_quiet m.constants m.progress.job t runs.task) e

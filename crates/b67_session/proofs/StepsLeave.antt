@@ -1,10 +1,9 @@
 -- After a step what is left lies where it lay.
-use Rattle.std.proofs.Common.{◌≡◌, List, ℕ, Option, Some, None, Result, Ok, Err, refl, sym, ap, ◌∙◌, subst}
+use Rattle.std.proofs.Common.{◌≡◌, List, ℕ, Option, Some, None, Result, Ok, Err, refl, sym, ap, ◌∙◌, subst, arith}
 use Rattle.std.proofs.lemmas.Option.{none-some}
 use Rattle.b67_word.specs.declared.faults.Failed.{Failed}
 use Rattle.b67_lemmas.specs.Lists.{Has}
-use Rattle.b67_model.specs.Common.{IsInOrderButPlaces, StepResult, Session, Task, SessionJob, Stepped, next, after}
-use Rattle.b67_model.specs.Run.{after_from}
+use Rattle.b67_model.specs.Common.{IsInOrderButPlaces, StepResult, Session, Task, SessionJob, Stepped, after}
 use Rattle.b67_law_sessions.specs.Orders.{IsInOrderButLimit, SettlesInOrder}
 use Rattle.b67_law_sessions.specs.Turns.{IsNext, part_of}
 use Rattle.b67_law_sessions.proofs.Parts.{first_parts_keep_order}
@@ -45,9 +44,7 @@ module _ {K : Type 0} (taken : K → Option (List ℕ)) (s : Session) (part : St
     (x : Storage) (told : Option (List (List ℕ))) (plan : Placement) (mid last : Machine) (paper paper' : K) (answered : Result (Unit {0}) Stop)
     (stands : MachineRepresents x told mid plan part.session) (each : EndsEach taken answered mid last paper paper') where
   after_is : (q : Option StepResult) → last_part part.session ≡ q → after 1 s ≡ (joined part q).session
-  after_is q e =
-      let next_is : next s ≡ Some (joined part q) = steps-have-parts s part first ∙ ap (λ (r : Option StepResult). Some (joined part r)) e in
-      ap (after_from 1 s) next_is
+  after_is q e = grind (arith, steps-have-parts)
 
   -- nothing has moved
   as_before : MachineRepresents x told last plan part.session → StandsInPlace x told last plan part.session part.session

@@ -23,7 +23,7 @@ use Rattle.b67_session.specs.Tries.{IsWantedByStep}
 use Rattle.b67_session.specs.Attempts.{IsLacking, LacksRoom, for_segment, for_array, CodeFits, for_want}
 use Rattle.b67_session.specs.Brought.{Stopped, BroughtFits}
 use Rattle.b67_mcp.specs.Stopping.{StopsFor}
-use Rattle.b67_session.proofs.Numbers.{need_of, need_fits, code_beside}
+use Rattle.b67_session.proofs.Numbers.{need_of, need_fits}
 use Rattle.b67_mcp.proofs.Told.{told_is}
 use Rattle.b67_session.proofs.Composed.{unchanged, same_member}
 
@@ -47,11 +47,7 @@ module _ (x : Storage) (told told' : Option (List (List ℕ))) (old new : Machin
 
   -- what is missing where it was refused, in the session itself
   lacking : (y : Storage) (home : What) → IsWantedByStep plan m t home words → Lacks y home plan m t → IsLacking y plan m t
-  lacking y (what.Code displacement) touch absent = inl absent
-  lacking y (what.Array home) touch (inl absent) = inl absent
-  lacking y (what.Array home) touch (inr absent) =
-      let (a, among, home_is, is, count_is) = touch in
-      inr (inl (a.identity, is, ap (λ (at : ℕ). (y.held at).area) home_is ∙ absent))
+  lacking y home touch absent = grind arith
 
   -- and that core has room
   room : (y : Storage) (home : What) → IsWanted x plan m t home words → IsWantedByStep plan m t home words → Lacks y home plan m t → need_with s m t 0 words ≤ length old.cpu.core
@@ -86,16 +82,10 @@ module _ (x : Storage) (told told' : Option (List (List ℕ))) (old new : Machin
 
     room_again : Lacks again.storage found plan m t → need_with s m t 0 words ≤ length old.cpu.core → x.device ≢ None
         → (need (length old.cpu.core) (record s { jobs = again.jobs }) other.member t ≤ length old.cpu.core) ⊎ (code_area again.storage plan other.member t ≡ None)
-    room_again absent low n =
-        let M : SessionJob → Type 0 = λ z. (need (length old.cpu.core) (record s { jobs = again.jobs }) z t ≤ length old.cpu.core) ⊎ (code_area again.storage plan z t ≡ None) in
-        let J : List SessionJob → Type 0 = λ jobs. (need (length old.cpu.core) (record s { jobs = jobs }) m t ≤ length old.cpu.core) ⊎ (code_area again.storage plan m t ≡ None) in
-        subst M (sym (same_member plan s again.jobs m t runs other (again.same n))) (subst J (sym (again.same n)) (room again.storage found wanted touched absent low))
+    room_again absent low n = grind (arith, other, room)
 
     code_again : need_with s m t 0 words ≤ length old.cpu.core → x.device ≢ None → CodeFits (length old.cpu.core) (record s { jobs = again.jobs }) other.member t
-    code_again low n =
-        let M : SessionJob → Type 0 = λ z. CodeFits (length old.cpu.core) (record s { jobs = again.jobs }) z t in
-        let J : List SessionJob → Type 0 = λ jobs. CodeFits (length old.cpu.core) (record s { jobs = jobs }) m t in
-        subst M (sym (same_member plan s again.jobs m t runs other (again.same n))) (subst J (sym (again.same n)) (code_beside (length old.cpu.core) s m t words low))
+    code_again low n = grind (arith, other)
 
     no_room_again : HasNoRoom again.storage found words plan m t → x.device ≢ None → LacksRoom again.storage plan other.member t
     no_room_again none n =
@@ -145,17 +135,7 @@ module _ (x : Storage) (told told' : Option (List (List ℕ))) (old new : Machin
 
   pub stopped_fits : (fault : SpaceFault) (stop : Stop) → StopsFor new fault stop → (length old.cpu.core < need_with s m t 0 words → fault ≡ space.NoCore (need_with s m t 0 words) (length old.cpu.core))
       → BroughtFits (length old.cpu.core) x plan s m t (Err stop)
-  stopped_fits (space.NoCore words' size) stop h exactly =
-      let S : Stop → Type 0 = λ z. BroughtFits (length old.cpu.core) x plan s m t (Err z) in
-      subst S (sym h) tt
-  stopped_fits (space.BackingFull wants free) stop (sum, size, stop_is, sums, size_is) exactly =
-      let S : Stop → Type 0 = λ z. BroughtFits (length old.cpu.core) x plan s m t (Err z) in
-      let low = has_room (space.BackingFull wants free) (λ a b e. absurd cc) exactly in
-      subst S (sym stop_is) (present_room found wanted touched low)
-  stopped_fits space.BackingFault stop h exactly =
-      let S : Stop → Type 0 = λ z. BroughtFits (length old.cpu.core) x plan s m t (Err z) in
-      let low = has_room space.BackingFault (λ a b e. absurd cc) exactly in
-      subst S (sym h) (present_room found wanted touched low)
+  stopped_fits fault stop h exactly = grind (arith, present_room)
 
   pub stopped_so : StillLacks x told' new plan s m t found → (fault : SpaceFault) (stop : Stop) → StopsFor new fault stop → count + 1 ≡ length new.sectors.links
       → ((words' size : ℕ) → fault ≡ space.NoCore words' size → (length old.cpu.core < need_with s m t 0 words) × (words' ≡ need_with s m t 0 words) × (size ≡ length old.cpu.core))
@@ -180,6 +160,4 @@ module _ (x : Storage) (told told' : Option (List (List ℕ))) (old new : Machin
 
 -- a stop for too few sectors is that of the call
 pub full_fault : (k : Machine) (fault : SpaceFault) (stop : Stop) (sum size : ℕ) → StopsFor k fault stop → stop ≡ stops.BackingFull sum size → (wants : ℕ) × (free : ℕ) × (fault ≡ space.BackingFull wants free)
-full_fault k (space.NoCore words free) stop sum size h e = let d = sym h ∙ e in absurd cc
-full_fault k (space.BackingFull wants free) stop sum size h e = (wants, free, refl)
-full_fault k space.BackingFault stop sum size h e = let d = sym h ∙ e in absurd cc
+full_fault k fault stop sum size h e = grind arith

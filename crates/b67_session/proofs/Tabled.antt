@@ -1,5 +1,5 @@
 -- What a step leaves of the tables' counts.
-use Rattle.std.proofs.Common.{◌≡◌, ◌≢◌, ℕ, Err, refl, ap}
+use Rattle.std.proofs.Common.{◌≡◌, ◌≢◌, ℕ, Err, ap, arith}
 use Rattle.b67_task_tables.specs.declared.tables.Tasks.{Tasks}
 use Rattle.b67_session.specs.AttemptStops.{Stop}
 use Rattle.b67_session.specs.AttemptStops as stops
@@ -7,10 +7,7 @@ use Rattle.b67_session.specs.Attempts.{TablesStay}
 
 -- a stop but a printer's leaves the tables
 pub stop_printed : (stop : Stop) (old new : Tasks) → TablesStay (Err stop) old new → stop ≢ stops.PrintFault → new.printed ≡ old.printed
-stop_printed (stops.NoCore words size) old new same other = ap (λ (z : Tasks). z.printed) same
-stop_printed (stops.BackingFull sum size) old new same other = ap (λ (z : Tasks). z.printed) same
-stop_printed stops.BackingFault old new same other = ap (λ (z : Tasks). z.printed) same
-stop_printed stops.PrintFault old new same other = absurd (other refl)
+stop_printed stop old new same other = grind arith
 
 -- another row runs, with the same counts
 pub turned_printed : (old new : Tasks) (row : ℕ) → new ≡ record old { rows = new.rows; running = row } → new.printed ≡ old.printed

@@ -1,5 +1,5 @@
 -- A step, once its operator was tried: what it answers, prints and leaves.
-use Rattle.std.proofs.Common.{◌≡◌, ◌≢◌, ℕ, ◌+◌, List, length, Option, Some, None, Result, Ok, Err, refl, sym, ap, ◌∙◌, subst, arith, inl}
+use Rattle.std.proofs.Common.{◌≡◌, ◌≢◌, ℕ, ◌+◌, List, length, Option, Some, None, Result, Ok, Err, refl, ap, ◌∙◌, subst, arith, inl}
 use Rattle.b67_word.specs.declared.faults.Ending.{Ending}
 use Rattle.b67_word.specs.declared.faults.Failed.{Failed}
 use Rattle.b67_model.specs.Common.{Stepped, ends_with, StepResult, Condition, Task, Job, SessionJob, Session, Choice, Waits, IsInOrderButPlaces}
@@ -47,19 +47,14 @@ use Rattle.b67_session.proofs.Tabled.{stop_printed, turned_printed, turned_made}
 -- ---- stops with room
 
 pub ended_not_full : (result : Result (Unit {0}) Failed) (answered : Result (Unit {0}) Stop) → StopOf result answered → IsNotFull answered
-ended_not_full (Ok done) answered is sum size e = let d = sym is ∙ e in absurd cc
-ended_not_full (Err failed) answered is sum size e = let d = sym is ∙ e in absurd cc
+ended_not_full result answered is sum size e = grind arith
 
 module _ (core : ℕ) (s : Session) (m : SessionJob) (t : Task) where
   pub ended_room : (result : Result (Unit {0}) Failed) (answered : Result (Unit {0}) Stop) → StopOf result answered → StopsWithRoom core s m t answered
-  ended_room (Ok done) answered is = subst (λ (r : Result (Unit {0}) Stop). StopsWithRoom core s m t r) (sym is) tt
-  ended_room (Err failed) answered is = subst (λ (r : Result (Unit {0}) Stop). StopsWithRoom core s m t r) (sym is) tt
+  ended_room result answered is = grind arith
 
   stopped_room : (x : Storage) (plan : Placement) (stop : Stop) → AttemptFits core x plan s m t (Err stop) → code_area x plan m t ≢ None → StopsWithRoom {A = Unit {0}} core s m t (Err stop)
-  stopped_room x plan (stops.NoCore words size) fits code = tt
-  stopped_room x plan (stops.BackingFull sum size) fits code = fits code
-  stopped_room x plan stops.BackingFault fits code = fits code
-  stopped_room x plan stops.PrintFault fits code = tt
+  stopped_room x plan stop fits code = grind arith
 
 -- what `close` promises of each session whose chosen task is known
 abbrev pub ClosesEach : {K : Type 0} → (K → Option (List ℕ)) → Chosen → Ending → Result (Unit {0}) Failed → Machine → Machine → K → K → Type 0

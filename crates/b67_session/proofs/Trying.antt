@@ -1,8 +1,8 @@
 -- What one try answers, from what the operator or the intrinsic answered.
-use Rattle.std.proofs.Common.{◌≡◌, ◌≢◌, ℕ, zero, suc, ◌+◌, List, [], ◌++◌, length, take, Option, Some, None, Ok, Err, refl, sym, ◌∙◌, ap, subst}
+use Rattle.std.proofs.Common.{◌≡◌, ◌≢◌, ℕ, ◌+◌, List, [], ◌++◌, length, take, Option, Some, None, Ok, Err, refl, sym, ◌∙◌, ap, subst, arith}
 use Rattle.std.proofs.lemmas.List.{append-nil}
 use Rattle.b67_word.specs.declared.faults.Fault.{Fault}
-use Rattle.b67_model.specs.Common.{Task, SessionJob, Answer, Done, Leaves, step, touched_of, number_of, Session}
+use Rattle.b67_model.specs.Common.{Task, SessionJob, Done, Leaves, step, Session}
 use Rattle.b67_layout.specs.Common.{IsInOrderButCounts, Placement, IsRunning, FindsAbsent}
 use Rattle.b67_stack.specs.declared.What.{What}
 use Rattle.b67_stack.specs.declared.What.TheVariants as what
@@ -15,7 +15,6 @@ use Rattle.b67_task_tables.specs.declared.tables.Tasks.{Tasks}
 use Rattle.b67_layout_step.proofs.Laws.{touches_arrays}
 use Rattle.b67_session.specs.Makes.{OperatorMade, CallsOrMakes, MakesAt}
 use Rattle.b67_mcp.specs.declared.ends.Stop.{Stop}
-use Rattle.b67_mcp.specs.declared.ends.Stop.TheVariants as stops
 use Rattle.b67_mcp.specs.Called.{IsCalled, StaysInPlace, TouchesAbsent, CallMeets, CallWrites}
 use Rattle.b67_presence.specs.Bringing.{IsWanted}
 use Rattle.b67_session.specs.Tries.{IsWantedByStep, LeavesAreas, TryMeets, TryWrites}
@@ -69,24 +68,10 @@ module _ (x : Storage) (told : Option (List (List ℕ))) (plan : Placement) (s :
 
   module _ (o : IsInOrderButCounts s) (runs : IsRunning plan s.jobs m t) where
     touches : (found : What) → FindsAbsent x plan m found (step m.constants m.progress.job t) → TouchesAbsent x plan m t found
-    touches found a =
-        let T : Answer Done → Option ℕ = touched_of m.constants m.progress.job t in
-        let (array, among, named) = touches_arrays s m t o (keyed_has number_of m.constants.number s.jobs m runs.member).0 (keyed_has (λ (u : Task). u.number) t.number m.progress.job.tasks t runs.task).0 a.job [] a.touched a.is in
-        let H : ℕ → ℕ = plan.home m.constants.number in
-        record {
-          array = array;
-          among = among;
-          touched = ap T a.is ∙ ap Some (sym named);
-          absent = ap (λ (i : ℕ). (x.held (H i)).area) named ∙ a.absent;
-          named = a.named ∙ ap (λ (i : ℕ). what.Array (H i)) (sym named);
-        }
+    touches found a = grind (arith, touches_arrays, keyed_has)
 
     pub was_absent : (found : What) (area : Option ℕ) → code_area x plan m t ≡ area → MakesAt x told plan s m t (answers.Absent found) old new area → Wants x plan m t found old new
-    was_absent found None is h =
-        let named : found ≡ what.Code (t.segment + 1) = (let e = h.0 in cc) in
-        let W : What → Type 0 = λ f. Wants x plan m t f old new in
-        let it : Wants x plan m t (what.Code (t.segment + 1)) old new = (0, (refl, is, refl), tt, h.1) in
-        subst W (sym named) it
+    was_absent found None is h = grind arith
     was_absent found (Some at) is h = by (called_in m t) h where
       by : (called : Option ℕ) → CallsOrMakes x told plan s m t (answers.Absent found) old new called → Wants x plan m t found old new
       by (Some n) h = let e = h.0 in absurd cc
@@ -94,8 +79,7 @@ module _ (x : Storage) (told : Option (List (List ℕ))) (plan : Placement) (s :
 
 -- an operator prints nothing
 nothing_left : (n : ℕ) → take {A = ℕ} n [] ++ [] ≡ []
-nothing_left zero = refl
-nothing_left (suc n) = refl
+nothing_left n = grind arith
 
 pub called_made : {K : Type 0} (taken : K → Option (List ℕ)) (paper : K) (x : Storage) (told : Option (List (List ℕ))) (plan : Placement) (s : Session) (m : SessionJob) (t : Task) (old new : Machine) → IsInOrderButCounts s → IsRunning plan s.jobs m t → called_in m t ≡ None → new.tasks ≡ old.tasks
     → OperatorMade x told plan s m t old new → (c : IsCalled taken paper paper told s m t old.tasks.printed new) × LeavesAreas x c.storage plan c.plan m t c.job
@@ -125,17 +109,7 @@ called_so taken x told plan s m t first old new paper paper' same (called, rest)
 -- an intrinsic's stop is the try's
 pub stops_so : {K : Type 0} (taken : K → Option (List ℕ)) (told : Option (List (List ℕ))) (count : ℕ) (x : Storage) (plan : Placement) (s : Session) (m : SessionJob) (t : Task) (n : ℕ) (stop : Stop) (first old new : Machine) (paper paper' : K) → called_in m t ≡ Some n → old ≡ first
     → CallMeets taken told count x plan s m t (Err stop) old new paper paper' → TryMeets taken told count x plan s m t (Err stop) first new paper paper'
-stops_so taken told count x plan s m t n stop first old new paper paper' called same h =
-    let P : Machine → Type 0 = λ k. TryMeets taken told count x plan s m t (Err stop) k new paper paper' in subst P same (by stop h)
-  where
-    by : (why : Stop) → CallMeets taken told count x plan s m t (Err why) old new paper paper' → TryMeets taken told count x plan s m t (Err why) old new paper paper'
-    by stops.PrintFault h = h
-    by (stops.NoCore need core) h = h
-    by (stops.BackingFull sum sectors) h = h
-    by stops.BackingFault h = h
+stops_so taken told count x plan s m t n stop first old new paper paper' called same h = grind arith
 
 pub writes_so : (x : Storage) (plan : Placement) (m : SessionJob) (t : Task) (stop : Stop) → CallWrites x plan m t (Err stop) → TryWrites x plan m t (Err stop)
-writes_so x plan m t stops.PrintFault w = absurd w
-writes_so x plan m t (stops.NoCore need core) w = absurd w
-writes_so x plan m t (stops.BackingFull sum sectors) w = w
-writes_so x plan m t stops.BackingFault w = w
+writes_so x plan m t stop w = grind arith

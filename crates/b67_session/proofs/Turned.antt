@@ -1,7 +1,7 @@
 -- The chosen task is the running one, and what the attempt at its operator then answers.
-use Rattle.std.proofs.Common.{◌≡◌, ◌≢◌, ℕ, ◌+◌, ◌<◌, ◌^◌, List, length, map, Option, Some, None, Result, Ok, Err, inl, inr, refl, sym, ap, ◌∙◌, subst}
+use Rattle.std.proofs.Common.{◌≡◌, ◌≢◌, ℕ, ◌+◌, ◌<◌, ◌^◌, List, length, map, Option, Some, None, Result, Ok, Err, inl, inr, refl, sym, ap, ◌∙◌, subst, arith}
 use Rattle.std.specs.List.{slice_get}
-use Rattle.std.proofs.lemmas.Option.{same_Some, slice_get_within}
+use Rattle.std.proofs.lemmas.Option.{slice_get_within}
 use Rattle.b67_lemmas.proofs.Places.{at_mapped}
 use Rattle.b67_model.specs.Common.{Ready, Task, SessionJob, number_of, Session, Choice, choice, IsInOrderButPlaces}
 use Rattle.b67_model.specs.Keyed.{keyed}
@@ -27,9 +27,7 @@ use Rattle.b67_session.specs.AttemptStops.{Stop}
 use Rattle.b67_session.specs.AttemptStops as stops
 use Rattle.b67_session.specs.declared.outcomes.Attempt.{Attempt}
 use Rattle.b67_session.specs.declared.outcomes.Attempt.TheVariants as attempts
-use Rattle.b67_session.specs.Tries.{EndsSo}
 use Rattle.b67_session.specs.Attempts.{RunsOver, ForEachOver, WantsNothing, HoleFits, segment_fits, array_fits, IsAtHand, UsesHole, CallKeepsAreas, StandsAsBefore, TellsAfter, AttemptMeets, Attempts, AttemptFits, EndsByRow, AttemptRow, TablesStay}
-use Rattle.b67_session.proofs.Composed.{ends_exact}
 use Rattle.b67_session.specs.Slices.{StandsAt}
 use Rattle.b67_session.proofs.Next.{Chose, chose, runs_then, next_other}
 
@@ -93,10 +91,7 @@ module _ (said : Option (List (List ℕ))) (k : Machine) (s : Session) (h : Stan
 
 -- what is known is what the storage says
 pub over : (x : Storage) (said told : Option (List (List ℕ))) (k : Machine) (plan : Placement) (s : Session) → Says said told → MachineRepresents x said k plan s → StandsOver x told k plan s
-over x said told k plan s says h = record {
-  says = subst (λ (d : Option (List (List ℕ))). Says d told) h.storage.device says;
-  stands = subst (λ (d : Option (List (List ℕ))). MachineRepresents x d k plan s) h.storage.device h;
-}
+over x said told k plan s says h = grind arith
 
 pub runs_over : (said told : Option (List (List ℕ))) → Says said told → (k : Machine) (s : Session) (m : SessionJob) (t : Task) (c : Chosen) → Turned said k s m t c → RunsOver k told
 runs_over said told says k s m t c h = record { storage = h.storage; plan = h.plan; session = s; member = m; task = t; ordered = but_counts s h.ordered; stands = over h.storage said told k h.plan s says h.stands; running = h.running; ready = h.ready }
@@ -178,8 +173,7 @@ module _ {D K : Type 0} {holds : D → Option (List (List ℕ))} {taken : K → 
   member_same : said ≢ None → a.member ≡ n.member
   member_same tells =
       let found : keyed number_of n.next.chosen.who.job a.jobs ≡ Some a.member = subst (λ (z : Choice). keyed number_of z.who.job a.jobs ≡ Some a.member) again.1 again.0.member in
-      let there : keyed number_of n.next.chosen.who.job s.jobs ≡ Some a.member = subst (λ (js : List SessionJob). keyed number_of n.next.chosen.who.job js ≡ Some a.member) (jobs_same tells) found in
-      same_Some a.member n.member (sym there ∙ n.next.member)
+      grind (arith, jobs_same)
 
   room_here : said ≢ None → AttemptFits (length mid.cpu.core) here.storage here.plan s n.member n.task answered
   room_here tells = promise.fits (device_told tells)
@@ -251,8 +245,7 @@ module _ {D K : Type 0} {holds : D → Option (List (List ℕ))} {taken : K → 
   outcome_told : (other : Result Attempt Stop) → said ≢ None → AttemptMeets taken (content_after here.storage.device told') (here.storage.device ≢ None) (length mid.cpu.core) count mid.tasks.printed here.plan (record s { jobs = a.jobs }) a.member n.task other new paper paper'
       → EndsByRow here.plan n.member n.task other
   outcome_told (Ok attempts.Made) tells meets = tt
-  outcome_told (Ok (attempts.Ends ending)) tells meets =
-      subst (λ (z : SessionJob). EndsSo z n.task ending) (member_same tells) (ends_exact (here.storage.device ≢ None) a.member n.task ending (device_told tells) meets.0)
+  outcome_told (Ok (attempts.Ends ending)) tells meets = grind (arith, member_same)
   outcome_told (Ok (attempts.Waits state)) tells meets = subst (λ (z : SessionJob). WaitsSo here.plan z n.task state) (member_same tells) meets.0
   outcome_told (Err stop) tells meets = tt
 

@@ -1,21 +1,19 @@
 -- An operator more of a turn that goes on.
-use Rattle.std.proofs.Common.{◌≡◌, ◌≢◌, ℕ, suc, ◌+◌, ◌-◌, ◌<◌, ◌≤◌, ◌⊎◌, Bool, true, false, List, [], ◌∷◌, ◌++◌, length, map, Option, Some, None, Ok, Err, refl, sym, ap, ◌∙◌, subst, arith, inl, inr, eqb, slice_get, append-nil}
+use Rattle.std.proofs.Common.{◌≡◌, ◌≢◌, ℕ, suc, ◌+◌, ◌-◌, ◌<◌, ◌≤◌, ◌⊎◌, true, false, List, [], ◌∷◌, ◌++◌, length, map, Option, Some, None, Ok, Err, refl, sym, ap, ◌∙◌, subst, arith, inl, inr, eqb, append-nil}
 use Rattle.std.specs.Prelude.{◌&&◌}
 use Rattle.std.specs.List.{AllByRecursion}
 use Rattle.std.proofs.lemmas.Bool.{cases_Bool, ne_eqb}
 use Rattle.std.proofs.lemmas.Bool.Decides.{eqb_tells}
 use Rattle.std.proofs.lemmas.List.Sums.{sum_by-cons}
 use Rattle.std.proofs.lemmas.Option.{none-some}
-use Rattle.b67_lemmas.specs.Lists.{Has}
 use Rattle.b67_lemmas.proofs.Keyed.{change_is, keyed-change_same}
 use Rattle.b67_lemmas.proofs.Members.{all_in, change_found, change_twice, keyed_has, total_has}
 use Rattle.b67_lemmas.proofs.Places.{mapped_at}
 use Rattle.b67_lemmas.proofs.Sums.{sum_total}
-use Rattle.b67_word.specs.declared.faults.Ending.{Ending}
-use Rattle.b67_model.specs.Common.{JobMoment, moment_with, Settled, deadlocked, unsettled, IsSegment, JobInOrder, NumberedFrom, IsInOrderButPlaces, need, touched_of, Reading, reading_of, step, step_by, RunLine, StepResult, next, after, lines, live_tasks, number_of, Switch, Session, Task, Job, JobProgress, SessionJob, Line, Goes}
+use Rattle.b67_model.specs.Common.{JobMoment, moment_with, deadlocked, unsettled, IsSegment, JobInOrder, NumberedFrom, IsInOrderButPlaces, need, touched_of, Reading, reading_of, step, step_by, RunLine, StepResult, next, after, lines, live_tasks, number_of, Session, Task, Job, JobProgress, SessionJob, Line, Goes}
 use Rattle.b67_model.specs.Endings.{goes_on}
 use Rattle.b67_model.specs.Keyed.{keyed, change_keyed}
-use Rattle.b67_session_lines.specs.Moments.{has_tasks, is_at_limit, last_part, last_part_by, last_part_if, joined}
+use Rattle.b67_session_lines.specs.Moments.{last_part, joined}
 use Rattle.b67_session_lines.proofs.Joins.{steps-have-parts}
 use Rattle.b67_session_lines.proofs.Statuses.{after-add}
 use Rattle.b67_law_order.proofs.Numbered.{numbered_low, tasks_of}
@@ -29,8 +27,7 @@ use Rattle.b67_law_sessions.proofs.TurnRuns.{Came, came-more}
 use Rattle.b67_stack.specs.declared.Cpu.{Cpu}
 use Rattle.b67_stack.specs.declared.Step.TheVariants as answers
 use Rattle.b67_stack.specs.Common.{MachineView, NoOriginalAboveTop as Calm, Storage, Represents}
-use Rattle.b67_layout.specs.Common.{machine_view, here, with_job, JobInOrderButCounts, IsInOrderButCounts, Placement, slot_of, IsRunning, RunsSome, RepresentsSession, with_objects}
-use Rattle.b67_layout.specs.Rows as rows
+use Rattle.b67_layout.specs.Common.{machine_view, here, with_job, IsInOrderButCounts, Placement, slot_of, IsRunning, RunsSome, RepresentsSession, with_objects}
 use Rattle.b67_layout.proofs.Common.{but_counts, AllAlike, SameJobs, same_machine_view, RepresentsSession-over, job_at}
 use Rattle.b67_exec_cells.specs.Called as operators
 use Rattle.b67_exec_cells.specs.Called.{called_in}
@@ -44,7 +41,7 @@ use Rattle.b67_task_switch.specs.declared.counting.Chosen.{Chosen}
 use Rattle.b67_task_switch.specs.Counted.{counted_more, counted_by, TurnHasRoom}
 use Rattle.b67_task_switch.specs.Lasting.{RulesLeave, Lasts, TurnLasts, BeforeHalt}
 use Rattle.b67_task_switch.proofs.Lasting.{lasts_choice}
-use Rattle.b67_law_order.proofs.FewMade.{made_few, all_few}
+use Rattle.b67_law_order.proofs.FewMade.{all_few}
 use Rattle.b67_session.specs.Fits.{IsArrayOfJob}
 use Rattle.b67_session.proofs.AttemptFits.{was_operator, made_touches}
 use Rattle.b67_session.proofs.FittingMade.{made_fit}
@@ -101,24 +98,13 @@ module _ (m : SessionJob) (t : Task) (live : keyed number t.number m.progress.jo
 
 -- one operator fewer is left after one
 rules_after : (s later : Session) (left : ℕ) → 1 ≤ left → later.switches ≡ s.switches → later.made ≡ s.made + 1 → later.turn ≡ s.turn + 1 → later.quantum ≡ s.quantum → RulesLeave s left → RulesLeave later (left - 1)
-rules_after s later left some switches made turn quantum h = record {
-  switches = λ w k. elim (h.switches w (subst (λ (ws : List Switch). Has ws w) switches k)) [
-    | inl low ↦ inl (omega (arith, low, made))
-    | inr up ↦ inr (omega (arith, up, made, some))
-  ];
-  on = elim h.on [
-    | inl x ↦ let (w, k, up) = x in inl (w, subst (λ (ws : List Switch). Has ws w) (sym switches) k, omega (arith, up, made, some))
-    | inr x ↦ inr (omega (arith, x, turn, quantum, some))
-  ];
-}
+rules_after s later left some switches made turn quantum h = grind arith
 
 -- ---- a job below its limit
 
 not_at_limit : (s : Session) (m : SessionJob) → keyed number_of s.last.job s.jobs ≡ Some m → m.progress.made < m.constants.limit → last_part s ≡ None
 unfolding last_part
-not_at_limit s m there low =
-    let test : is_at_limit m ≡ false = ap (λ (b : Bool). b && has_tasks m.progress.job.tasks) (ne_eqb m.progress.made m.constants.limit (λ e. omega (arith, low, e))) in
-    ap (last_part_by s) there ∙ ap (λ (b : Bool). last_part_if b s m) test
+not_at_limit s m there low = grind (arith, ne_eqb)
 
 -- ---- sessions that differ by counts of operators
 
@@ -135,10 +121,7 @@ module _ (n j : ℕ) where
 
   bare_all : (P : SessionJob → Type 0) → ((m : SessionJob) → P (counted_more n m) → P m) → (jobs : List SessionJob) → AllByRecursion P (more jobs) → AllByRecursion P jobs
   bare_all P back [] all = tt
-  bare_all P back (m ∷ jobs) all = elim (eqb_tells (number_of m) j) [
-    | inl t ↦ let both : AllByRecursion P (counted_more n m ∷ jobs) = rw t.0 at all in (back m both.0, both.1)
-    | inr t ↦ let both : AllByRecursion P (m ∷ more jobs) = rw t.0 at all in (both.0, bare_all P back jobs both.1)
-  ]
+  bare_all P back (m ∷ jobs) all = grind (arith, bare_all P back jobs)
 
   bare_length : (jobs : List SessionJob) → length (more jobs) ≡ length jobs
   bare_length [] = refl
@@ -146,10 +129,7 @@ module _ (n j : ℕ) where
 
   bare_numbered : (k : ℕ) (jobs : List SessionJob) → NumberedFrom k (more jobs) → NumberedFrom k jobs
   bare_numbered k [] d = tt
-  bare_numbered k (m ∷ jobs) d = elim (eqb_tells (number_of m) j) [
-    | inl t ↦ let both : NumberedFrom k (counted_more n m ∷ jobs) = rw t.0 at d in both
-    | inr t ↦ let both : NumberedFrom k (m ∷ more jobs) = rw t.0 at d in (both.0, bare_numbered (k + 1) jobs both.1)
-  ]
+  bare_numbered k (m ∷ jobs) d = grind (arith, bare_numbered (k + 1) jobs)
 
   bare_live : (jobs : List SessionJob) → live_tasks (more jobs) ≡ live_tasks jobs
   bare_live [] = refl
@@ -160,28 +140,15 @@ module _ (n j : ℕ) where
 
   more_alike : (jobs : List SessionJob) → AllAlike jobs (more jobs)
   more_alike [] = tt
-  more_alike (m ∷ jobs) = elim (eqb_tells (number_of m) j) [
-    | inl t ↦ rw t.0 (record { number = refl; stack_size = refl; dictionary = refl; count = refl; tasks = refl }, alike_refl jobs)
-    | inr t ↦ rw t.0 (record { number = refl; stack_size = refl; dictionary = refl; count = refl; tasks = refl }, more_alike jobs)
-  ]
+  more_alike (m ∷ jobs) = grind (arith, alike_refl, more_alike jobs)
 
   more_same : (jobs : List SessionJob) → SameJobs jobs (more jobs)
   more_same [] = tt
-  more_same (m ∷ jobs) = elim (eqb_tells (number_of m) j) [
-    | inl t ↦ rw t.0 (record { constants = refl; job = refl }, same_refl jobs)
-    | inr t ↦ rw t.0 (record { constants = refl; job = refl }, more_same jobs)
-  ]
+  more_same (m ∷ jobs) = grind (arith, same_refl, more_same jobs)
 
 -- the order but for counts
 bare_ordered : (n : ℕ) (u : Session) → IsInOrderButCounts (counted_by n u) → IsInOrderButCounts u
-bare_ordered n u o = record {
-  few = omega (arith, o.few, bare_length n u.last.job u.jobs);
-  numbered = bare_numbered n u.last.job 1 u.jobs o.numbered;
-  one_size = (o.one_size.0, bare_all n u.last.job (λ (m : SessionJob). m.constants.stack_size ≡ o.one_size.0) (λ m e. e) u.jobs o.one_size.1);
-  jobs = bare_all n u.last.job (λ (m : SessionJob). JobInOrderButCounts (IsSegment m.constants) m.constants m.progress) (λ m k. record { unchanging = k.unchanging; tasks = k.tasks; few_born = k.few_born }) u.jobs o.jobs;
-  peak_low = omega (arith, o.peak_low, bare_live n u.last.job u.jobs);
-  peak_high = o.peak_high;
-}
+bare_ordered n u o = grind (arith, bare_length, bare_numbered, bare_all, bare_live)
 
 -- what core shows
 more_stands : (n : ℕ) (u : Session) (x : Storage) (cpu : Cpu) (plan : Placement) → RepresentsSession x cpu plan u → RepresentsSession x cpu plan (counted_by n u)
@@ -196,17 +163,10 @@ more_stands n u x cpu plan h =
 -- none more
 more_none : (j : ℕ) (jobs : List SessionJob) → change_keyed number_of j (counted_more 0) jobs ≡ jobs
 more_none j [] = refl
-more_none j (m ∷ jobs) = elim (eqb_tells (number_of m) j) [
-  | inl t ↦ rw t.0 (let same : m.progress.made + 0 ≡ m.progress.made = omega arith in ap (λ (i : ℕ). record m { progress = record m.progress { made = i } } ∷ jobs) same)
-  | inr t ↦ rw t.0 (ap (λ (js : List SessionJob). m ∷ js) (more_none j jobs))
-]
+more_none j (m ∷ jobs) = grind (arith, more_none j jobs)
 
 counted_none : (s : Session) → counted_by 0 s ≡ s
-counted_none s =
-    let made : s.made + 0 ≡ s.made = omega arith in
-    let turn : s.turn + 0 ≡ s.turn = omega arith in
-    ap (λ (js : List SessionJob). record s { jobs = js; made = s.made + 0; turn = s.turn + 0 }) (more_none s.last.job s.jobs)
-    ∙ ap (λ (i : ℕ). record s { made = i; turn = s.turn + 0 }) made ∙ ap (λ (i : ℕ). record s { turn = i }) turn
+counted_none s = grind (arith, more_none)
 
 -- ---- one operator
 
@@ -277,11 +237,7 @@ module _ (said : Option (List (List ℕ))) (steps left : ℕ) (first : Session) 
     open_is = open_job s m t c h.ordered n refl h.lasts.ready made.job [] made.touched made.is stays.0 stays.1
 
     progress_is : moment.progress ≡ (counted_more (steps + 1) bare_member).progress
-    progress_is =
-        let number : h.member.progress.made + steps + 1 ≡ h.member.progress.made + (steps + 1) = omega arith in
-        ap (λ (z : Settled). (moment_with m.progress t (goes_on made.job [] made.touched) z).progress) open_is
-        ∙ ap (λ (ended : List (ℕ × Ending)). record m.progress { job = made.job; made = h.member.progress.made + steps + 1; ended = ended }) (append-nil m.progress.ended)
-        ∙ ap (λ (i : ℕ). record m.progress { job = made.job; made = i }) number
+    progress_is = grind (arith, open_is, append-nil)
 
     jobs_are : part.session.jobs ≡ (counted_by (steps + 1) later).jobs
     jobs_are =
@@ -299,13 +255,7 @@ module _ (said : Option (List (List ℕ))) (steps left : ℕ) (first : Session) 
     peak_is = omega (arith, alive, total_has tasks_of s.jobs m (in_session s m t n), sum_total tasks_of s.jobs, h.ordered.peak_low)
 
     session_is : part.session ≡ counted_by (steps + 1) later
-    session_is =
-        let all : u.made + steps + 1 ≡ u.made + (steps + 1) = omega arith in
-        let turn : u.turn + steps + 1 ≡ u.turn + (steps + 1) = omega arith in
-        ap (λ (js : List SessionJob). record part.session { jobs = js }) jobs_are
-        ∙ ap (λ (i : ℕ). record u { jobs = (counted_by (steps + 1) later).jobs; made = u.made + steps + 1; turn = u.turn + steps + 1; peak = i }) peak_is
-        ∙ ap (λ (i : ℕ). record u { jobs = (counted_by (steps + 1) later).jobs; made = i; turn = u.turn + steps + 1 }) all
-        ∙ ap (λ (i : ℕ). record u { jobs = (counted_by (steps + 1) later).jobs; made = u.made + (steps + 1); turn = i }) turn
+    session_is = grind (arith, jobs_are, peak_is)
 
     found_later : keyed number_of u.last.job later.jobs ≡ Some bare_member
     found_later =
@@ -403,8 +353,7 @@ made_in_turn told steps left first core k h = record { bare = h.bare; ordered = 
 
 -- the same counts, written otherwise
 pub turn_as : (told : Option (List (List ℕ))) (steps left : ℕ) (first : Session) (core : ℕ) (k : Machine) → HasTurnLeft told steps left first core k → (more fewer : ℕ) → more ≡ steps → fewer ≡ left → HasTurnLeft told more fewer first core k
-turn_as told steps left first core k h more fewer same_more same_fewer =
-    subst (λ (i : ℕ). HasTurnLeft told i fewer first core k) (sym same_more) (subst (λ (i : ℕ). HasTurnLeft told steps i first core k) (sym same_fewer) h)
+turn_as told steps left first core k h more fewer same_more same_fewer = grind arith
 
 -- of a machine that is as it was
 pub turn_same : (told : Option (List (List ℕ))) (steps left : ℕ) (first : Session) (core : ℕ) (k new : Machine) → new ≡ k → HasTurnLeft told steps left first core k → HasTurnLeft told steps left first core new
@@ -428,25 +377,7 @@ some_runs k r = record { storage = r.storage; plan = r.plan; session = r.session
 
 -- a turn that lasts longer lasts for one operator
 pub turn_of_one : (plan : Placement) (s : Session) (room : ℕ) → 1 ≤ room → TurnLasts plan s room → TurnLasts plan s 1
-turn_of_one plan s room some w = record {
-  who = w.who;
-  task = w.task;
-  lasts = record {
-    member = w.lasts.member;
-    task = w.lasts.task;
-    ready = w.lasts.ready;
-    rules = record { switches = λ v has. earlier v (w.lasts.rules.switches v has); on = still w.lasts.rules.on };
-    below = omega (arith, w.lasts.below, some);
-  };
-  runs = w.runs;
-} where
-  earlier : (v : Switch) → (v.count < s.made) ⊎ (s.made + room ≤ v.count) → (v.count < s.made) ⊎ (s.made + 1 ≤ v.count)
-  earlier v (inl past) = inl past
-  earlier v (inr later) = inr (omega (arith, later, some))
-
-  still : ((v : Switch) × Has s.switches v × (s.made + room ≤ v.count)) ⊎ (s.turn + room ≤ s.quantum) → ((v : Switch) × Has s.switches v × (s.made + 1 ≤ v.count)) ⊎ (s.turn + 1 ≤ s.quantum)
-  still (inl (v, has, later)) = inl (v, has, omega (arith, later, some))
-  still (inr low) = inr (omega (arith, low, some))
+turn_of_one plan s room some w = grind arith
 
 -- the operators fit the counts of the tables before them
 pub turn_fits : (plan : Placement) (s : Session) (tasks : Tasks) (room made : ℕ) → IsInOrderButPlaces s → TasksShow plan s tasks → TurnLasts plan s room → made ≤ room → TurnHasRoom tasks made
@@ -457,15 +388,7 @@ turn_fits plan s tasks room made o shows w few =
     let b = job_at plan 1 s.jobs (map job_row tasks.jobs) m o.numbered shows.jobs inm in
     let (r, at, same) = mapped_at job_row tasks.jobs (m.constants.number - 1) b.row b.at in
     let limit : m.constants.limit ≤ MOST_LIMIT = (all_in (λ (y : SessionJob). JobInOrder (IsSegment y.constants) y.constants y.progress) s.jobs m o.jobs inm).unchanging.limit in
-    let low : made < MOST_LIMIT = omega (arith, few, w.lasts.below, limit) in
-    record {
-      job = r;
-      from_one = omega (arith, number, numbered_low 1 s.jobs m o.numbered inm);
-      at = ap (λ (n : ℕ). slice_get tasks.jobs (n - 1)) (sym number) ∙ at;
-      of_job = omega (arith, low, ap (λ (y : rows.JobRow). y.made) same, b.shows.made, made_few s o m inm);
-      made = omega (arith, low, shows.counts.made, all_few s o);
-      turn = omega (arith, low, shows.counts.turn, o.turn, all_few s o);
-    }
+    grind (arith, numbered_low, all_few)
 
 -- the steps of the turn, once they are counted
 pub turn_goes_on : (told : Option (List (List ℕ))) (steps : ℕ) (first : Session) (old : Machine) (k : Machine) (tasks : Tasks) → MadeInTurn told steps first (length old.cpu.core) k → k.tasks ≡ old.tasks
@@ -494,13 +417,4 @@ turn_goes_on told steps first old k tasks a stay shows rest none below = record 
 
 -- no step of it was made
 pub turn_rests : (told : Option (List (List ℕ))) (s : Session) (k : Machine) → StandsAt told k s → k.tasks.printed ≡ 0 → GoesOnInTurn told 0 s k k
-turn_rests told s k h none = record {
-  session = s;
-  leads = refl;
-  silent = λ start n to. let one : n + 0 ≡ n = omega arith in ap (λ (i : ℕ). lines i start) one;
-  stands = h;
-  made = omega arith;
-  unprinted = none;
-  fits = λ i low. absurd (omega (arith, low));
-  below = λ j low. absurd (omega (arith, low));
-}
+turn_rests told s k h none = grind arith

@@ -1,5 +1,5 @@
 -- The tables say whether a job stands at its limit with a live task.
-use Rattle.std.proofs.Common.{◌≡◌, ◌≢◌, ℕ, zero, suc, ◌+◌, ◌-◌, Bool, true, false, List, [], ◌∷◌, map, Option, Some, None, refl, sym, ap, ◌∙◌, subst, arith, inl, inr}
+use Rattle.std.proofs.Common.{◌≡◌, ◌≢◌, ℕ, zero, suc, ◌+◌, ◌-◌, Bool, true, false, List, [], ◌∷◌, map, Option, Some, None, refl, sym, ap, ◌∙◌, subst, arith, inl}
 use Rattle.std.specs.Prelude.{◌==◌, ◌&&◌, is_some}
 use Rattle.std.specs.List.{list_any, slice_get}
 use Rattle.std.proofs.lemmas.Bool.{true≢false, eqb-true, eq-eqb}
@@ -29,12 +29,8 @@ record JobOf (plan : Placement) (jobs : List SessionJob) (n : ℕ) (row : rows.J
 job_of : (plan : Placement) (k : ℕ) (jobs : List SessionJob) (rs : List rows.JobRow) (i : ℕ) (row : rows.JobRow) → NumberedFrom k jobs → JobsShow plan jobs rs → slice_get rs i ≡ Some row → JobOf plan jobs (k + i) row
 job_of plan k jobs [] i row numbered shows at = absurd (none-some row at)
 job_of plan k [] (r ∷ rs) i row numbered shows at = absurd shows
-job_of plan k (m ∷ jobs) (r ∷ rs) zero row numbered shows at =
-    let same : r ≡ row = same_Some r row at in
-    record { member = m; among = inl refl; number = numbered.0 ∙ omega arith; shows = subst (JobShows plan m) same shows.0 }
-job_of plan k (m ∷ jobs) (r ∷ rs) (suc i) row numbered shows at =
-    let later = job_of plan (k + 1) jobs rs i row numbered.1 shows.1 at in
-    record { member = later.member; among = inr later.among; number = later.number ∙ omega arith; shows = later.shows }
+job_of plan k (m ∷ jobs) (r ∷ rs) zero row numbered shows at = grind arith
+job_of plan k (m ∷ jobs) (r ∷ rs) (suc i) row numbered shows at = grind (arith, job_of plan (k + 1) jobs rs i row numbered.1 shows.1)
 
 some_if : (b : Bool) (s : Session) (m : SessionJob) → is_some (last_part_if b s m) ≡ b
 some_if true s m = refl
@@ -79,25 +75,14 @@ module _ (plan : Placement) (s : Session) (tasks : Tasks) (numbered : NumberedFr
           any_some test tasks.rows.items back.item back.among (eq-eqb back.item.job m.constants.number (ap (λ (r : rows.TaskRow). r.job) back.is ∙ w.job))
 
   pub no_tasks : (m : SessionJob) → Has s.jobs m → list_any (λ (r : TaskRow). r.job == m.constants.number) tasks.rows.items ≡ false → m.progress.job.tasks ≡ []
-  no_tasks m inm e = by m.progress.job.tasks (sym (lives m inm) ∙ e)
-    where
-      by : (ts : List Task) → has_tasks ts ≡ false → ts ≡ []
-      by [] f = refl
-      by (t ∷ ts) f = absurd (true≢false f)
+  no_tasks m inm e = grind (arith, lives)
 
   pub some_tasks : (m : SessionJob) → Has s.jobs m → list_any (λ (r : TaskRow). r.job == m.constants.number) tasks.rows.items ≡ true → m.progress.job.tasks ≢ []
   some_tasks m inm e none = absurd (true≢false (sym e ∙ lives m inm ∙ ap has_tasks none))
 
   -- the counts of the job's row are the job's
   made_is : (m : SessionJob) → Has s.jobs m → m.constants.number ≡ s.last.job → (at : Bool) → AtLimit tasks at → (m.progress.made == m.constants.limit) ≡ at
-  made_is m inm e at a =
-      let b = job_at plan 1 s.jobs js m numbered shows.jobs inm in
-      let (r, there, same) = mapped_at job_row tasks.jobs (m.constants.number - 1) b.row b.at in
-      let number : tasks.last_job ≡ m.constants.number = shows.counts.last_job ∙ sym e in
-      let here : slice_get tasks.jobs (tasks.last_job - 1) ≡ Some r = ap (λ (n : ℕ). slice_get tasks.jobs (n - 1)) number ∙ there in
-      let made : r.made ≡ m.progress.made = ap (λ (y : rows.JobRow). y.made) same ∙ b.shows.made in
-      let limit : r.limit ≡ m.constants.limit = ap (λ (y : rows.JobRow). y.limit) same ∙ b.shows.limit in
-      ap (λ (n : ℕ). n == m.constants.limit) (sym made) ∙ ap (λ (n : ℕ). r.made == n) (sym limit) ∙ a.is r (omega (arith, number, numbered_low 1 s.jobs m numbered inm)) here
+  made_is m inm e at a = grind (arith, job_at, mapped_at, numbered_low)
 
   -- it hasn't made as many as it may
   pub not_made : AtLimit tasks false → is_some (last_part s) ≡ false

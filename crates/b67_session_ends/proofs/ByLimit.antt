@@ -1,5 +1,5 @@
 -- The tasks of a job that stands at its limit end: who they are, their lines, and the session afterwards.
-use Rattle.std.proofs.Common.{◌≡◌, ◌≢◌, ℕ, true, false, List, [], ◌∷◌, ◌++◌, map, Option, Some, None, Ok, refl, sym, ap, ◌∙◌, subst, inl, arith}
+use Rattle.std.proofs.Common.{◌≡◌, ◌≢◌, ℕ, true, false, List, [], ◌∷◌, ◌++◌, map, Option, Some, Ok, refl, sym, ap, ◌∙◌, subst, inl, arith}
 use Rattle.std.specs.Prelude.{is_some}
 use Rattle.std.specs.List.{AllByRecursion}
 use Rattle.std.proofs.lemmas.Bool.{true≢false}
@@ -26,10 +26,7 @@ use Rattle.b67_session_ends.proofs.InPlace.{in_place_view}
 -- a session between the parts of a step is in order but for its counts
 jobs_but_counts : (last : ℕ) (jobs : List SessionJob) → AllByRecursion (JobInOrderButLimit last) jobs → AllByRecursion (λ (m : SessionJob). JobInOrderButCounts (IsSegment m.constants) m.constants m.progress) jobs
 jobs_but_counts last [] all = tt
-jobs_but_counts last (m ∷ jobs) all = (
-  record { unchanging = all.0.unchanging; tasks = all.0.tasks; few_born = omega (arith, all.0.counts.next, all.0.counts.within, all.0.unchanging.limit) },
-  jobs_but_counts last jobs all.1,
-)
+jobs_but_counts last (m ∷ jobs) all = grind (arith, jobs_but_counts last jobs all.1)
 
 pub limit_but_counts : (h : Session) → IsInOrderButLimit h → IsInOrderButCounts h
 limit_but_counts h o = record { few = o.few; numbered = o.numbered; one_size = o.one_size; jobs = jobs_but_counts h.last.job h.jobs o.jobs; peak_low = o.peak_low; peak_high = o.peak_high }
@@ -121,10 +118,8 @@ module _ (x : Storage) (told : Option (List (List ℕ))) (k : Machine) (plan : P
 -- ---- whether there is a last part
 
 pub some_part : (o : Option StepResult) → true ≡ is_some o → (part : StepResult) × (o ≡ Some part)
-some_part None e = absurd (true≢false e)
-some_part (Some part) e = (part, refl)
+some_part o e = grind arith
 
 pub finishes_none : {K : Type 0} (taken : K → Option (List ℕ)) (x : Storage) (told : Option (List (List ℕ))) (plan : Placement) (h : Session) (o : Option StepResult) (k : Machine) (paper : K) → false ≡ is_some o
     → Finishes taken x told plan h o (Ok tt) k k paper paper
-finishes_none taken x told plan h None k paper e = (refl, refl)
-finishes_none taken x told plan h (Some part) k paper e = absurd (true≢false (sym e))
+finishes_none taken x told plan h o k paper e = grind arith

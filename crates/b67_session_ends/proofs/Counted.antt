@@ -1,11 +1,9 @@
 -- The machine once an operator is counted.
-use Rattle.std.proofs.Common.{◌≡◌, ℕ, ◌+◌, List, [], ◌∷◌, length, Option, Some, refl, sym, ap, subst, inl, inr, arith}
-use Rattle.std.proofs.lemmas.Bool.Decides.{eqb_tells}
+use Rattle.std.proofs.Common.{◌≡◌, ℕ, ◌+◌, List, [], ◌∷◌, length, Option, Some, refl, sym, ap, subst, arith}
 use Rattle.b67_lemmas.proofs.Members.{keyed_has, total_has}
 use Rattle.b67_lemmas.proofs.Sums.{sum_total}
-use Rattle.b67_model.specs.Common.{Job, JobProgress, SessionJob, JobMoment, IsInOrderButPlaces, number_of, with_moment, Session}
+use Rattle.b67_model.specs.Common.{JobProgress, SessionJob, JobMoment, IsInOrderButPlaces, number_of, with_moment, Session}
 use Rattle.b67_model.specs.Keyed.{keyed, change_keyed}
-use Rattle.b67_law_order.proofs.Numbered.{tasks_of}
 use Rattle.b67_stack.specs.declared.Cpu.{Cpu}
 use Rattle.b67_stack.specs.Common.{MachineView, NoOriginalAboveTop as Calm, Storage, Represents}
 use Rattle.b67_layout.specs.Common.{Placement, machine_view, RepresentsSession, with_objects, with_job}
@@ -32,17 +30,11 @@ module _ (n : ℕ) (a b : JobProgress) (job : b.job ≡ a.job) where
 
   changed_alike : (ms : List SessionJob) → AllAlike (change_keyed number_of n (put a) ms) (change_keyed number_of n (put b) ms)
   changed_alike [] = tt
-  changed_alike (y ∷ ms) = elim (eqb_tells (number_of y) n) [
-    | inl t ↦ rw t.0 (record { number = refl; stack_size = refl; dictionary = refl; count = refl; tasks = ap (λ (j : Job). j.tasks) job }, alike_refl ms)
-    | inr t ↦ rw t.0 (record { number = refl; stack_size = refl; dictionary = refl; count = refl; tasks = refl }, changed_alike ms)
-  ]
+  changed_alike (y ∷ ms) = grind (arith, alike_refl, changed_alike ms)
 
   changed_same : (ms : List SessionJob) → SameJobs (change_keyed number_of n (put a) ms) (change_keyed number_of n (put b) ms)
   changed_same [] = tt
-  changed_same (y ∷ ms) = elim (eqb_tells (number_of y) n) [
-    | inl t ↦ rw t.0 (record { constants = refl; job = job }, same_refl ms)
-    | inr t ↦ rw t.0 (record { constants = refl; job = refl }, changed_same ms)
-  ]
+  changed_same (y ∷ ms) = grind (arith, same_refl, changed_same ms)
 
 module _ (s : Session) (c : Chosen) (m : SessionJob) (moment : JobMoment) (o : IsInOrderButPlaces s) (found : keyed number_of c.job s.jobs ≡ Some m) (alive : moment.alive ≡ length m.progress.job.tasks) where
   abbrev after : Session
@@ -52,8 +44,7 @@ module _ (s : Session) (c : Chosen) (m : SessionJob) (moment : JobMoment) (o : I
   same_peak : after.peak ≡ s.peak
   same_peak =
       let k = keyed_has number_of c.job s.jobs m found in
-      let own = total_has tasks_of s.jobs m k.0 in
-      omega (arith, alive, own, sum_total tasks_of s.jobs, o.peak_low)
+      grind (arith, total_has, sum_total)
 
   named : let own : JobProgress = record m.progress { job = moment.progress.job } in change_keyed number_of m.constants.number (put m.constants.number own moment.progress refl moment.progress) s.jobs ≡ after.jobs
   named = ap (λ (n : ℕ). change_keyed number_of n (λ (y : SessionJob). record y { progress = moment.progress }) s.jobs) (keyed_has number_of c.job s.jobs m found).1

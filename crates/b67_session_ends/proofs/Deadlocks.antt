@@ -1,8 +1,7 @@
 -- Once tasks have ended: who is stuck, and the job after DEADLOCK.
-use Rattle.std.proofs.Common.{◌≡◌, ◌≢◌, ℕ, ◌+◌, ◌<◌, ◌≤◌, Bool, true, false, not, List, [], ◌∷◌, ◌++◌, length, map, filter, take, Option, refl, sym, ap, ◌∙◌, subst, inl, inr, append-nil, append_assoc, get_or}
+use Rattle.std.proofs.Common.{◌≡◌, ◌≢◌, ℕ, ◌+◌, ◌<◌, ◌≤◌, Bool, true, false, not, List, [], ◌∷◌, ◌++◌, length, map, filter, take, Option, refl, sym, ap, ◌∙◌, subst, append-nil, append_assoc, get_or, arith}
 use Rattle.std.specs.Prelude.{◌==◌}
 use Rattle.std.specs.List.{list_any, list_all}
-use Rattle.std.proofs.lemmas.Bool.{cases_Bool}
 use Rattle.std.proofs.lemmas.List.{take_all, take_more, map-append}
 use Rattle.std.proofs.lemmas.List.Elements.{filter-append}
 use Rattle.b67_word.specs.declared.faults.Ending.{Ending}
@@ -10,7 +9,7 @@ use Rattle.b67_word.specs.declared.faults.Ending.TheVariants.{Deadlock, Limit}
 use Rattle.b67_lemmas.specs.Lists.{Has}
 use Rattle.b67_lemmas.proofs.Members.{all_in}
 use Rattle.b67_lemmas.proofs.Keyed.{change_same}
-use Rattle.b67_model.specs.Common.{Condition, Ready, Awaits, WaitsAt, Array, Task, Job, SessionJob, Settled, all_with, among, released, is_ready, is_owned_by, deadlocked, deepest_first, ends_each_if, ends_task, unsettled, IsSegment, TasksInOrder, number_of, Session}
+use Rattle.b67_model.specs.Common.{Condition, Array, Task, Job, SessionJob, Settled, all_with, among, released, is_ready, is_owned_by, deadlocked, deepest_first, ends_each_if, ends_task, unsettled, IsSegment, TasksInOrder, number_of, Session}
 use Rattle.b67_law_order.proofs.Numbered.{keyed_member}
 use Rattle.b67_law_sessions.proofs.Deepest.{others, with_stuck, is_stuck, first_endings}
 use Rattle.b67_law_sessions.proofs.First.{emptied, each_emptied}
@@ -35,26 +34,17 @@ copied_more copy new list at d low e is = is ∙ ap (λ (l : List (ℕ × Ending
 
 filter_same : (p q : ℕ → Bool) (ns : List ℕ) → ((n : ℕ) → p n ≡ q n) → filter p ns ≡ filter q ns
 filter_same p q [] same = refl
-filter_same p q (n ∷ ns) same = elim (cases_Bool (q n)) [
-  | inl t ↦ let own : p n ≡ true = same n ∙ t in rw (own, t) (ap (λ (l : List ℕ). n ∷ l) (filter_same p q ns same))
-  | inr t ↦ let own : p n ≡ false = same n ∙ t in rw (own, t) (filter_same p q ns same)
-]
+filter_same p q (n ∷ ns) same = grind arith
 
 pub others_is : (dead : List (ℕ × Ending)) (ns : List ℕ) → others_of dead ns ≡ others (ending_numbers dead) ns
 others_is dead ns = filter_same (λ (n : ℕ). not (is_dead_of dead n)) (λ (n : ℕ). not (among (ending_numbers dead) n)) ns (λ n. ap not (dead_is dead n))
 
 pub joined_none : (dead : List (ℕ × Ending)) (n : ℕ) (list : List (ℕ × Ending)) {b : Bool} → b ≡ true → b ≡ is_dead_of dead n → list ≡ list ++ all_with Deadlock (others_of dead (n ∷ []))
-joined_none dead n list t e =
-    let one : is_dead_of dead n ≡ true = sym e ∙ t in
-    let none : others_of dead (n ∷ []) ≡ [] = rw one refl in
-    sym (ap (λ (ns : List ℕ). list ++ all_with Deadlock ns) none ∙ append-nil list)
+joined_none dead n list t e = grind (arith, append-nil)
 
 pub joined_one : (dead : List (ℕ × Ending)) (n : ℕ) (list new : List (ℕ × Ending)) {b : Bool} → b ≡ false → b ≡ is_dead_of dead n → new ≡ list ++ (n, Deadlock) ∷ []
     → new ≡ list ++ all_with Deadlock (others_of dead (n ∷ []))
-joined_one dead n list new t e is =
-    let one : is_dead_of dead n ≡ false = sym e ∙ t in
-    let all : others_of dead (n ∷ []) ≡ n ∷ [] = rw one refl in
-    is ∙ sym (ap (λ (ns : List ℕ). list ++ all_with Deadlock ns) all)
+joined_one dead n list new t e is = grind arith
 
 module _ (dead first : List (ℕ × Ending)) where
   abbrev Stuck : List ℕ → List (ℕ × Ending)
@@ -67,12 +57,7 @@ module _ (dead first : List (ℕ × Ending)) where
       let one : List ℕ = get_or ns at d ∷ [] in
       let before : List ℕ = take at ns in
       let joined : others_of dead (before ++ one) ≡ others_of dead before ++ others_of dead one = filter-append stays before one in
-      let mapped : all_with Deadlock (others_of dead before ++ others_of dead one) ≡ all_with Deadlock (others_of dead before) ++ all_with Deadlock (others_of dead one) =
-      map-append (λ (n : ℕ). (n, Deadlock)) (others_of dead before) (others_of dead one) in
-      more
-      ∙ ap (λ (l : List (ℕ × Ending)). l ++ all_with Deadlock (others_of dead one)) e
-      ∙ append_assoc first (all_with Deadlock (others_of dead before)) (all_with Deadlock (others_of dead one))
-      ∙ sym (ap (λ (l : List ℕ). Stuck l) (take_more ns at d low) ∙ ap (λ (l : List ℕ). first ++ all_with Deadlock l) joined ∙ ap (λ (l : List (ℕ × Ending)). first ++ l) mapped)
+      grind (arith, map-append, append_assoc, take_more)
 
   pub stuck_all : (list : List (ℕ × Ending)) (ns : List ℕ) (at : ℕ) → length ns ≤ at → list ≡ Stuck (take at ns) → list ≡ Stuck ns
   stuck_all list ns at past e = e ∙ ap (λ (l : List ℕ). Stuck l) (take_all at ns past)
@@ -80,8 +65,7 @@ module _ (dead first : List (ℕ × Ending)) where
 -- ---- the endings
 
 pub turned : (b c : Bool) → c ≡ not b → b ≡ not c
-turned true c e = rw e refl
-turned false c e = rw e refl
+turned b c e = grind arith
 
 module _ (plan : Placement) (s : Session) (tasks : Tasks) (h : TablesHold plan s tasks) (m : SessionJob) (inm : Has s.jobs m) (dead : List (ℕ × Ending)) where
   module _ (number : ℕ) (ending : Ending) (e : dead ≡ (ends_task m.progress.job number ending).endings) where
@@ -121,9 +105,7 @@ module _ (plan : Placement) (s : Session) (tasks : Tasks) (h : TablesHold plan s
 -- ---- a job of which no task is ready
 
 released_none : (c : Condition) → released [] c ≡ c
-released_none Ready = refl
-released_none (Awaits n) = refl
-released_none (WaitsAt f offset) = refl
+released_none c = grind arith
 
 left_same : (ts : List Task) → map (λ (t : Task). record t { condition = released [] t.condition }) (filter (λ (t : Task). not (among [] t.number)) ts) ≡ ts
 left_same [] = refl

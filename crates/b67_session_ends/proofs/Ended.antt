@@ -1,5 +1,5 @@
 -- Neither core nor the tables show which tasks of a job have ended.
-use Rattle.std.proofs.Common.{◌≡◌, ℕ, List, [], ◌∷◌, ◌++◌, length, Option, Some, refl, sym, ap, ◌∙◌, subst, inl, inr}
+use Rattle.std.proofs.Common.{◌≡◌, ℕ, List, [], ◌∷◌, ◌++◌, Option, Some, refl, sym, ap, ◌∙◌, subst, inl, inr, arith}
 use Rattle.std.proofs.lemmas.Bool.Decides.{eqb_tells}
 use Rattle.b67_word.specs.declared.faults.Ending.{Ending}
 use Rattle.b67_lemmas.specs.Lists.{Has}
@@ -8,7 +8,7 @@ use Rattle.b67_model.specs.Common.{Task, Job, SessionJob, number_of, Session}
 use Rattle.b67_model.specs.Keyed.{keyed, change_keyed}
 use Rattle.b67_stack.specs.declared.Cpu.{Cpu}
 use Rattle.b67_stack.specs.Common.{MachineView, NoOriginalAboveTop as Calm, Storage, Represents}
-use Rattle.b67_layout.specs.Common.{Placement, machine_view, JobCounts, TaskShows, JobShows, JobsShow, TablesShow, RepresentsSession, with_objects}
+use Rattle.b67_layout.specs.Common.{Placement, machine_view, JobCounts, TaskShows, JobsShow, TablesShow, RepresentsSession, with_objects}
 use Rattle.b67_layout.specs.Rows as rows
 use Rattle.b67_layout.proofs.Common.{AllAlike, SameJobs, same_machine_view, RepresentsSession-over}
 use Rattle.b67_task_tables.specs.declared.tables.Machine.{Machine}
@@ -29,16 +29,7 @@ AllEnded _ _ = ⊥
 
 alike_of : (ms ns : List SessionJob) → AllEnded ms ns → AllAlike ms ns
 alike_of [] [] e = tt
-alike_of (m ∷ ms) (n ∷ ns) e = (
-  record {
-    number = ap (λ (y : SessionJob). y.constants.number) e.0.1;
-    stack_size = ap (λ (y : SessionJob). y.constants.stack_size) e.0.1;
-    dictionary = ap (λ (y : SessionJob). y.constants.dictionary) e.0.1;
-    count = ap (λ (y : SessionJob). length y.constants.segments) e.0.1;
-    tasks = ap (λ (y : SessionJob). y.progress.job.tasks) e.0.1;
-  },
-  alike_of ms ns e.1,
-)
+alike_of (m ∷ ms) (n ∷ ns) e = grind (arith, alike_of ms ns e.1)
 alike_of [] (n ∷ ns) e = absurd e
 alike_of (m ∷ ms) [] e = absurd e
 
@@ -58,11 +49,7 @@ task_shows plan m n gone t row e w =
 jobs_show : (plan : Placement) (ms ns : List SessionJob) (rs : List rows.JobRow) → AllEnded ms ns → JobsShow plan ms rs → JobsShow plan ns rs
 jobs_show plan [] [] rs e h = h
 jobs_show plan (m ∷ ms) (n ∷ ns) [] e h = absurd h
-jobs_show plan (m ∷ ms) (n ∷ ns) (r ∷ rs) e h = (
-  subst (λ (y : SessionJob). JobShows plan y r) (sym e.0.1)
-      (record { dictionary = h.0.dictionary; segments = h.0.segments; rows = h.0.rows; limit = h.0.limit; made = h.0.made; next_task = h.0.next_task; numbers = h.0.numbers }),
-  jobs_show plan ms ns rs e.1 h.1,
-)
+jobs_show plan (m ∷ ms) (n ∷ ns) (r ∷ rs) e h = grind (arith, jobs_show plan ms ns rs e.1 h.1)
 jobs_show plan [] (n ∷ ns) rs e h = absurd e
 jobs_show plan (m ∷ ms) [] rs e h = absurd e
 

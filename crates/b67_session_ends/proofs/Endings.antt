@@ -51,10 +51,7 @@ module _ {K : Type 0} (taken : K → Option (List ℕ)) (old mid : K) (text line
 
 -- all lines are printed
 pub rest_then : {K : Type 0} (taken : K → Option (List ℕ)) (old new : K) (text : List ℕ) (was printed start : ℕ) → IsPrinting taken old new text was printed start [] → TookRest taken old new text was
-rest_then taken old new text was printed start p =
-    let long : length text ≡ start = ap length p.same ∙ ap length (append-nil p.lines) ∙ p.long in
-    let past = p.past in
-    record { rest = p.continues.printed; took = p.continues.took; same = p.continues.same ∙ take_all printed text (omega (arith, long, past)) }
+rest_then taken old new text was printed start p = grind (arith, append-nil, take_all)
 
 -- ---- the list
 

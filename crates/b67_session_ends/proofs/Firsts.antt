@@ -1,7 +1,6 @@
 -- The row of a job's first task, with which all its tasks end.
-use Rattle.std.proofs.Common.{◌≡◌, ◌≢◌, ◌<◌, ◌≤◌, ◌+◌, ◌⊎◌, ℕ, true, false, List, [], length, map, Option, Some, sym, ap, ◌∙◌, subst, arith, get_or, inl, inr}
+use Rattle.std.proofs.Common.{◌≡◌, ◌≢◌, ◌<◌, ◌≤◌, ◌+◌, ◌⊎◌, ℕ, true, List, [], length, map, Option, Some, sym, ap, ◌∙◌, subst, arith, get_or}
 use Rattle.std.specs.Prelude.{◌==◌}
-use Rattle.std.proofs.lemmas.Bool.Decides.{eqb_tells}
 use Rattle.b67_word.specs.declared.faults.Ending.{Ending}
 use Rattle.b67_word.specs.declared.faults.Ending.TheVariants.{Limit}
 use Rattle.b67_lemmas.specs.Lists.{Has}
@@ -89,9 +88,7 @@ module _ (x : Storage) (told : Option (List (List ℕ))) (k : Machine) (plan : P
 
 -- a row that is read
 pub read_row : (rs : List TaskRow) (job at i : ℕ) (d : TaskRow) → at ≡ i → IsFirstRow rs job i → ((get_or rs at d).job ≡ job) × ((get_or rs at d).number ≡ 1)
-read_row rs job at i d same f =
-    let e : get_or rs at d ≡ f.row = ap (λ (n : ℕ). get_or rs n d) same ∙ get_or_from_slice_get rs i f.row d f.there in
-    (ap (λ (r : TaskRow). r.job) e ∙ f.of_job, ap (λ (r : TaskRow). r.number) e ∙ f.first)
+read_row rs job at i d same f = grind (arith, get_or_from_slice_get)
 
 pub first_read : (rs : List TaskRow) (job at : ℕ) (d : TaskRow) → at < length rs → (get_or rs at d).job ≡ job → (get_or rs at d).number ≡ 1 → IsFirstRow rs job at
 first_read rs job at d low of_job first = record { row = get_or rs at d; there = slice_get-get_or rs at d low; of_job = of_job; first = first }
@@ -104,10 +101,7 @@ pub first_as : (rs qs : List TaskRow) (n job at : ℕ) → rs ≡ qs → n ≡ j
 first_as rs qs n job at same number f = subst (λ (ys : List TaskRow). IsFirstRow ys job at) same (subst (λ (k : ℕ). IsFirstRow rs k at) number f)
 
 pub next_low : (at i : ℕ) → at ≤ i → (at ≡ i → ⊥) → at + 1 ≤ i
-next_low at i low other = by (eqb_tells at i) where
-  by : ((at == i) ≡ true × (at ≡ i)) ⊎ ((at == i) ≡ false × (at ≢ i)) → at + 1 ≤ i
-  by (inl e) = absurd (other e.1)
-  by (inr e) = omega (arith, low, e.1)
+next_low at i low other = grind arith
 
 pub other_number : (rs : List TaskRow) (job at i : ℕ) (d : TaskRow) → IsFirstRow rs job i → (get_or rs at d).number ≢ 1 → at ≡ i → ⊥
 other_number rs job at i d f other same = other (read_row rs job at i d same f).1

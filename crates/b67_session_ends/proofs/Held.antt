@@ -16,7 +16,7 @@ use Rattle.b67_law_sessions.specs.Turns.{part_of}
 use Rattle.b67_session_lines.specs.Parts.{TookRest, TookMore}
 use Rattle.b67_stack.specs.MachineView.{PagedObject}
 use Rattle.b67_stack.specs.Represents.{Storage}
-use Rattle.b67_layout.specs.Common.{with_job, machine_view, IsInOrderButCounts, Placement, RowState, TablesShow, IsRunning, RepresentsSession}
+use Rattle.b67_layout.specs.Common.{with_job, machine_view, IsInOrderButCounts, Placement, TablesShow, IsRunning, RepresentsSession}
 use Rattle.b67_layout.specs.Rows as rows
 use Rattle.b67_layout.proofs.Common.{fresh, member-same, IsFree, but_counts, with_job-twice, RepresentsSession-condition}
 use Rattle.b67_task_tables.specs.declared.tables.TaskRow.{TaskRow}
@@ -32,7 +32,6 @@ use Rattle.b67_session_ends.specs.Counts.{IsCounted}
 use Rattle.b67_session_ends.specs.Ends.{StandsInPlace, LeavesInPlace}
 use Rattle.b67_session_ends.specs.Texts.{endings_text}
 use Rattle.b67_session_ends.proofs.ByLimit.{reprinted}
-use Rattle.b67_session_ends.proofs.Closed.{same_tasks}
 use Rattle.b67_session_ends.proofs.Counted.{counted_stands, counted_view}
 use Rattle.b67_session_ends.proofs.InPlace.{in_place_then, in_place_view, objects_kept}
 use Rattle.b67_session_ends.specs.Holds.{held, waiting_step, HoldsSo, HoldsSome, with_state}
@@ -138,8 +137,7 @@ module _ (k : Machine) (c : Chosen) (state : TaskState) (h : HoldsSome k c state
       let P : List rows.TaskRow → Type 0 = λ z. TablesShow plan session z (map job_row k.tasks.jobs) (counts_of k.tasks) in
       let shows : P (slice_set (map task_row items) c.row (record (task_row row) { state = rows.shown plan m.constants.number job t condition })) =
       tables_held plan s m t condition o w.row.member w.row.task (map task_row items) (map job_row k.tasks.jobs) (counts_of k.tasks) w.stands.tables c.row (task_row row) (at_mapped task_row items c.row row w.row.there) w.row.shows in
-      let Q : RowState → Type 0 = λ z. P (slice_set (map task_row items) c.row (record (task_row row) { state = z })) in
-      subst P (sym (map-slice_set task_row items c.row new)) (subst Q (sym so.shows) shows)
+      grind (arith, map-slice_set)
 
   -- by what is said of the tables whose row is set
   module _ (tasks : Tasks) (is : (r : TaskRow) → slice_get k.tasks.rows.items c.row ≡ Some r → tasks ≡ with_state k.tasks c.row r state) where
@@ -169,9 +167,7 @@ module _ (k : Machine) (c : Chosen) (state : TaskState) (h : HoldsSome k c state
 
     -- but for the rows, the one that runs and how much is printed the tables are as they were
     pub rest_after : (printed : ℕ) (last : Machine) → last.tasks ≡ record tasks { printed = printed; rows = last.tasks.rows; running = last.tasks.running } → last.tasks ≡ record k.tasks { rows = last.tasks.rows; running = last.tasks.running; printed = printed }
-    rest_after printed last rest =
-        same_tasks k.tasks (record tasks { printed = printed }) last.tasks printed rest
-        (subst (λ (z : Tasks). record z { printed = printed } ≡ record k.tasks { rows = z.rows; running = z.running; printed = printed }) (sym set_is) refl)
+    rest_after printed last rest = grind (arith, set_is)
 
     -- the row as it was
     pub back_is : (printed : ℕ) (before : TaskState) → ((r : TaskRow) → slice_get k.tasks.rows.items c.row ≡ Some r → before ≡ r.state) → (back : Tasks)
@@ -235,6 +231,4 @@ module _ (k : Machine) (c : Chosen) (state : TaskState) (h : HoldsSome k c state
       pub held_cut : (failed : Failed) (back : Tasks) → back ≡ record k.tasks { printed = printed } → TookMore taken paper paper' (endings_text c.job lent) tasks.printed printed → Closes taken x told plan s part (Err failed) k (record k { tasks = back }) paper paper'
       held_cut failed back is took =
           let text : TookMore taken paper paper' (run_text part.lines) tasks.printed printed = subst (λ (l : List ℕ). TookMore taken paper paper' l tasks.printed printed) (text_is items lent stuck same) took in
-          let own : TookMore taken paper paper' (run_text part.lines) k.tasks.printed printed = subst (λ (n : ℕ). TookMore taken paper paper' (run_text part.lines) n printed) printed_set text in
-          let P : Tasks → Type 0 = λ z. Closes taken x told plan s part (Err failed) k (record k { tasks = z }) paper paper' in
-          subst P (sym is) (own, refl)
+          grind (arith, printed_set)

@@ -1,5 +1,5 @@
 -- Who is stuck, and the row whose state is set.
-use Rattle.std.proofs.Common.{◌≡◌, ℕ, Bool, true, false, not, List, [], ◌∷◌, length, map, filter, Some, refl, sym, ap, ◌∙◌, subst, slice_set, get_or, length-set}
+use Rattle.std.proofs.Common.{◌≡◌, ℕ, Bool, true, false, not, List, [], ◌∷◌, map, filter, Some, refl, sym, ap, ◌∙◌, subst, slice_set, get_or, length-set, arith}
 use Rattle.std.specs.List.{slice_get, list_any, list_all}
 use Rattle.std.proofs.lemmas.Option.{get_or_from_slice_get}
 use Rattle.arrayvec.specs.ArrayVec.{with_items}
@@ -7,7 +7,7 @@ use Rattle.b67_word.specs.declared.faults.Ending.{Ending}
 use Rattle.b67_word.specs.declared.faults.Ending.TheVariants.{Deadlock}
 use Rattle.b67_lemmas.specs.Lists.{Has}
 use Rattle.b67_lemmas.proofs.Places.{refill_whole}
-use Rattle.b67_model.specs.Common.{all_with, among, released, is_ready, deadlocked, deepest_first, ends_each_if, unsettled, Session, Condition, Ready, Awaits, WaitsAt, Task, SessionJob}
+use Rattle.b67_model.specs.Common.{all_with, among, released, is_ready, deadlocked, deepest_first, ends_each_if, unsettled, Session, Condition, Task, SessionJob}
 use Rattle.b67_layout.specs.Placement.{Placement}
 use Rattle.b67_task_tables.specs.declared.tables.TaskRow.{TaskRow}
 use Rattle.b67_task_tables.specs.declared.tables.TaskState.{TaskState}
@@ -25,28 +25,19 @@ module _ (tasks : Tasks) (at : ℕ) (r d : TaskRow) (seen : List TaskRow) (here 
 
   pub state_set : (lent : List TaskRow) (state : TaskState) → lent ≡ tasks.rows.items
       → record tasks { rows = with_items tasks.rows (slice_set lent at (record (get_or seen at d) { state = state })) } ≡ with_state tasks at r state
-  state_set lent state f =
-      let new : TaskRow = record (get_or seen at d) { state = state } in
-      let set : slice_set lent at new ≡ slice_set tasks.rows.items at (record r { state = state }) =
-      ap (λ (l : List TaskRow). slice_set l at new) f ∙ ap (λ (q : TaskRow). slice_set tasks.rows.items at (record q { state = state })) row_seen in
-      ap (λ (l : List TaskRow). record tasks { rows = record { items = l } }) (refill_whole tasks.rows.items (slice_set lent at new) (length-set lent at new ∙ ap length f) ∙ set)
+  state_set lent state f = grind (arith, row_seen, refill_whole, length-set)
 
 -- ---- where none has ended
 
 released_none : (c : Condition) → released [] c ≡ c
-released_none Ready = refl
-released_none (Awaits n) = refl
-released_none (WaitsAt f offset) = refl
+released_none c = grind arith
 
 none_released : (ts : List Task) → map (λ (t : Task). record t { condition = released [] t.condition }) (filter (λ (t : Task). not (among [] t.number)) ts) ≡ ts
 none_released [] = refl
-none_released (t ∷ ts) =
-    ap (λ (c : Condition). record t { condition = c } ∷ map (λ (u : Task). record u { condition = released [] u.condition }) (filter (λ (u : Task). not (among [] u.number)) ts)) (released_none t.condition)
-    ∙ ap (λ (us : List Task). t ∷ us) (none_released ts)
+none_released (t ∷ ts) = grind (arith, none_released ts)
 
 turned : (b c : Bool) → c ≡ not b → b ≡ not c
-turned true c e = rw e refl
-turned false c e = rw e refl
+turned b c e = grind arith
 
 module _ (plan : Placement) (s : Session) (tasks : Tasks) (h : TablesHold plan s tasks) (m : SessionJob) (inm : Has s.jobs m) (job : ℕ) (own : m.constants.number ≡ job) where
   abbrev all_wait : Bool

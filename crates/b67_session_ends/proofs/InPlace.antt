@@ -1,12 +1,9 @@
 -- What is left is held as it was: over one call and the next.
-use Rattle.std.proofs.Common.{◌≡◌, ℕ, List, [], ◌∷◌, ◌++◌, Some, refl, sym, ap, ◌∙◌, subst, inl, inr}
+use Rattle.std.proofs.Common.{◌≡◌, ℕ, List, [], ◌∷◌, ◌++◌, Some, refl, ◌∙◌, arith}
 use Rattle.std.specs.Prelude.{flat_map}
-use Rattle.std.proofs.lemmas.Bool.Decides.{eqb_tells}
-use Rattle.std.proofs.lemmas.Option.{same_Some}
-use Rattle.b67_lemmas.specs.Lists.{Has}
 use Rattle.b67_model.specs.Common.{SessionJob, number_of, Session}
 use Rattle.b67_model.specs.Keyed.{keyed, change_keyed}
-use Rattle.b67_stack.specs.Common.{PagedObject, MachineView, Storage}
+use Rattle.b67_stack.specs.Common.{Storage}
 use Rattle.b67_layout.specs.Common.{Placement, machine_view, objects_of}
 use Rattle.b67_session_ends.specs.Ends.{LeavesInPlace}
 
@@ -18,20 +15,10 @@ in_place_then x y z p q r s u v a b = record { were = λ t i. a.were t (b.were t
 
 -- a session with the same view
 pub in_place_view : (x y : Storage) (plan placed : Placement) (s after other : Session) → machine_view placed other.jobs ≡ machine_view placed after.jobs → LeavesInPlace x y plan placed s after → LeavesInPlace x y plan placed s other
-in_place_view x y plan placed s after other same a =
-    let back : (t : PagedObject) → Has (machine_view placed other.jobs).objects t → Has (machine_view placed after.jobs).objects t = λ t i. subst (λ (p : MachineView). Has p.objects t) same i in
-    record { were = λ t i. a.were t (back t i); held = λ t i. a.held t (back t i) }
+in_place_view x y plan placed s after other same a = grind arith
 
 -- a job that is changed in other things than its arrays has the same objects
 pub objects_kept : (plan : Placement) (n : ℕ) (f : SessionJob → SessionJob) (m : SessionJob) (jobs : List SessionJob) → keyed number_of n jobs ≡ Some m → objects_of plan (f m) ≡ objects_of plan m
     → flat_map (objects_of plan) (change_keyed number_of n f jobs) ≡ flat_map (objects_of plan) jobs
 objects_kept plan n f m [] found same = refl
-objects_kept plan n f m (y ∷ ys) found same = elim (eqb_tells (number_of y) n) [
-  | inl t ↦
-      let is : y ≡ m = same_Some y m (rw t.0 at found) in
-      let own : objects_of plan (f y) ≡ objects_of plan y = subst (λ (z : SessionJob). objects_of plan (f z) ≡ objects_of plan z) (sym is) same in
-      rw t.0 (ap (λ (us : List PagedObject). us ++ flat_map (objects_of plan) ys) own)
-  | inr t ↦
-      let later : keyed number_of n ys ≡ Some m = rw t.0 at found in
-      rw t.0 (ap (λ (us : List PagedObject). objects_of plan y ++ us) (objects_kept plan n f m ys later same))
-]
+objects_kept plan n f m (y ∷ ys) found same = grind (arith, objects_kept plan n f m ys)

@@ -1,29 +1,26 @@
 -- The tables once the row of a task shows that it waits.
-use Rattle.std.proofs.Common.{◌≡◌, ◌≢◌, ℕ, List, [], ◌∷◌, Option, Some, None, refl, sym, ◌∙◌, ap, inl, inr, ⊎_elim, subst, slice_set}
+use Rattle.std.proofs.Common.{◌≡◌, ◌≢◌, ℕ, List, [], ◌∷◌, Option, Some, refl, sym, ◌∙◌, ap, ⊎_elim, subst, slice_set, arith}
 use Rattle.std.specs.Prelude.{◌==◌}
 use Rattle.std.specs.List.{slice_get}
-use Rattle.std.proofs.lemmas.Bool.{cases_Bool, cases_eq}
+use Rattle.std.proofs.lemmas.Bool.{cases_eq}
 use Rattle.std.proofs.lemmas.Option.{same_Some, slice_get_within}
 use Rattle.b67_core.proofs.Writes.{slice_get-set_same, slice_get-set_other}
 use Rattle.b67_lemmas.specs.Lists.{Has}
 use Rattle.b67_lemmas.proofs.Members.{change_found, change_other, has_change, has_get, keyed_has}
 use Rattle.b67_lemmas.proofs.Places.{has_at, same_mapped}
-use Rattle.b67_model.specs.Common.{Frame, Condition, Ready, Awaits, WaitsAt, Task, Job, SessionJob, frames_of_task, number_of, Session}
+use Rattle.b67_model.specs.Common.{Condition, Ready, Awaits, WaitsAt, Task, Job, SessionJob, frames_of_task, number_of, Session}
 use Rattle.b67_model.specs.Keyed.{keyed, change_keyed}
 use Rattle.b67_law_order.proofs.Numbered.{keyed_member}
 use Rattle.b67_stack.specs.Stacks.{StackPlace}
-use Rattle.b67_layout.specs.Common.{with_job, IsInOrderButCounts, Placement, slot_of, spot_in, base_spot, spots, address_of, WaitsAtCell, TaskRow, JobRow, JobCounts, shown, critical_disp, TaskShows, JobShows, JobsShow, RunningRow, Differ, TablesShow}
+use Rattle.b67_layout.specs.Common.{with_job, IsInOrderButCounts, Placement, slot_of, spots, address_of, WaitsAtCell, TaskRow, JobRow, JobCounts, shown, critical_disp, TaskShows, JobsShow, RunningRow, Differ, TablesShow}
 use Rattle.b67_layout.proofs.Common.{job_in_order, change-kept, differ_at, live_in_order}
 use Rattle.b67_task_start_stack.specs.Likes.{SameStack, Like}
 use Rattle.b67_task_start_stack.proofs.Births.{changed_member, kept_member, moved_member}
-use Rattle.b67_task_start_stack.proofs.AlikePlans.{like_same, spots-twin}
+use Rattle.b67_task_start_stack.proofs.AlikePlans.{spots-twin}
 use Rattle.b67_session_ends.specs.Holds.{held}
 
 like_frames : (a b : Option Task) → Like a b → frames_of_task a ≡ frames_of_task b
-like_frames None None l = refl
-like_frames (Some u) (Some v) l = l.frames
-like_frames None (Some v) l = absurd l
-like_frames (Some u) None l = absurd l
+like_frames a b l = grind arith
 
 module _ (plan : Placement) (s : Session) (m : SessionJob) (t : Task) (condition : Condition) (o : IsInOrderButCounts s) (in_m : Has s.jobs m) (in_t : Has m.progress.job.tasks t) where
   abbrev j : ℕ
@@ -64,22 +61,13 @@ module _ (plan : Placement) (s : Session) (m : SessionJob) (t : Task) (condition
 
   -- each task has the stack that it had
   like : (n : ℕ) → Like (keyed N n job'.tasks) (keyed N n job.tasks)
-  like n = ⊎_elim
-      (λ (e : n ≡ t.number).
-      let new : keyed N n job'.tasks ≡ Some waiting = ap (λ (i : ℕ). keyed N i job'.tasks) e ∙ there in
-      let old : keyed N n job.tasks ≡ Some t = ap (λ (i : ℕ). keyed N i job.tasks) e ∙ live in
-      let P : Option Task → Option Task → Type 0 = λ a b. Like a b in
-      subst (λ (a : Option Task). P a (keyed N n job.tasks)) (sym new) (subst (λ (b : Option Task). P (Some waiting) b) (sym old) (record { number = refl; parents = refl; critical = refl; frames = refl })))
-      (λ (ne : n ≡ t.number → ⊥). subst (λ (a : Option Task). Like a (keyed N n job.tasks)) (sym (change_other N n t.number waiting job.tasks refl ne)) (like_same (keyed N n job.tasks)))
-      (cases_eq n t.number)
+  like n = grind (arith, there, live, change_other)
 
   same_spots : (v u : Task) → SameStack v u → (id : ℕ) → spots plan j job' v id ≡ spots plan j job u id
   same_spots v u w id = spots-twin plan plan j job job' (λ (k : ℕ). Unit {0}) (λ (a : ℕ). ⊥) (λ k h. refl) (λ k h. like k) (λ a z. absurd z) v u w (λ k h. tt) tt id
 
   same_critical : (c : ℕ) (parents : List ℕ) → critical_disp plan j job' c parents ≡ critical_disp plan j job c parents
-  same_critical c [] = refl
-  same_critical c (parent ∷ more) =
-      ap (λ (fs : List Frame). (spot_in (slot_of plan j parent) (base_spot j) fs c).disp) (like_frames (keyed N parent job'.tasks) (keyed N parent job.tasks) (like parent))
+  same_critical c parents = grind (arith, like_frames, like)
 
   same_shown : (v u : Task) → SameStack v u → (c : Condition) → shown plan j job' v c ≡ shown plan j job u c
   same_shown v u w Ready = refl
@@ -88,40 +76,15 @@ module _ (plan : Placement) (s : Session) (m : SessionJob) (t : Task) (condition
 
   -- the row of another task, and its own
   other_shows : (u : Task) (row : TaskRow) → TaskShows plan m u row → TaskShows plan after u row
-  other_shows u row w = record {
-    job = w.job;
-    number = w.number;
-    slot = w.slot;
-    parent = w.parent;
-    critical = w.critical ∙ sym (same_critical u.critical u.parents);
-    state = w.state ∙ sym (same_shown u u (record { number = refl; parents = refl; critical = refl; frames = refl }) u.condition);
-    segment = w.segment;
-    place = w.place;
-  }
+  other_shows u row w = grind (arith, same_critical, same_shown)
 
   own_shows : (row : TaskRow) → TaskShows plan m t row → TaskShows plan after waiting (record row { state = shown plan j job t condition })
-  own_shows row w = record {
-    job = w.job;
-    number = w.number;
-    slot = w.slot;
-    parent = w.parent;
-    critical = w.critical ∙ sym (same_critical t.critical t.parents);
-    state = sym (same_shown waiting t (record { number = refl; parents = refl; critical = refl; frames = refl }) condition);
-    segment = w.segment;
-    place = w.place;
-  }
+  own_shows row w = grind (arith, same_critical, same_shown)
 
   jobs_show : (ys : List SessionJob) (rows : List JobRow) → keyed number_of j ys ≡ Some m → JobsShow plan ys rows → JobsShow plan (change_keyed number_of j (λ (y : SessionJob). record y { progress = after.progress }) ys) rows
   jobs_show [] rows e shows = absurd cc
   jobs_show (y ∷ ys) [] e shows = absurd shows
-  jobs_show (y ∷ ys) (row ∷ rows) e shows = elim (cases_Bool (y.constants.number == j)) [
-    | inl q ↦
-        let same : y ≡ m = same_Some y m (rw q at e) in
-        let r : JobShows plan m row = subst (λ (z : SessionJob). JobShows plan z row) same shows.0 in
-        let new : JobShows plan after row = record { dictionary = r.dictionary; segments = r.segments; rows = r.rows; limit = r.limit; made = r.made; next_task = r.next_task; numbers = r.numbers } in
-        rw q (subst (λ (z : SessionJob). JobShows plan (record z { progress = after.progress }) row) (sym same) new, shows.1)
-    | inr q ↦ rw q (shows.0, jobs_show ys rows (rw q at e) shows.1)
-  ]
+  jobs_show (y ∷ ys) (row ∷ rows) e shows = grind (arith, jobs_show ys rows)
 
   module _ (rows : List TaskRow) (job_rows : List JobRow) (c : JobCounts) (shows : TablesShow plan s rows job_rows c) (at : ℕ) (row : TaskRow) (here : slice_get rows at ≡ Some row) (w : TaskShows plan m t row) where
     abbrev new : TaskRow

@@ -1,5 +1,5 @@
 -- The rows say whether a task of a job is ready once some have ended.
-use Rattle.std.proofs.Common.{◌≡◌, ℕ, Bool, true, false, not, List, [], ◌∷◌, map, filter, Some, refl, sym, ap, ◌∙◌, subst, inl, inr}
+use Rattle.std.proofs.Common.{◌≡◌, ℕ, Bool, true, false, not, List, [], ◌∷◌, map, filter, Some, refl, sym, ap, ◌∙◌, subst, inl, inr, arith}
 use Rattle.std.specs.Prelude.{◌==◌, ◌&&◌, ◌||◌}
 use Rattle.std.specs.List.{list_any, list_all}
 use Rattle.std.proofs.lemmas.Bool.{cases_Bool, and_parts, eqb-true, eq-eqb}
@@ -42,8 +42,7 @@ abbrev is_ready_in : Condition → Bool
 is_ready_in c = elim c [ Ready ↦ true | Awaits n ↦ false | WaitsAt f offset ↦ false ]
 
 released_by : (numbers : List ℕ) (n : ℕ) (b : Bool) → among numbers n ≡ b → b ≡ is_ready_in (released numbers (Awaits n))
-released_by numbers n true e = rw e refl
-released_by numbers n false e = rw e refl
+released_by h n b e = grind arith
 
 ready_as : (plan : Placement) (m : SessionJob) (t : Task) (dead : List (ℕ × Ending)) (st : TaskState) (c : Condition) → state_of st ≡ shown plan m.constants.number m.progress.job t c → ready_after dead st ≡ is_ready_in (released (ending_numbers dead) c)
 ready_as plan m t dead states.Ready Ready e = refl
@@ -110,8 +109,4 @@ module _ (plan : Placement) (s : Session) (tasks : Tasks) (h : TablesHold plan s
       subst (λ (z : Task). waits z ≡ true) back.is (rw waiting refl))
 
   pub rows_tell : list_any test tasks.rows.items ≡ not (list_all waits left_tasks)
-  rows_tell = by (list_any test tasks.rows.items) refl
-    where
-      by : (b : Bool) → list_any test tasks.rows.items ≡ b → list_any test tasks.rows.items ≡ not (list_all waits left_tasks)
-      by true e = e ∙ ap not (sym (some_waits_not e))
-      by false e = e ∙ ap not (sym (all_wait e))
+  rows_tell = grind (arith, some_waits_not, all_wait)

@@ -1,11 +1,10 @@
 -- A step that makes its task wait keeps the order.
-use Rattle.std.proofs.Common.{◌≡◌, ℕ, [], length, None, Some, Ok, refl, ap, ◌∙◌, subst, arith}
+use Rattle.std.proofs.Common.{◌≡◌, ℕ, [], length, None, Some, Ok, refl, ap, ◌∙◌, arith}
 use Rattle.b67_lemmas.specs.Lists.{Has}
 use Rattle.b67_lemmas.proofs.Members.{all_in, keyed_has, length_change}
-use Rattle.b67_model.specs.Common.{Answer, IsSegment, reach_of, ConditionInOrder, TaskInOrder, TasksInOrder, JobInOrder, IsInOrderButPlaces, step, number_of, Session, Condition, Task, Job, SessionJob, Done, Waits}
+use Rattle.b67_model.specs.Common.{IsSegment, reach_of, ConditionInOrder, TaskInOrder, TasksInOrder, JobInOrder, IsInOrderButPlaces, step, number_of, Session, Condition, Task, Job, SessionJob, Waits}
 use Rattle.b67_model.specs.Keyed.{keyed}
 use Rattle.b67_law_order.specs.Ends.{StepsFrom}
-use Rattle.b67_law_order.specs.Keeping.{KeepsOrder}
 use Rattle.b67_law_order.proofs.Segments.{rows_keep_order_but_places}
 use Rattle.b67_law_order.proofs.Settles.{condition_good}
 use Rattle.b67_law_sessions.specs.Orders.{SettlesInOrder}
@@ -47,9 +46,7 @@ module _ (s : Session) (m : SessionJob) (t : Task) (condition : Condition) (o : 
   from = record { unchanging = order.unchanging; order = order.tasks; live = live; ready = next_is_ready s m t o n; few = omega (arith, order.counts.next, order.counts.within, order.unchanging.limit) }
 
   waits_in_order : ConditionInOrder (reach_of job t) condition
-  waits_in_order =
-      let K : Answer Done → Type 0 = KeepsOrder (IsSegment m.constants) m.constants job t in
-      let there : K (Ok (Waits condition)) = subst K is (rows_keep_order_but_places m.constants job t from) in there
+  waits_in_order = grind (arith, rows_keep_order_but_places, from)
 
   tasks_ordered : TasksInOrder (IsSegment m.constants) m.constants after
   tasks_ordered = condition_good (IsSegment m.constants) m.constants job t condition order.tasks live waits_in_order

@@ -1,5 +1,5 @@
 -- A step is its two parts.
-use Rattle.std.proofs.Common.{◌≡◌, ℕ, ◌+◌, Bool, true, false, List, [], ◌∷◌, ◌++◌, map, Option, Some, None, refl, sym, ap, subst, ◌∙◌, inl, inr, append-nil, append_assoc}
+use Rattle.std.proofs.Common.{◌≡◌, ℕ, ◌+◌, Bool, true, false, List, [], ◌∷◌, ◌++◌, map, Option, Some, None, refl, sym, ap, subst, ◌∙◌, inl, inr, append-nil, append_assoc, arith}
 use Rattle.std.specs.Prelude.{◌==◌, ◌&&◌, not, filter}
 use Rattle.std.proofs.lemmas.Bool.{cases_Bool, eqb-true}
 use Rattle.std.proofs.lemmas.Option.{same_Some, none-some}
@@ -15,27 +15,18 @@ use Rattle.b67_session_lines.specs.Moments.{first_part, first_part_by, first_par
 
 number_found : (n : ℕ) (ms : List SessionJob) (m : SessionJob) → keyed number_of n ms ≡ Some m → m.constants.number ≡ n
 number_found n [] m e = absurd (none-some m e)
-number_found n (y ∷ ys) m e = elim (cases_Bool (y.constants.number == n)) [
-  | inl t ↦ let same : y ≡ m = same_Some y m (rw t at e) in ap number_of (sym same) ∙ eqb-true y.constants.number n t
-  | inr z ↦ number_found n ys m (rw z at e)
-]
+number_found n (y ∷ ys) m e = grind (arith, number_found n ys m)
 
 found_changed : (n : ℕ) (progress : JobProgress) (ms : List SessionJob) (m : SessionJob) → keyed number_of n ms ≡ Some m
     → keyed number_of n (change_keyed number_of n (λ (y : SessionJob). record y { progress = progress }) ms) ≡ Some (record m { progress = progress })
 found_changed n progress [] m e = absurd (none-some m e)
-found_changed n progress (y ∷ ys) m e = elim (cases_Bool (y.constants.number == n)) [
-  | inl t ↦ let same : y ≡ m = same_Some y m (rw t at e) in rw t (rw t (ap (λ (z : SessionJob). Some (record z { progress = progress })) same))
-  | inr z ↦ rw z (rw z (found_changed n progress ys m (rw z at e)))
-]
+found_changed n progress (y ∷ ys) m e = grind (arith, found_changed n progress ys m)
 
 changed_twice : (n : ℕ) (progress : JobProgress) (g : JobProgress → JobProgress) (ms : List SessionJob)
     → change_keyed number_of n (λ (y : SessionJob). record y { progress = g y.progress }) (change_keyed number_of n (λ (y : SessionJob). record y { progress = progress }) ms)
     ≡ change_keyed number_of n (λ (y : SessionJob). record y { progress = g progress }) ms
 changed_twice n progress g [] = refl
-changed_twice n progress g (y ∷ ys) = elim (cases_Bool (y.constants.number == n)) [
-  | inl t ↦ rw t (rw t refl)
-  | inr z ↦ rw z (rw z (ap (λ (zs : List SessionJob). y ∷ zs) (changed_twice n progress g ys)))
-]
+changed_twice n progress g (y ∷ ys) = grind (arith, changed_twice n progress g ys)
 
 -- ---- nobody ends where no task lives
 
@@ -62,12 +53,7 @@ ends_line e = (e.0, Ends e.1)
 
 module _ (job task : ℕ) (printed : List Line) (endings more : List (ℕ × Ending)) where
   lines_joined : of_job job (step_lines task printed (endings ++ more)) ≡ of_job job (step_lines task printed endings) ++ of_job job (map ends_line more)
-  lines_joined =
-      let own : List (ℕ × Line) = map (λ (line : Line). (task, line)) printed in
-      let named : ℕ × Line → RunLine = λ line. (job, line.0, line.1) in
-      ap (λ (l : List (ℕ × Line)). map named (own ++ l)) (map-append ends_line endings more)
-      ∙ ap (map named) (sym (append_assoc own (map ends_line endings) (map ends_line more)))
-      ∙ map-append named (own ++ map ends_line endings) (map ends_line more)
+  lines_joined = grind (arith, map-append, append_assoc)
 
 both : (a b : Session) (xs ys : List RunLine) → a ≡ b → xs ≡ ys → ◌≡◌ {A = StepResult} (record { session = a; lines = xs }) (record { session = b; lines = ys })
 both a b xs ys e f = ap (λ (z : Session). record { session = z; lines = xs }) e ∙ ap (λ (l : List RunLine). record { session = b; lines = l }) f
@@ -148,12 +134,10 @@ module _ (s : Session) (part : StepResult) where
       ∙ ap (λ (q : StepResult). Some (joined q (last_part q.session))) same
 
   by_member : (c : Choice) (o : Option SessionJob) → keyed number_of c.who.job s.jobs ≡ o → first_part_in s c o ≡ Some part → Joins (moment_by s c o)
-  by_member c None found e = absurd (none-some part e)
-  by_member c (Some m) found e = by_own c m found (keyed (λ (t : Task). t.number) c.who.task m.progress.job.tasks) refl e
+  by_member c o found e = grind (arith, by_own)
 
   by_choice : (o : Option Choice) → first_part_by s o ≡ Some part → Joins (moment_for s o)
-  by_choice None e = absurd (none-some part e)
-  by_choice (Some c) e = by_member c (keyed number_of c.who.job s.jobs) refl e
+  by_choice o e = grind (arith, by_member)
 
   by_session : first_part s ≡ Some part → Joins (next s)
   unfolding first_part next

@@ -10,15 +10,11 @@ module _ {K : Type 0} (taken : K → Option (List ℕ)) (old new : K) (before li
   rest_part k now low is took =
       let inside : from + k ≤ length line = omega (arith, low, length-drop from line) in
       let there : length before + (from + k) ≡ now = omega (arith, is) in
-      let P : ℕ → ℕ → Type 0 = λ a b. Continues taken old new (before ++ line ++ after) a b in
-      subst (P printed) there (subst (λ (a : ℕ). P a (length before + (from + k))) at (Continues-line taken old new before line after from k inside took))
+      grind (arith, Continues-line)
 
   -- all that is left was taken
   pub rest_whole : (now : ℕ) → from ≤ length line → length before + length line ≡ now → Took taken old new (drop from line) → Continues taken old new (before ++ line ++ after) printed now
   rest_whole now inside is took =
       let k = length (drop from line) in
       let long : from + k ≡ length line = omega (arith, length-drop from line) in
-      let there : length before + (from + k) ≡ now = omega (arith, is, long) in
-      let all : Took taken old new (take k (drop from line)) = subst (Took taken old new) (sym (take_all k (drop from line) (omega arith))) took in
-      let P : ℕ → ℕ → Type 0 = λ a b. Continues taken old new (before ++ line ++ after) a b in
-      subst (P printed) there (subst (λ (a : ℕ). P a (length before + (from + k))) at (Continues-line taken old new before line after from k (omega (arith, long)) all))
+      grind (arith, take_all, Continues-line)

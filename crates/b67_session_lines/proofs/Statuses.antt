@@ -24,11 +24,7 @@ none-ready (m ∷ jobs) e =
     ∙ none-ready jobs (omega (arith, both))
 
 none-chosen : (s : Session) → ready s ≡ [] → choice s ≡ None
-none-chosen s e =
-    let by_switch : switched s ≡ None = ap (find (λ who. list_any (λ switch. (switch.count == s.made) && is_same switch.to who) s.switches)) e in
-    let by_turn : goes_on s ≡ false = ap (λ (whos : List Who). list_any (is_same s.last) whos && (list_any (λ switch. nat_lt s.made switch.count) s.switches || nat_lt s.turn s.quantum)) e in
-    let by_order : next_after s ≡ None = ap (λ (whos : List Who). first (filter (is_before s.last) whos ++ filter (λ who. not (is_before s.last who)) whos)) e in
-    ap (λ (o : Option Who). choice_by s o (goes_on s)) by_switch ∙ ap (choice_by s None) by_turn ∙ ap afresh by_order
+none-chosen s e = grind arith
 
 pub over-next : (s : Session) → live_tasks s.jobs ≡ 0 → next s ≡ None
 unfolding next
@@ -37,12 +33,10 @@ over-next s e = ap (moment_for s) (none-chosen s (none-ready s.jobs e))
 -- ---- steps after steps
 
 after-stays : (n : ℕ) (s : Session) → next s ≡ None → after n s ≡ s
-after-stays zero s e = refl
-after-stays (suc n) s e = ap (after_from (suc n) s) e
+after-stays n s e = grind arith
 
 one-more : (k m : ℕ) (s : Session) → ((t : Session) → after (k + m) t ≡ after m (after k t)) → (o : Option StepResult) → next s ≡ o → after_from (suc (k + m)) s o ≡ after m (after_from (suc k) s o)
-one-more k m s more None e = sym (after-stays m s e)
-one-more k m s more (Some n) e = more n.session
+one-more k m s more o e = grind arith
 
 pub after-add : (k m : ℕ) (s : Session) → after (k + m) s ≡ after m (after k s)
 after-add zero m s = let same : 0 + m ≡ m = omega arith in ap (λ n. after n s) same
@@ -55,8 +49,7 @@ over-stays k n s e le =
     ap (λ i. live_after i s) same ∙ ap (λ (t : Session). live_tasks t.jobs) (after-add k (n - k) s ∙ after-stays (n - k) (after k s) (over-next (after k s) e)) ∙ e
 
 no-lines : (n : ℕ) (s : Session) → next s ≡ None → lines n s ≡ []
-no-lines zero s e = refl
-no-lines (suc n) s e = ap (lines_from (suc n)) e
+no-lines n s e = grind arith
 
 more-lines : (k m : ℕ) (s : Session) → ((t : Session) → lines (k + m) t ≡ lines k t ++ lines m (after k t)) → (o : Option StepResult) → next s ≡ o
     → lines_from (suc (k + m)) o ≡ lines_from (suc k) o ++ lines m (after_from (suc k) s o)
@@ -76,13 +69,7 @@ over-lines k n s e le =
 -- ---- one status
 
 pub finished-status : (r : Run) (text : List ℕ) → IsFinished r text → run_status r ≡ 0
-finished-status r text f = by_halt r.halt refl
-  where
-    by_halt : (halt : Option ℕ) → r.halt ≡ halt → run_status r ≡ 0
-    by_halt None e = rw e refl
-    by_halt (Some count) e =
-        let le : f.steps ≤ count = rw e at f.within in
-        rw (e, over-stays f.steps count r.session f.over le) refl
+finished-status r text f = grind (arith, over-stays)
 
 pub halted-status : (r : Run) (text : List ℕ) → IsHalted r text → run_status r ≡ 3
 halted-status r text h = let lives : (live_after h.count r.session == 0) ≡ false = let some = h.lives in grind (arith, nat_tests) in rw (h.halt, lives) refl
@@ -97,12 +84,10 @@ same-some : (a b : ℕ) (o : Option ℕ) → o ≡ Some a → o ≡ Some b → a
 same-some a b o e f = cc
 
 one-end : (r : Run) (text text' : List ℕ) → IsFinished r text → IsFinished r text' → text ≡ text'
-one-end r text text' f g =
-    f.printed ∙ ap run_text (sym (over-lines f.steps (f.steps + g.steps) r.session f.over (omega arith)) ∙ over-lines g.steps (f.steps + g.steps) r.session g.over (omega arith)) ∙ sym g.printed
+one-end r text text' f g = grind (arith, over-lines)
 
 one-halt : (r : Run) (text text' : List ℕ) → IsHalted r text → IsHalted r text' → text ≡ text'
-one-halt r text text' h i =
-    h.printed ∙ ap (λ count. run_text (lines count r.session) ++ ended (halted_line count)) (same-some h.count i.count r.halt h.halt i.halt) ∙ sym i.printed
+one-halt r text text' h i = grind arith
 
 three : (n : ℕ) → n ≡ 0 → n ≡ 3 → ⊥
 three n e f = omega arith

@@ -21,7 +21,7 @@ use Rattle.b67_session_open.specs.Tables.{first_row, first_rows, opening_rows, o
 use Rattle.b67_session_open.proofs.InitialTables.{tables_show}
 use Rattle.b67_task_tables.specs.declared.tables.JobRow as kept
 use Rattle.b67_task_tables.specs.declared.tables.TaskRow as task
-use Rattle.b67_task_tables.specs.Tables.{switch_of, task_row, JobGiven, Given}
+use Rattle.b67_task_tables.specs.Tables.{switch_of, task_row, Given}
 use Rattle.b67_session_open.specs.Decks.{openings_of, session_of, jobs_given, deck_given, rows_given, JobInRange, DeckInRange, IsLoaded, IsCountable}
 
 bits_fit : (tag : ℕ) (ws : List Tagged) → AllByRecursion (HasTag tag) ws → AllByRecursion (λ (n : ℕ). n < 2 ^ 48) (contents ws)
@@ -30,31 +30,16 @@ bits_fit tag (w ∷ ws) h = (h.0.bits, bits_fit tag ws h.1)
 
 segments_fit : (ss : List Segment) → AllByRecursion IsFileSegment ss → AllByRecursion SegmentInOrder (map segment_of ss)
 segments_fit [] h = tt
-segments_fit (s ∷ more) h =
-    let long : length (contents s.code) ≡ length s.code = length-map s.code (λ (w : Tagged). w.bits) in
-    (record { length_low = omega (arith, long, h.0.code.some); length_high = omega (arith, long, h.0.code.few); words = bits_fit 3 s.code h.0.code.each }, segments_fit more h.1)
+segments_fit (s ∷ more) h = grind (arith, length-map, bits_fit, segments_fit more h.1)
 
 rows_fit : (rs : List (List Tagged)) → AllByRecursion IsRow rs → AllByRecursion RowWithin (map contents rs)
 rows_fit [] h = tt
-rows_fit (r ∷ more) h =
-    let long : length (contents r) ≡ length r = length-map r (λ (w : Tagged). w.bits) in
-    (record { length_low = omega (arith, long, h.0.some); length_high = omega (arith, long, h.0.few); words = bits_fit 0 r h.0.each }, rows_fit more h.1)
+rows_fit (r ∷ more) h = grind (arith, length-map, bits_fit, rows_fit more h.1)
 
 openings_fit : (js : List Job) (fs : List Codefile) → AllByRecursion JobInRange js → AllByRecursion IsLoaded fs → AllByRecursion OpeningWithin (openings_of js (map program_of fs))
 openings_fit [] fs h k = tt
 openings_fit (j ∷ js) [] h k = tt
-openings_fit (j ∷ js) (f ∷ fs) h k = (
-  record {
-    admitted = k.0.admitted;
-    segments = segments_fit f.segments k.0.within.segments;
-    rows = rows_fit f.rows k.0.within.rows;
-    few = omega (arith, k.0.within.count, length-map f.segments segment_of, length-map f.rows contents);
-    limit_low = h.0.limit_low;
-    limit_high = h.0.limit_high;
-    numbers = h.0.numbers;
-  },
-  openings_fit js fs h.1 k.1,
-)
+openings_fit (j ∷ js) (f ∷ fs) h k = grind (arith, segments_fit, rows_fit, length-map, openings_fit js fs h.1 k.1)
 
 openings_few : (js : List Job) (ps : List Program) → length (openings_of js ps) ≤ length js
 openings_few [] ps = omega arith
@@ -62,13 +47,7 @@ openings_few (j ∷ js) [] = omega arith
 openings_few (j ∷ js) (p ∷ ps) = omega (arith, openings_few js ps)
 
 pub deck_within : (d : Deck) (fs : List Codefile) → DeckInRange d → AllByRecursion IsLoaded fs → DeckWithin d.stack (map switch_of d.switches) (openings_of d.jobs (map program_of fs))
-deck_within d fs range loaded = record {
-  stack_low = range.stack_low;
-  stack_high = range.stack_high;
-  rise = range.rise;
-  few = omega (arith, range.few, openings_few d.jobs (map program_of fs));
-  each = openings_fit d.jobs fs range.each loaded;
-}
+deck_within d fs range loaded = grind (arith, openings_few, openings_fit)
 
 pub programs_back : (js : List Job) (ps : List Program) → length ps ≡ length js → programs_of (openings_of js ps) ≡ ps
 programs_back [] [] e = refl
@@ -84,17 +63,12 @@ tables_given d ps rows jobs switches range each is_rows is_jobs is_switches =
     let os = openings_of d.jobs ps in
     let back = programs_back d.jobs ps each in
     let shown = tables_show d.stack d.quantum (map switch_of d.switches) os (omega (arith, range.few, openings_few d.jobs ps)) in
-    let same = subst (λ (qs : List Program). TablesShow (opening_plan d.stack qs) (session_of d ps) (first_rows 0 qs) (opening_rows 160 os) (opening_counts d.quantum (map switch_of d.switches))) back shown in
-    subst (λ (ws : List text.Switch). TablesShow (opening_plan d.stack ps) (session_of d ps) rows jobs (opening_counts d.quantum (map switch_of ws))) (sym is_switches)
-    (subst (λ (r : List TaskRow). TablesShow (opening_plan d.stack ps) (session_of d ps) r jobs (opening_counts d.quantum (map switch_of d.switches))) (sym is_rows)
-    (subst (λ (r : List JobRow). TablesShow (opening_plan d.stack ps) (session_of d ps) (first_rows 0 ps) r (opening_counts d.quantum (map switch_of d.switches))) (sym is_jobs) same))
+    grind arith
 
 -- what tables have that take it over from a deck
 pub tables_have : (d : Deck) (ws : List text.Switch) (rows : List kept.JobRow) → ws ≡ d.switches → rows_given rows ≡ jobs_given d.jobs
     → ◌≡◌ {A = Given} (record { halt = d.halt; quantum = d.quantum; switches = ws; jobs = rows_given rows }) (deck_given d)
-tables_have d ws rows switches jobs =
-    ap (λ (l : List text.Switch). record (deck_given d) { switches = l; jobs = rows_given rows }) switches
-    ∙ ap (λ (js : List JobGiven). record (deck_given d) { jobs = js }) jobs
+tables_have d ws rows switches jobs = grind arith
 
 -- each row can be counted
 pub each_countable : (rows : List kept.JobRow) → AllByRecursion IsCountable rows → (r : kept.JobRow) → Has rows r → IsCountable r

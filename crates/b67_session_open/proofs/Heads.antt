@@ -1,7 +1,7 @@
 -- The dictionaries of programs are installed one after the other.
 use Rattle.std.proofs.Common.{◌≡◌, ℕ, zero, suc, ◌+◌, ◌<◌, ◌≤◌, List, [], ◌∷◌, length, map, take, drop, get_or, Option, Some, refl, sym, ◌∙◌, ap, subst, arith, inl}
 use Rattle.std.specs.List.{slice_get}
-use Rattle.std.proofs.lemmas.Option.{same_Some, none-some}
+use Rattle.std.proofs.lemmas.Option.{none-some}
 use Rattle.std.proofs.lemmas.List.{drop_more, drop_all}
 use Rattle.b67_word.specs.Tagged.{Tagged}
 use Rattle.b67_backing.specs.Shelf.{Shelf, IsShelf}
@@ -20,19 +20,13 @@ use Rattle.b67_session_open.proofs.Objects.{objects_within}
 
 pub head_at : (core : List Tagged) (at : ℕ) (programs : List Program) (k : ℕ) (p : Program) → HeadsLie core at programs → slice_get programs k ≡ Some p → HeadLies core (at + dictionaries (take k programs)) (entries_of p)
 head_at core at [] k p h e = absurd (none-some p e)
-head_at core at (q ∷ more) zero p h e =
-    subst (λ i. HeadLies core i (entries_of p)) (let z : at ≡ at + 0 = omega arith in z) (subst (λ (r : Program). HeadLies core at (entries_of r)) (same_Some q p e) h.0)
-head_at core at (q ∷ more) (suc k) p h e =
-    subst (λ i. HeadLies core i (entries_of p)) (let z : at + dictionary_words q + dictionaries (take k more) ≡ at + (dictionary_words q + dictionaries (take k more)) = omega arith in z)
-    (head_at core (at + dictionary_words q) more k p h.1 e)
+head_at core at (q ∷ more) zero p h e = grind arith
+head_at core at (q ∷ more) (suc k) p h e = grind (arith, head_at core (at + dictionary_words q) more k p h.1 e)
 
 -- words of heads that stay
 pub heads_same : (old new : List Tagged) (at : ℕ) (programs : List Program) → ((i : ℕ) → at ≤ i → i < at + dictionaries programs → slice_get new i ≡ slice_get old i) → HeadsLie old at programs → HeadsLie new at programs
 heads_same old new at [] same h = tt
-heads_same old new at (p ∷ more) same h = (
-  record { mark = same at (omega arith) (omega arith) ∙ h.0.mark; entries = same (at + 1) (omega arith) (omega arith) ∙ h.0.entries },
-  heads_same old new (at + dictionary_words p) more (λ i low high. same i (omega (arith, low)) (omega (arith, high))) h.1,
-)
+heads_same old new at (p ∷ more) same h = grind (arith, heads_same old new (at + dictionary_words p) more)
 
 module _ {D : Type 0} (tell : D → Option (List (List ℕ))) where
   -- a program was installed

@@ -104,30 +104,12 @@ pub laid_out : (mid : List Tagged) (cpu : Cpu) (areas : Areas) (stack stacks job
     → stacks + jobs * stack ≤ length mid
     → ((k : ℕ) → k < 120 → slice_get cpu.critical k ≡ Some 0)
     → cpu.regs.slot ≡ 255 → cpu.regs.stacks ≡ stacks → cpu.regs.stack_size ≡ stack → cpu.regs.peak ≡ jobs → LaidOut mid cpu areas stack programs
-laid_out mid cpu areas stack stacks jobs programs at count around is directory inside critical slot base size peak =
-    let low : areas.low ≡ stacks + jobs * stack = ap (λ (a : Areas). a.low) is in
-    let from : stacks + jobs * stack ≡ 160 + dictionaries programs + length programs * stack = ap (λ n. n + jobs * stack) at ∙ ap (λ n. 160 + dictionaries programs + n * stack) count in
-    record {
-      mcp = around.mcp;
-      slots = subst (λ j. SlotsLie cpu.core (160 + dictionaries programs) stack j) count (subst (λ a. SlotsLie cpu.core a stack jobs) at around.slots);
-      vector = λ k above high. around.vector k (omega (arith, above, count)) high;
-      kept = λ i above high. around.dictionaries i above (omega (arith, high, at));
-      size = ap (λ (a : Areas). a.size) is ∙ sym around.len;
-      low = low ∙ from;
-      directory = subst (λ n. IsDirectory cpu.core areas.low (left (n - areas.low) [])) (sym around.len) (subst (λ n. IsDirectory cpu.core n (left (length mid - n) [])) (sym low) directory);
-      inside = omega (arith, low, inside, around.len);
-      critical = critical;
-      slot = slot;
-      stacks = base ∙ at;
-      stack_size = size;
-      peak = peak ∙ count;
-    }
+laid_out mid cpu areas stack stacks jobs programs at count around is directory inside critical slot base size peak = grind arith
 
 -- a device after calls that left all sectors but free ones as they were
 pub after_calls : {D : Type 0} (tell : D → Option (List (List ℕ))) (size calls faults : D → ℕ) (old new : D) (free : List ℕ) → size new ≡ size old → calls old ≤ calls new → faults old ≤ faults new
     → Changes tell old new (SameBut free) → DeviceAfterCalls tell size calls faults old new
-after_calls tell size calls faults old new free same called failed c =
-    record { size = same; calls = called; faults = failed; tells = record { told = λ x e. let h = c.told x e in (h.0, h.1, h.2.count) } }
+after_calls tell size calls faults old new free same called failed c = grind arith
 
 -- a device that wasn't called
 pub uncalled : {D : Type 0} (tell : D → Option (List (List ℕ))) (size calls faults : D → ℕ) (now : D) → DeviceAfterCalls tell size calls faults now now

@@ -1,5 +1,5 @@
 -- Items of lists by their places, and totals over the items before one.
-use Rattle.std.proofs.Common.{◌≡◌, ⊎_elim, List, [], ◌∷◌, map, refl, inl, inr}
+use Rattle.std.proofs.Common.{◌≡◌, ⊎_elim, List, [], ◌∷◌, map, refl, inl, inr, arith}
 use Rattle.std.specs.List.{flat_map}
 use Rattle.b67_lemmas.specs.Lists.{Has}
 use Rattle.b67_lemmas.proofs.Members.{has_append_cases}
@@ -11,7 +11,4 @@ has_mapped f (x ∷ xs) y (inr h) = let m = has_mapped f xs y h in (m.0, inr m.1
 
 pub has_flat : {A B : Type 0} (f : A → List B) (xs : List A) (y : B) → Has (flat_map f xs) y → (x : A) × Has xs x × Has (f x) y
 has_flat f [] y h = absurd h
-has_flat f (x ∷ xs) y h = ⊎_elim
-    (λ m. (x, inl refl, m))
-    (λ m. let r = has_flat f xs y m in (r.0, inr r.1, r.2))
-    (has_append_cases (f x) (flat_map f xs) y h)
+has_flat f (x ∷ xs) y h = grind (arith, has_append_cases, has_flat f xs y)

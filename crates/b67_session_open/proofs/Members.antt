@@ -1,9 +1,8 @@
 -- The jobs and slots of a session that opens, by their places in the list of programs.
-use Rattle.std.proofs.Common.{◌≡◌, ℕ, zero, suc, ◌+◌, List, [], ◌∷◌, Some, refl, sym, ◌∙◌, ap, arith, subst, inl, inr}
+use Rattle.std.proofs.Common.{◌≡◌, ℕ, zero, suc, ◌+◌, List, [], ◌∷◌, Some, refl, ◌∙◌, ap, arith, subst, inl, inr}
 use Rattle.std.specs.List.{slice_get}
 use Rattle.std.specs.Prelude.{find}
-use Rattle.std.proofs.lemmas.Option.{same_Some, none-some}
-use Rattle.std.proofs.lemmas.Bool.{eq-eqb, ne_eqb}
+use Rattle.std.proofs.lemmas.Option.{none-some}
 use Rattle.b67_lemmas.specs.Lists.{Has}
 use Rattle.b67_model.specs.Keyed.{keyed}
 use Rattle.b67_model.specs.Common.{SessionJob, Program, opened, number_of}
@@ -25,17 +24,13 @@ for_members P stack n (o ∷ more) h m (inr i) = for_members P stack (n + 1) mor
 pub member_at : (stack n : ℕ) (openings : List Opening) (k j : ℕ) (o : Opening) → slice_get openings k ≡ Some o → j ≡ n + k →
     keyed number_of j (opened_from n stack openings) ≡ Some (member stack j o)
 member_at stack n [] k j o e f = absurd (none-some o e)
-member_at stack n (p ∷ more) zero j o e f =
-    let is : j ≡ n = omega (arith, f) in
-    rw (eq-eqb n j (sym is)) (ap (λ (q : Opening). Some (member stack n q)) (same_Some p o e) ∙ ap (λ i. Some (member stack i o)) (sym is))
-member_at stack n (p ∷ more) (suc k) j o e f =
-    rw (ne_eqb n j (λ z. omega (arith, z, f))) (member_at stack (n + 1) more k j o e (omega (arith, f)))
+member_at stack n (p ∷ more) zero j o e f = grind arith
+member_at stack n (p ∷ more) (suc k) j o e f = grind (arith, member_at stack (n + 1) more k j o e)
 
 pub has_member : (stack n : ℕ) (openings : List Opening) (k j : ℕ) (o : Opening) → slice_get openings k ≡ Some o → j ≡ n + k →
     Has (opened_from n stack openings) (member stack j o)
 has_member stack n [] k j o e f = absurd (none-some o e)
-has_member stack n (p ∷ more) zero j o e f =
-    let is : n ≡ j = omega (arith, f) in inl (ap (λ (q : Opening). member stack n q) (same_Some p o e) ∙ ap (λ i. member stack i o) is)
+has_member stack n (p ∷ more) zero j o e f = grind arith
 has_member stack n (p ∷ more) (suc k) j o e f = inr (has_member stack (n + 1) more k j o e (omega (arith, f)))
 
 -- the slot of a first task
@@ -57,15 +52,11 @@ has_slot n (q ∷ more) (suc k) s p e f = inr (has_slot (n + 1) more k s p e (om
 pub slot_at_place : (n : ℕ) (programs : List Program) (k s : ℕ) (p : Program) → slice_get programs k ≡ Some p → s ≡ n + k →
     keyed (λ (r : Slotted). r.slot) s (slots_from n programs) ≡ Some (slotted s)
 slot_at_place n [] k s p e f = absurd (none-some p e)
-slot_at_place n (q ∷ more) zero s p e f =
-    let is : n ≡ s = omega (arith, f) in rw (eq-eqb n s is) (ap (λ i. Some (slotted i)) is)
-slot_at_place n (q ∷ more) (suc k) s p e f =
-    rw (ne_eqb n s (λ z. omega (arith, z, f))) (slot_at_place (n + 1) more k s p e (omega (arith, f)))
+slot_at_place n (q ∷ more) zero s p e f = grind arith
+slot_at_place n (q ∷ more) (suc k) s p e f = grind (arith, slot_at_place (n + 1) more k s p e)
 
 pub slot_of_job : (n : ℕ) (programs : List Program) (k s : ℕ) (p : Program) → slice_get programs k ≡ Some p → s ≡ n + k →
     find (is_row_of (s + 1) 1) (slots_from n programs) ≡ Some (slotted s)
 slot_of_job n [] k s p e f = absurd (none-some p e)
-slot_of_job n (q ∷ more) zero s p e f =
-    let is : n ≡ s = omega (arith, f) in rw (eq-eqb (n + 1) (s + 1) (ap (λ i. i + 1) is)) (ap (λ i. Some (slotted i)) is)
-slot_of_job n (q ∷ more) (suc k) s p e f =
-    rw (ne_eqb (n + 1) (s + 1) (λ z. omega (arith, z, f))) (slot_of_job (n + 1) more k s p e (omega (arith, f)))
+slot_of_job n (q ∷ more) zero s p e f = grind arith
+slot_of_job n (q ∷ more) (suc k) s p e f = grind (arith, slot_of_job (n + 1) more k s p e)

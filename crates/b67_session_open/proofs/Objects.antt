@@ -4,7 +4,6 @@ use Rattle.std.specs.List.{slice_get, flat_map, AllByRecursion}
 use Rattle.std.specs.Prelude.{◌⊎◌}
 use Rattle.std.proofs.lemmas.Option.{same_Some, none-some}
 use Rattle.std.proofs.lemmas.Bool.{cases_order}
-use Rattle.b67_area.specs.declared.Kind.TheVariants as kind
 use Rattle.b67_lemmas.specs.Lists.{Has}
 use Rattle.b67_lemmas.proofs.Members.{has_append_cases, has_append_left, has_append_right, has_flat as has_flat_map, has_map, has_reverse, has_reverse_back}
 use Rattle.b67_lemmas.proofs.Places.{at_mapped, mapped_at}
@@ -41,10 +40,7 @@ rows_within at (r ∷ more) t (inl e) = let is : at ≡ t.home = ap (λ (u : Pag
 rows_within at (r ∷ more) t (inr h) = let w = rows_within (at + 1) more t h in record { low = omega (arith, w.low); high = omega (arith, w.high) }
 
 pub objects_within : (at : ℕ) (p : Program) (t : PagedObject) → Has (objects_at at p) t → Within (at + 2) (at + dictionary_words p) t
-objects_within at p t h = ⊎_elim
-    (λ m. let w = segments_within (at + 2) p.segments t m in record { low = w.low; high = omega (arith, w.high) })
-    (λ m. let w = rows_within (at + (2 + length p.segments)) p.rows t m in record { low = omega (arith, w.low); high = omega (arith, w.high) })
-    (has_append_cases (code_from (at + 2) p.segments) (rows_from (at + (2 + length p.segments)) p.rows) t h)
+objects_within at p t h = grind (arith, segments_within, rows_within, has_append_cases)
 
 segments_differ : (at : ℕ) (ss : List Segment) (t u : PagedObject) → Has (code_from at ss) t → Has (code_from at ss) u → t.home ≡ u.home → t ≡ u
 segments_differ at [] t u h k e = absurd h
@@ -61,25 +57,11 @@ rows_differ at (s ∷ more) t u (inr h) (inl b) e = absurd (omega (arith, e, ap 
 rows_differ at (s ∷ more) t u (inr h) (inr k) e = rows_differ (at + 1) more t u h k e
 
 objects_differ : (at : ℕ) (p : Program) (t u : PagedObject) → Has (objects_at at p) t → Has (objects_at at p) u → t.home ≡ u.home → t ≡ u
-objects_differ at p t u h k e =
-    let ss = code_from (at + 2) p.segments in
-    let rs = rows_from (at + (2 + length p.segments)) p.rows in
-    ⊎_elim
-    (λ (a : Has ss t). ⊎_elim
-    (λ (b : Has ss u). segments_differ (at + 2) p.segments t u a b e)
-    (λ (b : Has rs u). absurd (omega (arith, e, (segments_within (at + 2) p.segments t a).high, (rows_within (at + (2 + length p.segments)) p.rows u b).low)))
-    (has_append_cases ss rs u k))
-    (λ (a : Has rs t). ⊎_elim
-    (λ (b : Has ss u). absurd (omega (arith, e, (segments_within (at + 2) p.segments u b).high, (rows_within (at + (2 + length p.segments)) p.rows t a).low)))
-    (λ (b : Has rs u). rows_differ (at + (2 + length p.segments)) p.rows t u a b e)
-    (has_append_cases ss rs u k))
-    (has_append_cases ss rs t h)
+objects_differ at p t u h k e = grind (arith, segments_differ, segments_within, rows_within, has_append_cases, rows_differ)
 
 -- of several programs
 pub object_within : (programs : List Program) (t : PagedObject) → IsObject programs t → Within 162 (160 + dictionaries programs) t
-object_within programs t i =
-    let w = objects_within (160 + dictionaries (take i.place programs)) i.program t i.among in
-    record { low = omega (arith, w.low); high = omega (arith, w.high, total_within dictionary_words programs i.place i.program i.found) }
+object_within programs t i = grind (arith, objects_within, total_within)
 
 apart : (programs : List Program) (t u : PagedObject) (i : IsObject programs t) (j : IsObject programs u) → i.place < j.place → t.home < u.home
 apart programs t u i j less =
@@ -104,15 +86,11 @@ homes_differ programs t u i j e = ⊎_elim
 -- as the view lists them
 codes_are : (plan : Placement) (j n at : ℕ) (ss : List Segment) → at ≡ plan.dictionary j + 1 + n → code_objects plan j n ss ≡ code_from at ss
 codes_are plan j n at [] e = refl
-codes_are plan j n at (s ∷ more) e =
-    let first : PagedObject → List PagedObject = λ t. t ∷ code_objects plan j (n + 1) more in
-    ap (λ h. first (record { home = h; kind = kind.Code; numbers = s.code })) (sym e) ∙ ap (λ ts. record { home = at; kind = kind.Code; numbers = s.code } ∷ ts) (codes_are plan j (n + 1) (at + 1) more (omega (arith, e)))
+codes_are plan j n at (s ∷ more) e = grind (arith, codes_are plan j (n + 1) (at + 1) more)
 
 rows_are : (plan : Placement) (j n at base : ℕ) (rs : List (List ℕ)) → ((i : ℕ) → plan.home j i ≡ base + i) → at ≡ base + n → map (array_object plan j) (row_arrays n rs) ≡ rows_from at rs
 rows_are plan j n at base [] h e = refl
-rows_are plan j n at base (r ∷ more) h e =
-    let first : PagedObject → List PagedObject = λ t. t ∷ map (array_object plan j) (row_arrays (n + 1) more) in
-    ap (λ q. first (record { home = q; kind = kind.Row; numbers = r })) (h n ∙ sym e) ∙ ap (λ ts. record { home = at; kind = kind.Row; numbers = r } ∷ ts) (rows_are plan j (n + 1) (at + 1) base more h (omega (arith, e)))
+rows_are plan j n at base (r ∷ more) h e = grind (arith, rows_are plan j (n + 1) (at + 1) base more h)
 
 -- the objects in a row are those of the programs
 is_object_at : (at at' : ℕ) (p : Program) (t : PagedObject) → at ≡ at' → Has (objects_at at p) t → Has (objects_at at' p) t
@@ -120,12 +98,8 @@ is_object_at at at' p t e h = subst (λ a. Has (objects_at a p) t) e h
 
 pub among_all : (at : ℕ) (programs : List Program) (k : ℕ) (p : Program) (t : PagedObject) → slice_get programs k ≡ Some p → Has (objects_at (at + dictionaries (take k programs)) p) t → Has (objects_from at programs) t
 among_all at [] k p t e h = absurd (none-some p e)
-among_all at (q ∷ more) zero p t e h =
-    let is : q ≡ p = same_Some q p e in
-    has_append_left (objects_at at q) (objects_from (at + dictionary_words q) more) t (subst (λ r. Has (objects_at at r) t) (sym is) (is_object_at (at + 0) at p t (omega arith) h))
-among_all at (q ∷ more) (suc k) p t e h =
-    has_append_right (objects_at at q) (objects_from (at + dictionary_words q) more) t
-    (among_all (at + dictionary_words q) more k p t e (is_object_at (at + (dictionary_words q + dictionaries (take k more))) (at + dictionary_words q + dictionaries (take k more)) p t (omega arith) h))
+among_all at (q ∷ more) zero p t e h = grind (arith, has_append_left)
+among_all at (q ∷ more) (suc k) p t e h = grind (arith, has_append_right, among_all (at + dictionary_words q) more k p t e)
 
 record Among (at : ℕ) (programs : List Program) (t : PagedObject) : Type 0 where
   place : ℕ
@@ -232,10 +206,4 @@ rows_long at (r ∷ more) t h (inr k) = rows_long (at + 1) more t h.1 k
 
 pub objects_long : (at : ℕ) (openings : List Opening) (t : PagedObject) → AllByRecursion OpeningWithin openings → Has (objects_from at (programs_of openings)) t → (0 < length t.numbers) × (length t.numbers < 2 ^ 16)
 objects_long at [] t h k = absurd k
-objects_long at (o ∷ more) t h k = ⊎_elim
-    (λ (m : Has (objects_at at o.program) t). ⊎_elim
-    (λ (a : Has (code_from (at + 2) o.program.segments) t). codes_long (at + 2) o.program.segments t h.0.segments a)
-    (λ (a : Has (rows_from (at + (2 + length o.program.segments)) o.program.rows) t). rows_long (at + (2 + length o.program.segments)) o.program.rows t h.0.rows a)
-    (has_append_cases (code_from (at + 2) o.program.segments) (rows_from (at + (2 + length o.program.segments)) o.program.rows) t m))
-    (λ (m : Has (objects_from (at + dictionary_words o.program) (programs_of more)) t). objects_long (at + dictionary_words o.program) more t h.1 m)
-    (has_append_cases (objects_at at o.program) (objects_from (at + dictionary_words o.program) (programs_of more)) t k)
+objects_long at (o ∷ more) t h k = grind (arith, codes_long, rows_long, has_append_cases, objects_long (at + dictionary_words o.program) more t h.1)

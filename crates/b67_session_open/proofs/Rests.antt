@@ -1,16 +1,14 @@
 -- Objects that were written to free sectors stand at rest.
-use Rattle.std.proofs.Common.{◌≡◌, ℕ, zero, suc, ◌-◌, ◌%◌, ◌<◌, ◌≤◌, ◌^◌, List, [], length, map, Option, Some, None, refl, sym, ◌∙◌, ap, subst, arith, inl, ⊎_elim}
+use Rattle.std.proofs.Common.{◌≡◌, ℕ, ◌-◌, ◌%◌, ◌<◌, ◌≤◌, ◌^◌, List, [], length, map, Option, Some, None, sym, ◌∙◌, ap, subst, arith, inl, ⊎_elim}
 use Rattle.std.specs.List.{slice_get}
-use Rattle.std.proofs.lemmas.Option.{none-some}
 use Rattle.b67_word.specs.Tagged.{Tagged}
 use Rattle.b67_word.specs.Numbers.{number}
 use Rattle.b67_area.specs.Spans.{area_at, left}
 use Rattle.b67_area.specs.declared.Kind.{Kind}
-use Rattle.b67_area.specs.declared.Kind.TheVariants.{Array, Row, Code}
 use Rattle.b67_backing.specs.Shelf.{Table, Shelf, IsShelf, first, chain_of}
 use Rattle.b67_lemmas.specs.Lists.{Has}
 use Rattle.b67_stack.specs.Common.{PagedObject, home_word_of, home_word, object_words, Storage, Told, HoldsIn, RepresentsObject, Owned, at_rest}
-use Rattle.b67_load.specs.Objects.{object_sectors, sectors_of_objects}
+use Rattle.b67_load.specs.Objects.{sectors_of_objects}
 use Rattle.b67_load.specs.StoredObjects.{StoredObject, placed, stocked, DescriptorsStand, WritesFreeSectors}
 use Rattle.b67_load.proofs.Shelves.{Apart, placed_chain, placed_object}
 use Rattle.b67_session_open.specs.Stored.{sector_named, absent_storage}
@@ -30,29 +28,21 @@ pub record Stored (core : List Tagged) (old new : Table) (st : Shelf) (ts : List
 
 -- the sector that a descriptor names
 named : (kind : Kind) (n f : ℕ) → f < 2 ^ 20 → (home_word_of kind n (at_rest f)).bits % 2 ^ 20 ≡ f
-named Array n f small = omega arith
-named Row n f small = omega arith
-named Code n f small = omega arith
+named kind n f h = grind arith
 
 pub no_areas : (low n at : ℕ) → area_at low (left n []) at ≡ None
-no_areas low zero at = refl
-no_areas low (suc n) at = refl
+no_areas low n at = grind arith
 
 told_words : (before now : Option (List (List ℕ))) (r : StoredObject) (ts : List PagedObject) (free : List ℕ) → Has (placed ts free) r →
     ((a : List (List ℕ)) → before ≡ Some a → (b : List (List ℕ)) × (now ≡ Some b) × WritesFreeSectors ts free a b) → Told (content_after before now) r.chain (map number (object_words r.object))
-told_words None now r ts free h stocks = tt
-told_words (Some a) now r ts free h stocks =
-    let b = stocks a refl in subst (λ o. Told o r.chain (map number (object_words r.object))) (sym b.1) (b.2.rest r h)
+told_words before now r ts free h stocks = grind arith
 
 module _ (core : List Tagged) (low : ℕ) (old new : Table) (st : Shelf) (ts : List PagedObject) (before now : Option (List (List ℕ))) (stored : Stored core old new st ts before now) where
   abbrev x : Storage
   x = absent_storage core low (stocked ts st) (content_after before now)
 
   long : (r : StoredObject) → Has (placed ts st.free) r → 1 ≤ length r.chain
-  long r h =
-      let some = stored.long r.object (placed_object ts st.free r h) in
-      let many : length r.chain ≡ object_sectors r.object = placed_length ts st.free r stored.room h in
-      omega (arith, some, many)
+  long r h = grind (arith, placed_object, placed_length)
 
   apart : (r : StoredObject) → Has (placed ts st.free) r → Apart new (stocked ts st) (first r.chain)
   apart r h = first_apart new (stocked ts st) r.chain stored.new_shelf (placed_chain ts st r h)
@@ -67,12 +57,7 @@ module _ (core : List Tagged) (low : ℕ) (old new : Table) (st : Shelf) (ts : L
   names r h = ap sector_named (stored.descriptors r h) ∙ named r.object.kind (length r.object.numbers) (first r.chain) (small r h)
 
   holds : (r : StoredObject) → Has (placed ts st.free) r → HoldsIn x r.object (first r.chain)
-  holds r h =
-      let is = chain_found new (stocked ts st) r.chain stored.new_shelf (placed_chain ts st r h) in
-      record {
-        chain = record { some = (apart r h).low; small = small r h; sectors = ap length is ∙ placed_length ts st.free r stored.room h };
-        told = subst (λ k. Told (content_after before now) k (map number (object_words r.object))) (sym is) (told_words before now r ts st.free h stored.stocks);
-      }
+  holds r h = grind (arith, chain_found, placed_chain, apart, placed_length)
 
   pub object_stands : (t : PagedObject) → Has ts t → RepresentsObject x core t
   object_stands t h =
@@ -95,16 +80,7 @@ module _ (core : List Tagged) (low : ℕ) (old new : Table) (st : Shelf) (ts : L
   one_home t u h k e =
       let r = placed_has ts st.free t h in
       let q = placed_has ts st.free u k in
-      let a : sector_named (slice_get core t.home) ≡ first r.0.chain = subst (λ (v : PagedObject). sector_named (slice_get core v.home) ≡ first r.0.chain) r.2 (names r.0 r.1) in
-      let b : sector_named (slice_get core u.home) ≡ first q.0.chain = subst (λ (v : PagedObject). sector_named (slice_get core v.home) ≡ first q.0.chain) q.2 (names q.0 q.1) in
-      let same : r.0 ≡ q.0 = one_place ts st.free r.0 q.0 (alone r.0 r.1) (alone q.0 q.1) r.1 q.1 (sym a ∙ (e ∙ b)) in
-      ap (λ (v : PagedObject). v.home) (sym r.2) ∙ ap (λ (v : StoredObject). v.object.home) same ∙ ap (λ (v : PagedObject). v.home) q.2
+      grind (arith, names, one_place, alone)
 
   pub owned : Owned x ts
-  owned = record {
-    of_area = λ at a e. absurd (none-some a (sym (no_areas low (length core - low) at) ∙ e));
-    of_held = λ home at e. absurd (none-some at e);
-    of_chain = chained;
-    no_zero = no_zero new (stocked ts st) stored.new_shelf;
-    one_chain = λ t u h k some e. one_home t u h k e;
-  }
+  owned = grind (arith, chained, no_zero, one_home)

@@ -18,8 +18,7 @@ chain_some links ((d ∷ ds) ∷ ks) k a (inl e) = subst (λ (z : List ℕ). 1 �
 chain_some links ((d ∷ ds) ∷ ks) k a (inr h) = chain_some links ks k a.1 h
 
 pub first_in : (k : List ℕ) → 1 ≤ length k → Has k (first k)
-first_in [] h = absurd (omega arith)
-first_in (c ∷ cs) h = inl refl
+first_in k h = grind arith
 
 -- that begins no other chain
 found : (links : List ℕ) (ks : List (List ℕ)) (k : List ℕ) → AreChains links ks → Has ks k → uses (first k) ks ≤ 1 → chain_of (first k) ks ≡ k
@@ -37,9 +36,7 @@ pub first_apart : (t : Table) (s : Shelf) (k : List ℕ) → IsShelf t s → Has
 first_apart t s k is h = chain_apart t s k (first k) is h (first_in k (chain_some t.links s.chains k is.chains h))
 
 pub chain_found : (t : Table) (s : Shelf) (k : List ℕ) → IsShelf t s → Has s.chains k → chain_of (first k) s.chains ≡ k
-chain_found t s k is h =
-    let a = first_apart t s k is h in
-    found t.links s.chains k is.chains h (omega (arith, is.once (first k) a.low a.high))
+chain_found t s k is h = grind (arith, first_apart, found)
 
 pub no_zero : (t : Table) (s : Shelf) → IsShelf t s → chain_of 0 s.chains ≡ []
 no_zero t s is = ⊎_elim
@@ -53,19 +50,12 @@ no_zero t s is = ⊎_elim
 -- the chain that begins with a sector is among them
 pub chain_begins : (ks : List (List ℕ)) (x : ℕ) → 0 < length (chain_of x ks) → Has ks (chain_of x ks) × (first (chain_of x ks) ≡ x)
 chain_begins [] x h = absurd (omega arith)
-chain_begins (k ∷ ks) x h = ⊎_elim
-    (λ (e : first k ≡ x). let t = eq-eqb (first k) x e in rw t (inl refl, e))
-    (λ (e : first k ≡ x → ⊥).
-    let t = ne_eqb (first k) x e in
-    let b = chain_begins ks x (rw t at h) in
-    rw t (inr b.0, b.1))
-    (cases_eq (first k) x)
+chain_begins (k ∷ ks) x h = grind (arith, chain_begins ks x)
 
 -- each object has its sectors
 pub placed_length : (ts : List PagedObject) (free : List ℕ) (r : StoredObject) → sectors_of_objects ts ≤ length free → Has (placed ts free) r → length r.chain ≡ object_sectors r.object
 placed_length [] free r fits h = absurd h
-placed_length (t ∷ more) free r fits (inl e) =
-    subst (λ (q : StoredObject). length q.chain ≡ object_sectors q.object) e (omega (arith, fits, length-take (object_sectors t) free))
+placed_length (t ∷ more) free r fits (inl e) = grind (arith, length-take)
 placed_length (t ∷ more) free r fits (inr h) = placed_length more (drop (object_sectors t) free) r (omega (arith, fits, length-drop (object_sectors t) free)) h
 
 pub placed_has : (ts : List PagedObject) (free : List ℕ) (t : PagedObject) → Has ts t → (r : StoredObject) × Has (placed ts free) r × (r.object ≡ t)

@@ -1,11 +1,10 @@
 -- What the opening of programs needs.
-use Rattle.std.proofs.Common.{◌≡◌, ℕ, ◌+◌, ◌*◌, List, [], ◌∷◌, length, reverse, refl, sym, ◌∙◌, ap, arith}
-use Rattle.std.specs.List.{sum_by}
+use Rattle.std.proofs.Common.{◌≡◌, ℕ, ◌+◌, ◌*◌, List, [], ◌∷◌, length, refl, ◌∙◌, ap, arith}
 use Rattle.b67_backing.specs.Held.{sectors_for}
 use Rattle.b67_lemmas.specs.Lists.{total}
 use Rattle.b67_lemmas.proofs.Members.{total_reverse}
 use Rattle.b67_lemmas.proofs.Sums.{sum_total}
-use Rattle.b67_model.specs.Common.{Array, Segment, SessionJob, Program, row_arrays, need_at_opening, sectors_of, sectors}
+use Rattle.b67_model.specs.Common.{Array, SessionJob, Program, row_arrays, need_at_opening, sectors_of, sectors}
 use Rattle.b67_law_order.specs.Opening.{Opening, opened_from}
 use Rattle.b67_law_order.proofs.OpenedRows.{entries_count}
 use Rattle.b67_law_order.proofs.Opens.{jobs_count}
@@ -19,12 +18,7 @@ dictionaries_are n stack (o ∷ more) = omega (arith, entries_count o.program.se
 
 pub need_is : (stack : ℕ) (openings : List Opening) (programs : List Program) (count : ℕ) → programs_of openings ≡ programs → count ≡ length programs
     → 160 + dictionaries programs + count * stack ≡ need_at_opening stack (opened_from 1 stack openings)
-need_is stack openings programs count same many =
-    let jobs = opened_from 1 stack openings in
-    let words : dictionaries programs ≡ sum_by (λ (m : SessionJob). 2 + length m.constants.dictionary.cells) jobs =
-    ap dictionaries (sym same) ∙ sym (sum_total (λ (m : SessionJob). 2 + length m.constants.dictionary.cells) jobs ∙ dictionaries_are 1 stack openings) in
-    let number : count ≡ length jobs = many ∙ (ap length (sym same) ∙ (count_is openings ∙ sym (jobs_count 1 stack openings))) in
-    ap (λ d. 160 + d + count * stack) words ∙ ap (λ n. 160 + sum_by (λ (m : SessionJob). 2 + length m.constants.dictionary.cells) jobs + n * stack) number
+need_is stack openings programs count same many = grind (arith, sum_total, dictionaries_are, count_is, jobs_count)
 
 rows_are : (n : ℕ) (rows : List (List ℕ)) → total (λ (a : Array). sectors_for (length a.numbers)) (row_arrays n rows) ≡ total (λ (r : List ℕ). sectors_for (length r)) rows
 rows_are n [] = refl
@@ -32,16 +26,8 @@ rows_are n (r ∷ more) = ap (λ k. sectors_for (length r) + k) (rows_are (n + 1
 
 sectors_are : (n stack : ℕ) (openings : List Opening) → total sectors_of (opened_from n stack openings) ≡ total sectors_of_program (programs_of openings)
 sectors_are n stack [] = refl
-sectors_are n stack (o ∷ more) = omega (
-  arith,
-  sum_total (λ (s : Segment). sectors_for (length s.code)) o.program.segments,
-  sum_total (λ (a : Array). sectors_for (length a.numbers)) (reverse (row_arrays 1 o.program.rows)),
-  total_reverse (λ (a : Array). sectors_for (length a.numbers)) (row_arrays 1 o.program.rows),
-  rows_are 1 o.program.rows,
-  sectors_are (n + 1) stack more,
-)
+sectors_are n stack (o ∷ more) = grind (arith, sum_total, total_reverse, rows_are, sectors_are (n + 1) stack more)
 
 pub sectors_is : (stack : ℕ) (openings : List Opening) (programs : List Program) → programs_of openings ≡ programs
     → total sectors_of_program programs ≡ sectors (opened_from 1 stack openings)
-sectors_is stack openings programs same =
-    ap (total sectors_of_program) (sym same) ∙ sym (sum_total sectors_of (opened_from 1 stack openings) ∙ sectors_are 1 stack openings)
+sectors_is stack openings programs same = grind (arith, sum_total, sectors_are)

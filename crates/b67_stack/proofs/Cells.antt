@@ -14,13 +14,7 @@ use Rattle.b67_stack.proofs.Pushes.{Represents-push, RunsOn-with}
 
 -- a slot that is changed twice
 pub with_stack-twice : (p : MachineView) (k : ℕ) (one two : List Activation) → with_stack (with_stack p k one) k two ≡ with_stack p k two
-with_stack-twice p k one two =
-    let same : (j : ℕ) → (with_stack (with_stack p k one) k two).slots j ≡ (with_stack p k two).slots j = λ j. by_test j (j == k) refl in
-    let slots : (with_stack (with_stack p k one) k two).slots ≡ (with_stack p k two).slots = λ i j. same j i in
-    ap (λ (s : ℕ → Slot). let q : MachineView = record { stacks = p.stacks; size = p.size; peak = p.peak; slots = s; objects = p.objects } in q) slots where
-      by_test : (j : ℕ) (b : Bool) → (j == k) ≡ b → (if (j == k) then Running two else (if (j == k) then Running one else p.slots j)) ≡ (if (j == k) then Running two else p.slots j)
-      by_test j true e = rw e refl
-      by_test j false e = rw e refl
+with_stack-twice p k one two = grind arith
 
 module _ (x : Storage) (core : List Tagged) (r : Regs) (p : MachineView) (k : ℕ) (a : Activation) (below : List Activation) (s : Represents x core r p) (u : RunsOn p k (a ∷ below)) where
   top : RepresentsRunning r p k (a ∷ below)
@@ -39,11 +33,7 @@ module _ (x : Storage) (core : List Tagged) (r : Regs) (p : MachineView) (k : �
       let l = subst P e (running_lies x core r p k (a ∷ below) s u) in
       let l' : LieDownward (Fits x.held) core (suc (slot_base p k)) (above ++ (c ∷ rest ++ headed k a.head below (words k below))) = rw (← append_assoc) l in
       let m = (Lie-under (Fits x.held) core (suc (slot_base p k)) above (c ∷ rest ++ headed k a.head below (words k below)) l').0 in
-      let n : length (words k (a ∷ below)) ≡ length above + suc (length (rest ++ headed k a.head below (words k below))) =
-      ap (λ (cs : List Shape). length (cs ++ headed k a.head below (words k below))) e ∙ ap length (append_assoc above (c ∷ rest) (headed k a.head below (words k below))) ∙ length-append above (c ∷ rest ++ headed k a.head below (words k below)) in
-      let at : suc (slot_base p k) + length (rest ++ headed k a.head below (words k below)) ≡ r.s - length above = omega (arith, top.top, n, words-length k (a ∷ below)) in
-      let Q : ℕ → Type 0 = λ i. (w : Tagged) × (slice_get core i ≡ Some w) × Fits x.held c i w in
-      subst Q at m
+      grind (arith, length-append, words-length)
 
   -- cells less
   pub Represents-drop : (gone rest : List Shape) (q : Place) → a.cells ≡ gone ++ rest

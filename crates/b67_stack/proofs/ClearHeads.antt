@@ -12,7 +12,4 @@ IsClear r p = (t : PagedObject) → Has p.objects t → (t.home ≢ r.s + 1) × 
 
 -- as none does where all of them stand at or under the top
 pub clear_settled : (x : Storage) (core : List Tagged) (r : Regs) (p : MachineView) (k : ℕ) (stack : List Activation) → Represents x core r p → RunsOn p k stack → r.s + 2 ≤ r.losr → NoOriginalAboveTop p → IsClear r p
-clear_settled x core r p k stack s u room settled t int =
-    let g = running_slot x core r p k stack s u in
-    let high_is : stack_words (stack_of (p.slots k)) ≡ stack_words stack = ap (λ y. stack_words (stack_of y)) u.is in
-    (λ z. omega (arith, z, settled t int k u.used (omega (arith, z, g.top)) (omega (arith, z, g.last, room)), high_is, g.top), λ z. omega (arith, z, settled t int k u.used (omega (arith, z, g.top)) (omega (arith, z, g.last, room)), high_is, g.top))
+clear_settled x core r p k stack s u room settled t int = grind arith

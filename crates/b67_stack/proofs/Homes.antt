@@ -15,14 +15,10 @@ use Rattle.b67_lemmas.specs.Lists.{Has}
 use Rattle.b67_stack.specs.Common.{Location, Shape, Is, Original, Copy, copy_desc, Fits, PagedObject, MachineView, home_desc, home_word_of, Storage, Content, KeptChain, Represents, info_of}
 
 same_bit : (a b : Bool) → flag_bit a ≡ flag_bit b → a ≡ b
-same_bit true true e = refl
-same_bit true false e = absurd (omega arith)
-same_bit false true e = absurd (omega arith)
-same_bit false false e = refl
+same_bit a b e = grind arith
 
 pub bit-lt : (a : Bool) → flag_bit a < 2
-bit-lt true = omega arith
-bit-lt false = omega arith
+bit-lt a = grind arith
 
 abbrev sum : (p c i r l a : ℕ) → ℕ
 sum p c i r l a = p * 2 ^ 47 + c * 2 ^ 46 + i * 2 ^ 45 + r * 2 ^ 43 + l * 2 ^ 20 + a
@@ -38,37 +34,23 @@ pub record SameDesc (d e : DataDesc) : Type 0 where
   pub address : d.address ≡ e.address
 
 pub same_desc : (d e : DataDesc) → IsDataDesc d → IsDataDesc e → data_word d ≡ data_word e → SameDesc d e
-same_desc d e hd he s =
-    let r = same_fields (flag_bit d.present) (flag_bit d.copy) (flag_bit d.indexed) (flag_bit d.read_only) d.length d.address (flag_bit e.present) (flag_bit e.copy) (flag_bit e.indexed) (flag_bit e.read_only) e.length e.address
-    (bit-lt d.present) (bit-lt d.copy) (bit-lt d.indexed) (bit-lt d.read_only) hd.words hd.address (bit-lt e.present) (bit-lt e.copy) (bit-lt e.indexed) (bit-lt e.read_only) he.words he.address
-    (ap (λ (w : Tagged). w.bits) s) in
-    record { present = same_bit d.present e.present r.0; copy = same_bit d.copy e.copy r.1; address = r.2 }
+same_desc d e hd he s = grind (arith, bit-lt)
 
 fits_home : (b : Bool) (n : ℕ) (a : Option ℕ) (f : ℕ) → n < 2 ^ 20 → f < 2 ^ 20 → ((b : ℕ) → a ≡ Some b → b < 2 ^ 20) → IsDataDesc (home_desc b n (record { area = a; chain = f }))
-fits_home b n (Some x) f small fits af = record { words = small; address = af x refl; indexed = λ z. absurd (false≢true z) }
-fits_home b n None f small fits af = record { words = small; address = fits; indexed = λ z. absurd (false≢true z) }
+fits_home b n a f small fits af = grind arith
 
 -- the word of an array's original or a segment's descriptor is no copy
 home_no_copy : (k : Kind) (n : ℕ) (a : Option ℕ) (f : ℕ) (d : DataDesc) → n < 2 ^ 20 → f < 2 ^ 20 → ((b : ℕ) → a ≡ Some b → b < 2 ^ 20) → IsDataDesc d → home_word_of k n (record { area = a; chain = f }) ≡ data_word d → d.copy ≡ true → ⊥
-home_no_copy Array n a f d small fits af fd e c = false≢true ((same_desc (home_desc false n (record { area = a; chain = f })) d (fits_home false n a f small fits af) fd e).copy ∙ c)
-home_no_copy Row n a f d small fits af fd e c = false≢true ((same_desc (home_desc true n (record { area = a; chain = f })) d (fits_home true n a f small fits af) fd e).copy ∙ c)
-home_no_copy Code n a f d small fits af fd e c = let z : ◌≡◌ {A = ℕ} 3 5 = ap (λ (x : Tagged). x.tag) e in absurd (omega arith)
+home_no_copy k n a f d small fits af fd e c = grind arith
 
 Keeps-small : (x : Storage) (t : PagedObject) (k : Kind) (f : ℕ) → KeptChain x t k f → f < 2 ^ 20
-Keeps-small x t Array f (inl z) = omega arith
-Keeps-small x t Array f (inr h) = h.small
-Keeps-small x t Row f h = h.chain.small
-Keeps-small x t Code f h = h.chain.small
+Keeps-small x t k f h = grind arith
 
 pub chain_small : (x : Storage) (core : List Tagged) (t : PagedObject) (a : Option ℕ) (f : ℕ) → Content x core t a f → f < 2 ^ 20
-chain_small x core t (Some a) f c = Keeps-small x t t.kind f c.1
-chain_small x core t None f (inl h) = h.chain.small
-chain_small x core t None f (inr z) = omega (arith, z.0)
+chain_small x core t a f c = grind arith
 
 tag-home : (k : Kind) (n : ℕ) (h : Location) → k ≢ Code → (home_word_of k n h).tag ≡ 5
-tag-home Array n h ne = refl
-tag-home Row n h ne = refl
-tag-home Code n h ne = absurd (ne refl)
+tag-home k n h ne = grind arith
 
 -- no plain word and no copy stands at a home above slot 0
 pub not_home : (x : Storage) (core : List Tagged) (r : Regs) (p : MachineView) (c : Shape) (w : Tagged) (i : ℕ) → Represents x core r p → p.stacks ≤ i → slice_get core i ≡ Some w → Fits x.held c i w → ((home : ℕ) → c ≢ Original home)

@@ -12,8 +12,7 @@ pub Lie-each : (R S : Shape → ℕ → Tagged → Type 0) (old new : List Tagge
     → ((a : Shape) (i : ℕ) (v : Tagged) → Has xs a → from ≤ i → i < from + length xs → slice_get old i ≡ Some v → R a i v → (w : Tagged) × (slice_get new i ≡ Some w) × S a i w)
     → LieDownward R old from xs → LieDownward S new from xs
 Lie-each R S old new from [] f l = tt
-Lie-each R S old new from (a ∷ more) f l =
-    (f a (from + length more) l.0.0 (inl refl) (omega arith) (omega arith) l.0.1 l.0.2, Lie-each R S old new from more (λ b i v there low high. f b i v (inr there) low (omega arith)) l.1)
+Lie-each R S old new from (a ∷ more) f l = grind (arith, Lie-each R S old new from more)
 
 -- the same words in another core
 pub Lie-same : (R : Shape → ℕ → Tagged → Type 0) (old new : List Tagged) (from : ℕ) (xs : List Shape)
@@ -22,10 +21,7 @@ Lie-same R old new from xs same l = Lie-each R R old new from xs (λ a i v there
 
 -- a word on top of others
 pub Lie-push : (R : Shape → ℕ → Tagged → Type 0) (core : List Tagged) (from i : ℕ) (a : Shape) (w : Tagged) (xs : List Shape) → i ≡ from + length xs → i < length core → R a i w → LieDownward R core from xs → LieDownward R (slice_set core i w) from (a ∷ xs)
-Lie-push R core from i a w xs e h r l =
-    let there : (v : Tagged) × (slice_get (slice_set core i w) (from + length xs) ≡ Some v) × R a (from + length xs) v =
-    (let P : ℕ → Type 0 = λ n. (v : Tagged) × (slice_get (slice_set core i w) n ≡ Some v) × R a n v in subst P e (w, slice_get-set_same core i w h, r)) in
-    (there, Lie-same R core (slice_set core i w) from xs (λ j low high. slice_get-set_other core i j w (λ z. omega arith)) l)
+Lie-push R core from i a w xs e h r l = grind (arith, slice_get-set_same, Lie-same, slice_get-set_other)
 
 -- what lies under others
 pub Lie-under : (R : Shape → ℕ → Tagged → Type 0) (core : List Tagged) (from : ℕ) (xs ys : List Shape) → LieDownward R core from (xs ++ ys) → LieDownward R core from ys
@@ -45,6 +41,4 @@ upward-take core at (w ∷ ws) u =
     rw (drop-get core at w u.0) (ap (λ ys. w ∷ ys) rest)
 
 pub upward-range : (core : List Tagged) (at n : ℕ) (ws : List Tagged) → n ≡ length ws → LieUpward core at ws → slice_range core at (at + n) ≡ ws
-upward-range core at n ws e u =
-    let count : at + n - at ≡ length ws = omega (arith, e) in
-    ap (λ k. take k (drop at core)) count ∙ upward-take core at ws u
+upward-range core at n ws e u = grind (arith, upward-take)

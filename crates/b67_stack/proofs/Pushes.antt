@@ -25,27 +25,10 @@ pub record Room (x : Storage) (core : List Tagged) (r : Regs) (p : MachineView) 
   pub bound : length core < 2 ^ 20
 
 mark_low : (stack : List Activation) → stack ≢ [] → (0 < mark_place stack) × (mark_place stack ≤ stack_words stack)
-mark_low [] n = absurd (n refl)
-mark_low (a ∷ below) n = head a.head a.cells below where
-  head : (h : Head) (cs : List Shape) (below : List Activation) → let st = record { head = h; cells = cs } ∷ below in (0 < mark_place st) × (mark_place st ≤ stack_words st)
-  head Marked cs below = (omega arith, omega arith)
-  head (Entered level environment back) cs below = (omega arith, omega arith)
+mark_low stack n = grind arith
 
 pub room_of : (x : Storage) (core : List Tagged) (r : Regs) (p : MachineView) (k : ℕ) (stack : List Activation) → Represents x core r p → RunsOn p k stack → Room x core r p k stack
-room_of x core r p k stack s u =
-    let c = running_slot x core r p k stack s u in
-    let f = (running_fits x core r p k stack s u).0 in
-    let m = mark_low stack f.some in
-    let after = base-apart p k p.peak u.used in
-    record {
-      low = omega (arith, s.slots.laid.first, c.first);
-      mark = omega (arith, c.first, c.mark, m.0);
-      top = omega (arith, c.mark, c.top, m.1);
-      last = omega (arith, c.last, c.top, f.fits);
-      under = omega (arith, c.last, after, s.slots.laid.low);
-      inside = s.inside;
-      bound = s.directory.small;
-    }
+room_of x core r p k stack s u = grind arith
 
 -- the view after a step that leaves the slots' sizes as they are
 pub RunsOn-with : (p : MachineView) (k : ℕ) (stack after : List Activation) → RunsOn p k stack → RunsOn (with_stack p k after) k after
@@ -57,9 +40,7 @@ running_high p k stack u = ap (λ y. stack_words (stack_of y)) u.is
 pub Settled-with : (p : MachineView) (k : ℕ) (stack after : List Activation) → RunsOn p k stack
     → ((t : PagedObject) → Has p.objects t → slot_base p k ≤ t.home → t.home ≤ slot_base p k + stack_words stack → t.home ≤ slot_base p k + stack_words after)
     → NoOriginalAboveTop p → NoOriginalAboveTop (with_stack p k after)
-Settled-with p k stack after u here s t int = by_slot p k (Running after) (λ j y. slot_base p j ≤ t.home → t.home < slot_base p j + p.size → t.home ≤ slot_base p j + stack_words (stack_of y))
-    (λ low up. here t int low (omega (arith, s t int k u.used low up, running_high p k stack u)))
-    (λ j hj n. s t int j hj)
+Settled-with p k stack after u here s t int = grind arith
 
 module _ (x : Storage) (core : List Tagged) (r : Regs) (p : MachineView) (k : ℕ) where
   -- a word more

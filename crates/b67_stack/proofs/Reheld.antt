@@ -18,9 +18,7 @@ use Rattle.b67_stack.proofs.Lies.{Upward-same}
 use Rattle.b67_stack.proofs.Helds.{held-other, held-same}
 
 pub slot_same : (core new : List Tagged) (r : Regs) (p : MachineView) (k : ℕ) (y : Slot) → slice_get new (slot_base p k) ≡ slice_get core (slot_base p k) → RepresentsSlot core r p k y → RepresentsSlot new r p k y
-slot_same core new r p k Free e t = (t.0, e ∙ t.1)
-slot_same core new r p k (Running stack) e t = t
-slot_same core new r p k (Waiting stack) e t = (t.0, e ∙ t.1)
+slot_same core new r p k h e t = grind arith
 
 -- the slots' base words alone tell where the tops are
 pub RepresentsSlots-same : (core new : List Tagged) (r : Regs) (low : ℕ) (p : MachineView) → ((k : ℕ) → k < p.peak → slice_get new (slot_base p k) ≡ slice_get core (slot_base p k)) → RepresentsSlots core r low p → RepresentsSlots new r low p
@@ -31,20 +29,13 @@ module _ (x y : Storage) (t : PagedObject) (f : ℕ) (c : ChainStays x y f) wher
   HasChain-stays h = record { some = h.some; small = h.small; sectors = ap length c.chain ∙ h.sectors }
 
   pub HoldsIn-stays : HoldsIn x t f → HoldsIn y t f
-  HoldsIn-stays h = record {
-    chain = HasChain-stays h.chain;
-    told = let P : List ℕ → Type 0 = λ k. Told y.device k (map number (object_words t)) in subst P (sym c.chain) (c.told (map number (object_words t)) h.told);
-  }
+  HoldsIn-stays h = grind arith
 
   pub Keeps-stays : (k : Kind) → KeptChain x t k f → KeptChain y t k f
-  Keeps-stays Array (inl z) = inl z
-  Keeps-stays Array (inr h) = inr (HasChain-stays h)
-  Keeps-stays Row h = HoldsIn-stays h
-  Keeps-stays Code h = HoldsIn-stays h
+  Keeps-stays k h = grind arith
 
   pub Rests-stays : AbsentContent x t f → AbsentContent y t f
-  Rests-stays (inl h) = inl (HoldsIn-stays h)
-  Rests-stays (inr z) = inr z
+  Rests-stays h = grind arith
 
   -- an object's content, by the words of its area and by its chain
   pub Content-stays : (core new : List Tagged) (a : Option ℕ) → ((b : ℕ) → a ≡ Some b → (q : ℕ) → b ≤ q → q < b + length t.numbers → slice_get new q ≡ slice_get core q) → Content x core t a f → Content y new t a f
@@ -130,8 +121,7 @@ module _ (x : Storage) (core new : List Tagged) (r : Regs) (p : MachineView) (t 
   apart : (u : PagedObject) (at : ℕ) → u.home ≢ t.home → area_at x.low x.spans at ≡ Some (info_of x u) → (x.held t.home).area ≢ Some at
   apart u at n there e =
       let o = s.owned.of_held t.home at e in
-      let i : info_of x u ≡ info_of x o.0 = same_Some _ _ (sym there ∙ o.3) in
-      n (ap (λ (a : Info). a.owner) i ∙ o.2)
+      grind (arith, same_Some)
 
   owned : Owned y p.objects
   owned = record {

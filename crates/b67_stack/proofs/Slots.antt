@@ -20,27 +20,19 @@ slot-other p k slot j n = rw (ne_eqb j k n) refl
 
 -- a word of the running stack is that of slot k
 pub by_slot : (p : MachineView) (k : ℕ) (slot : Slot) (P : ℕ → Slot → Type 0) → P k slot → ((j : ℕ) → j < p.peak → j ≢ k → P j (p.slots j)) → (j : ℕ) → j < p.peak → P j ((with_slot p k slot).slots j)
-by_slot p k slot P here others j hj = ⊎_elim
-    (λ (z : j ≡ k). let Q : ℕ → Type 0 = λ m. P m ((with_slot p k slot).slots m) in let R : Slot → Type 0 = λ x. P k x in subst Q (sym z) (subst R (sym (slot-same p k slot)) here))
-    (λ (n : j ≡ k → ⊥). let R : Slot → Type 0 = λ x. P j x in subst R (sym (slot-other p k slot j n)) (others j hj n))
-    (cases_eq j k)
+by_slot p k slot P here others j hj = grind arith
 
 slot_other : (old new : List Tagged) (r r' : Regs) (p : MachineView) (k j : ℕ) (slot s : Slot) → j ≢ k → r.slot ≡ k → r'.slot ≡ k → slice_get new (slot_base p j) ≡ slice_get old (slot_base p j) → RepresentsSlot old r p j s → RepresentsSlot new r' (with_slot p k slot) j s
-slot_other old new r r' p k j slot Free n e e' same t = (λ z. n (sym z ∙ e'), same ∙ t.1)
-slot_other old new r r' p k j slot (Running stack) n e e' same t = absurd (n (sym t.slot ∙ e))
-slot_other old new r r' p k j slot (Waiting stack) n e e' same t = (λ z. n (sym z ∙ e'), same ∙ t.1)
+slot_other old new r r' p k j slot s n e e' same t = grind arith
 
 -- a slot's words fit in it
 pub slot_room : (p : MachineView) (k : ℕ) (s : Slot) → SlotFits p k s → 0 < p.size → stack_words (stack_of s) < p.size
-slot_room p k Free f some = some
-slot_room p k (Running stack) f some = f.0.fits
-slot_room p k (Waiting stack) f some = f.0.fits
+slot_room p k s f some = grind arith
 
 -- content read in areas alone
 pub Content-areas : (x : Storage) (old new : List Tagged) (t : PagedObject) (a : Option ℕ) (f : ℕ)
     → ((b : ℕ) → a ≡ Some b → x.low ≤ b) → ((q : ℕ) → x.low ≤ q → slice_get new q ≡ slice_get old q) → Content x old t a f → Content x new t a f
-Content-areas x old new t (Some a) f up same c = (Upward-same old new a (object_words t) (λ q above below. same q (omega (arith, up a refl))) c.0, c.1)
-Content-areas x old new t None f up same c = c
+Content-areas x old new t a f up same c = grind (arith, Upward-same)
 
 pub running_slot : (x : Storage) (core : List Tagged) (r : Regs) (p : MachineView) (k : ℕ) (stack : List Activation) → Represents x core r p → RunsOn p k stack → RepresentsRunning r p k stack
 running_slot x core r p k stack s u = let P : Slot → Type 0 = λ y. RepresentsSlot core r p k y in subst P u.is (s.slots.slots k u.used)

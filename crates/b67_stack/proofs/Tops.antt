@@ -15,28 +15,23 @@ use Rattle.b67_stack.proofs.Heights.{words-length}
 use Rattle.b67_stack.proofs.Slots.{running_slot, running_fits, running_lies}
 
 level-head : (b : Head) (below : List Activation) → HeadFits b below → stack_level below < 2 ^ 5 → level_from b (stack_level below) < 2 ^ 5
-level-head Marked below f small = small
-level-head (Entered level environment back) below f small = f.0
+level-head b below f small = grind arith
 
 pub level-small : (stack : List Activation) → HeadsFit stack → stack_level stack < 2 ^ 5
 level-small [] h = omega arith
 level-small (a ∷ below) h = level-head a.head below h.0 (level-small below h.1)
 
 head-lies : (R : Locations) (core : List Tagged) (from k : ℕ) (h : Head) (below : List Activation) → LieDownward (Fits R) core from (headed k h below (words k below)) → slice_get core (from + stack_words below) ≡ Some (mscw_word (mark_of k h below))
-head-lies R core from k Marked below l = ap (λ n. slice_get core (from + n)) (sym (words-length k below)) ∙ l.0.1 ∙ ap Some l.0.2.0
-head-lies R core from k (Entered level environment back) below l = ap (λ n. slice_get core (from + n)) (sym (words-length k below)) ∙ l.1.0.1 ∙ ap Some l.1.0.2.0
+head-lies R core from k h below l = grind (arith, words-length)
 
 pub mark-fits : (k : ℕ) (h : Head) (below : List Activation) → HeadFits h below → top_size below < 2 ^ 14 → IsMscw (mark_of k h below)
-mark-fits k Marked below f small = record { env_stack = omega arith; env_disp = omega arith; level = omega arith; back = small; marked = λ e. refl }
-mark-fits k (Entered level environment back) below f small = record { env_stack = f.1; env_disp = f.2; level = f.0; back = small; marked = λ e. absurd (let z : ⊥ = cc in z) }
+mark-fits k h below f small = grind arith
 
 mark-size : (k : ℕ) (h : Head) (below : List Activation) → flag_bit (mark_of k h below).entered + 1 ≡ head_size h
-mark-size k Marked below = refl
-mark-size k (Entered level environment back) below = refl
+mark-size k h below = grind arith
 
 pub top_size-high : (stack : List Activation) → top_size stack ≤ stack_words stack
-top_size-high [] = omega arith
-top_size-high (a ∷ below) = omega arith
+top_size-high stack = grind arith
 
 module _ (x : Storage) (core : List Tagged) (r : Regs) (p : MachineView) (k : ℕ) where
   -- the mark at F
@@ -48,30 +43,16 @@ module _ (x : Storage) (core : List Tagged) (r : Regs) (p : MachineView) (k : �
       ap (slice_get core) (let e : r.f ≡ suc (slot_base p k) + stack_words below = omega (arith, g.mark) in e) ∙ head-lies x.held core (suc (slot_base p k)) k a.head below l
 
   pub mark_is : (stack : List Activation) → Represents x core r p → RunsOn p k stack → IsMscw (top_mark k stack)
-  mark_is [] s u = absurd ((running_fits x core r p k [] s u).0.some refl)
-  mark_is (a ∷ below) s u =
-      let f = (running_fits x core r p k (a ∷ below) s u).0 in
-      mark-fits k a.head below f.heads.0 (omega (arith, f.fits, s.slots.laid.room, top_size-high below))
+  mark_is stack s u = grind arith
 
   -- S by F and the cells
   pub cells_above : (stack : List Activation) → Represents x core r p → RunsOn p k stack → r.s ≡ r.f + flag_bit (top_mark k stack).entered + length (top_cells stack)
-  cells_above [] s u = absurd ((running_fits x core r p k [] s u).0.some refl)
-  cells_above (a ∷ below) s u =
-      let g = running_slot x core r p k (a ∷ below) s u in
-      omega (arith, g.mark, g.top, mark-size k a.head below)
+  cells_above stack s u = grind arith
 
   -- the mark before, by the distance in the mark at F
   pub mark_before : (stack : List Activation) → Represents x core r p → RunsOn p k stack → activations_below stack ≢ []
       → (r.f - 1 ≡ r.bosr + stack_words (activations_below stack)) × (r.f - (top_mark k stack).back ≡ r.bosr + mark_place (activations_below stack)) × ((top_mark k stack).back ≤ r.f)
-  mark_before [] s u n = absurd (n refl)
-  mark_before (a ∷ []) s u n = absurd (n refl)
-  mark_before (a ∷ b ∷ below) s u n =
-      let g = running_slot x core r p k (a ∷ b ∷ below) s u in
-      let e = back a.head in
-      (omega (arith, g.mark, g.first), omega (arith, g.mark, g.first, e), omega (arith, g.mark, g.first, e)) where
-        back : (h : Head) → (mark_of k h (b ∷ below)).back ≡ size b
-        back Marked = refl
-        back (Entered level environment r) = refl
+  mark_before stack s u n = grind arith
 
   -- the level of the record that runs without the top one: that of the return word, if there is one
   pub level_under : (stack : List Activation) → Represents x core r p → RunsOn p k stack
@@ -103,9 +84,7 @@ module _ (x : Storage) (core : List Tagged) (r : Regs) (p : MachineView) (k : �
   -- the top activation record has no cell exactly where S is at its last head word
   pub empty_at : (stack : List Activation) (m : Mscw) (n : ℕ) → Represents x core r p → RunsOn p k stack → m ≡ top_mark k stack → n ≡ flag_bit m.entered
       → (r.s ≡ r.f + n → top_cells stack ≡ []) × (top_cells stack ≡ [] → r.s ≡ r.f + n)
-  empty_at stack m n s u em en =
-      let h : r.s ≡ r.f + n + length (top_cells stack) = cells_above stack s u ∙ ap (λ (i : ℕ). r.f + i + length (top_cells stack)) (sym (en ∙ ap (λ (w : Mscw). flag_bit w.entered) em)) in
-      (λ e. no_items (top_cells stack) (omega (arith, e, h)), λ e. omega (arith, h, ap length e))
+  empty_at stack m n s u em en = grind (arith, no_items)
 
 -- the registers of a stack, by their numbers
 pub topped_by : (cpu : Cpu) (stack : List Activation) (t f l : ℕ) → t ≡ cpu.regs.bosr + stack_words stack → f ≡ cpu.regs.bosr + mark_place stack → l ≡ stack_level stack
@@ -113,8 +92,4 @@ pub topped_by : (cpu : Cpu) (stack : List Activation) (t f l : ℕ) → t ≡ cp
 topped_by cpu stack t f l a b e = rw (a, b, e) refl
 
 pub mark_high : (stack : List Activation) → mark_place stack ≤ stack_words stack
-mark_high [] = omega arith
-mark_high (a ∷ below) = head a.head where
-  head : (h : Head) → stack_words below + 1 ≤ stack_words (record { head = h; cells = a.cells } ∷ below)
-  head Marked = omega arith
-  head (Entered level environment back) = omega arith
+mark_high stack = grind arith

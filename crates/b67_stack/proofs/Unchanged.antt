@@ -33,18 +33,10 @@ module _ (x : Storage) (core : List Tagged) (r : Regs) (p : MachineView) (s : Re
 
   -- a slot's words lie between the dictionaries and the areas
   pub slot_high : (k : ℕ) (y : Slot) → SlotFits p k y → (stack_of y ≡ []) ⊎ (stack_words (stack_of y) < p.size)
-  slot_high k Free f = inl refl
-  slot_high k (Running stack) f = inr f.0.fits
-  slot_high k (Waiting stack) f = inr f.0.fits
+  slot_high k y f = grind arith
 
   pub slot_below : (k : ℕ) → k < p.peak → (160 ≤ slot_base p k) × ((i : ℕ) → slot_base p k < i → i < suc (slot_base p k) + length (words k (stack_of (p.slots k))) → i < x.low)
-  slot_below k h = (
-    omega (arith, s.slots.laid.first),
-    λ i low up. ⊎_elim
-        (λ e. absurd (omega (arith, ap (λ (q : List Activation). length (words k q)) e)))
-        (λ (g : stack_words (stack_of (p.slots k)) < p.size). omega (arith, words-length k (stack_of (p.slots k)), base-apart p k p.peak h, s.slots.laid.low))
-        (slot_high k (p.slots k) (s.slots.laid.slots k h)),
-  )
+  slot_below k h = grind (arith, words-length, base-apart)
 
   low_word : (ss : List Span) → Laid core 152 0 x.low ss → end x.low ss ≡ length core → slice_get core x.low ≢ Some (word 0 0)
   low_word [] l e z = absurd (omega (arith, slice_get_within core x.low (word 0 0) z))
@@ -52,12 +44,7 @@ module _ (x : Storage) (core : List Tagged) (r : Regs) (p : MachineView) (s : Re
   low_word (Hole n ∷ ss) l e z = let t : ◌≡◌ {A = ℕ} 3 0 = ap (λ (w : Tagged). w.tag) (same_Some _ _ (sym (pending core x.low (hole_high n) (x.low + n) ss l.1) ∙ z)) in absurd (omega arith)
 
   base_not_low : (k : ℕ) (y : Slot) → RepresentsSlot core r p k y → SlotFits p k y → slot_base p k + p.size ≤ x.low → slot_base p k < x.low
-  base_not_low k Free t f up = ⊎_elim
-      (λ (e : slot_base p k ≡ x.low). absurd (low_word x.spans s.directory.laid s.directory.all (ap (slice_get core) (sym e) ∙ t.1)))
-      (λ (n : slot_base p k ≡ x.low → ⊥). omega arith)
-      (cases_eq (slot_base p k) x.low)
-  base_not_low k (Running stack) t f up = omega (arith, f.0.fits)
-  base_not_low k (Waiting stack) t f up = omega (arith, f.0.fits)
+  base_not_low k y t f up = grind (arith, low_word)
 
   -- a slot's base word lies below the areas
   pub base_low : (k : ℕ) → k < p.peak → slot_base p k < x.low

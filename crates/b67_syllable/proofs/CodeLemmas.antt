@@ -25,31 +25,22 @@ weight (suc k) =
 
 -- eight bits of the word in which a syllable stands
 pub syllable_is : (code : List Tagged) (n : ℕ) (w : Tagged) → n < 6 * length code → w ≡ get_or code (n / 6) w → bits_at w (8 * (5 - n % 6)) 8 ≡ syllable (contents code) n
-syllable_is code n w within is =
-    let inside : n / 6 < length code = omega arith in
-    let bits : get_or (contents code) (n / 6) 0 ≡ w.bits = get_or-map (λ (v : Tagged). v.bits) code (n / 6) w 0 inside ∙ ap (λ (v : Tagged). v.bits) (sym is) in
-    rw (bits, weight (5 - n % 6)) refl
+syllable_is code n w within is = grind (arith, get_or-map, weight)
 
 -- the same by the place
 pub first_is : (code : List Tagged) (at : Place) (w : Tagged) → at.syllable < 6 → at.word < length code → w ≡ get_or code at.word w → bits_at w (8 * (5 - at.syllable)) 8 ≡ syllable (contents code) (count_at at)
 first_is code at w in_word inside is =
     let word : (6 * at.word + at.syllable) / 6 ≡ at.word = omega arith in
-    let rest : (6 * at.word + at.syllable) % 6 ≡ at.syllable = omega arith in
-    let bits : get_or (contents code) at.word 0 ≡ w.bits = get_or-map (λ (v : Tagged). v.bits) code at.word w 0 inside ∙ ap (λ (v : Tagged). v.bits) (sym is) in
-    rw (word, rest, bits, weight (5 - at.syllable)) refl
+    grind (arith, get_or-map, weight)
 
 -- the word after that in which a place is
 pub next_is : (code : List Tagged) (at : Place) (w : Tagged) → at.syllable < 6 → at.word + 1 < length code → w ≡ get_or code (at.word + 1) w → w.bits ≡ slice_index (contents code) (count_at at / 6 + 1)
 next_is code at w in_word inside is =
     let word : (6 * at.word + at.syllable) / 6 + 1 ≡ at.word + 1 = omega arith in
-    let bits : get_or (contents code) (at.word + 1) 0 ≡ w.bits = get_or-map (λ (v : Tagged). v.bits) code (at.word + 1) w 0 inside ∙ ap (λ (v : Tagged). v.bits) (sym is) in
-    rw word (sym bits)
+    grind (arith, get_or-map)
 
 reads_is : (code : List ℕ) (n : ℕ) (f : Form) → reads code n (Some f) ≡ ends_at code (end_of n f) (operator_of code n f)
-reads_is code n (Alone op) = refl
-reads_is code n (OneMore op) = refl
-reads_is code n (TwoMore op) = refl
-reads_is code n (Literal op) = refl
+reads_is code n f = grind arith
 
 inside_is : (code : List Tagged) (at : Place) → at.syllable < 6 → at.word < length code → operator_at (contents code) at ≡ reads (contents code) (count_at at) (form_of (syllable (contents code) (count_at at)))
 inside_is code at in_word word =
@@ -71,19 +62,13 @@ pub begins : (code : List Tagged) (at : Place) (n : ℕ) (kind : Kind) → at.sy
 begins code at n kind in_word word is first = record { in_word = in_word; inside = omega arith; count = is; first = _; first_is = refl; form_is = rw is first }
 
 found : (code : List Tagged) (at : Place) (n : ℕ) (kind : Kind) → Begins code at n kind → operator_at (contents code) at ≡ ends_at (contents code) (end_of n (form kind)) (operator_of (contents code) n (form kind))
-found code at n kind b =
-    let counted : operator_at (contents code) at ≡ reads (contents code) n (form_of (syllable (contents code) n)) = rw (b.count) (inside_is code at b.in_word (omega arith)) in
-    counted ∙ ap (reads (contents code) n) (sym (ap form_of b.first_is) ∙ b.form_is) ∙ reads_is (contents code) n (form kind)
+found code at n kind b = grind (arith, inside_is)
 
 before_last : (op : Op) (end : ℕ) → end < 6 * 2 ^ 16 → within_word (Ok (op, place_at end)) ≡ Ok (op, place_at end)
-before_last op end below =
-    let test : nat_lt (end / 6) (2 ^ 16) ≡ true = grind (arith, nat_tests) in
-    rw test refl
+before_last op end below = grind arith
 
 behind_last : (op : Op) (end : ℕ) → 6 * 2 ^ 16 ≤ end → within_word (Ok (op, place_at end)) ≡ Err PastEnd
-behind_last op end above =
-    let test : nat_lt (end / 6) (2 ^ 16) ≡ false = grind (arith, nat_tests) in
-    rw test refl
+behind_last op end above = grind arith
 
 pub ends : (code : List Tagged) (at : Place) (n : ℕ) (kind : Kind) → Begins code at n kind → (end : ℕ) (op : Op) (place : Place) →
     end ≡ end_of n (form kind) → op ≡ operator_of (contents code) n (form kind) → place ≡ place_at end → end ≤ 6 * length code → end < 6 * 2 ^ 16 →
@@ -104,11 +89,7 @@ near_ends code at kind b op place op_is place_is small within =
 
 -- how many syllables lie before the place after an operator
 pub near_count : (at : Place) (kind : Kind) (place : Place) → place ≡ place_at (end_of (count_at at) (form kind)) → count_at place ≡ end_of (count_at at) (form kind)
-near_count at kind place place_is =
-    let end = end_of (count_at at) (form kind) in
-    let word : place.word ≡ end / 6 = ap (λ (p : Place). p.word) place_is in
-    let syllable : place.syllable ≡ end % 6 = ap (λ (p : Place). p.syllable) place_is in
-    omega (arith, word, syllable)
+near_count at kind place place_is = grind arith
 
 pub past_end : (code : List Tagged) (at : Place) (n : ℕ) (kind : Kind) → Begins code at n kind → (end : ℕ) →
     end ≡ end_of n (form kind) → 6 * length code < end →
@@ -143,25 +124,13 @@ alone code at operator first place in_word inside small first_is form_is place_i
 
 -- a segment's code, where each place has a number
 ends_placed : (code : List ℕ) (end : ℕ) (op : Op) → length code < 2 ^ 16 → within_word (ends_at code end op) ≡ ends_at code end op
-ends_placed code end op small = by_test (nat_le end (6 * length code)) refl
-  where
-    by_test : (b : Bool) → nat_le end (6 * length code) ≡ b → within_word (ends_at code end op) ≡ ends_at code end op
-    by_test true e = let within : end ≤ 6 * length code = grind (arith, nat_tests) in rw e (before_last op end (omega arith))
-    by_test false e = rw e refl
+ends_placed code end op small = grind arith
 
 reads_placed : (code : List ℕ) (n : ℕ) (f : Option Form) → length code < 2 ^ 16 → within_word (reads code n f) ≡ reads code n f
-reads_placed code n None small = refl
-reads_placed code n (Some (Alone op)) small = ends_placed code (n + 1) (Plain op) small
-reads_placed code n (Some (OneMore op)) small = ends_placed code (n + 2) (op (syllable code (n + 1))) small
-reads_placed code n (Some (TwoMore op)) small = ends_placed code (n + 3) (op (syllable code (n + 1)) (syllable code (n + 2))) small
-reads_placed code n (Some (Literal op)) small = ends_placed code (6 * (n / 6 + 2)) (op (slice_index code (n / 6 + 1))) small
+reads_placed code n f small = grind arith
 
 at_placed : (code : List ℕ) (at : Place) → length code < 2 ^ 16 → within_word (operator_at code at) ≡ operator_at code at
-at_placed code at small = by_test (nat_lt at.syllable 6 && nat_lt at.word (length code)) refl
-  where
-    by_test : (b : Bool) → nat_lt at.syllable 6 && nat_lt at.word (length code) ≡ b → within_word (operator_at code at) ≡ operator_at code at
-    by_test true e = rw e (reads_placed code (count_at at) (form_of (syllable code (count_at at))) small)
-    by_test false e = rw e refl
+at_placed code at small = grind (arith, reads_placed)
 
 pub in_segment : (code : List Tagged) (at : Place) (r : Reading) → r ≡ within_word (operator_at (contents code) at) → length code < 2 ^ 16 → r ≡ operator_at (contents code) at
 in_segment code at r is small = is ∙ at_placed (contents code) at (rw (length-map code (λ (v : Tagged). v.bits)) small)

@@ -18,13 +18,10 @@ begins code at first f in_word inside is of =
     let within : at.word < length code = omega arith in
     let two : nat_lt at.word (length code) ≡ true = grind (arith, nat_tests) in
     let same : count_at at ≡ count_at at + 0 = omega arith in
-    let here : syllable code (count_at at) ≡ first = ap (syllable code) same ∙ is in
-    rw (one, two) (ap (λ s. reads code (count_at at) (form_of s)) here ∙ ap (reads code (count_at at)) of)
+    grind arith
 
 ends : (code : List ℕ) (end : ℕ) (op : Op) → end ≤ 6 * length code → ends_at code end op ≡ Ok (op, place_at end)
-ends code end op within =
-    let test : nat_le end (6 * length code) ≡ true = grind (arith, nat_tests) in
-    rw test refl
+ends code end op within = grind arith
 
 alone : (code : List ℕ) (at : Place) (first : ℕ) (op : Code) → form_of first ≡ Some (Alone op) → at.syllable < 6 → IsLaid (first ∷ []) None code (count_at at) → operator_at code at ≡ Ok (Plain op, place_at (count_at at + 1))
 alone code at first op of in_word laid =

@@ -5,7 +5,7 @@ use Rattle.std.specs.List.{list_any}
 use Rattle.std.proofs.lemmas.Bool.{cases_Bool, cases_eq, eq-eqb, ne_eqb, eqb-true, true≢false}
 use Rattle.b67_lemmas.specs.Lists.{Has}
 use Rattle.b67_lemmas.proofs.Members.{any_has, any_some, has_map, has_map_back, total_has}
-use Rattle.b67_model.specs.Common.{Standing, Marked, Entered, Frame, Task, SessionJob, head_words, height, is_critical, Session, IsSegment, TasksInOrder, identities, frames_named}
+use Rattle.b67_model.specs.Common.{Standing, Frame, Task, SessionJob, head_words, height, is_critical, Session, IsSegment, TasksInOrder, identities, frames_named}
 use Rattle.b67_law_order.proofs.Looks.{above_one}
 use Rattle.b67_stack.specs.Stacks.{StackPlace}
 use Rattle.b67_stack.specs.Represents.{Storage}
@@ -24,8 +24,7 @@ use Rattle.b67_task.specs.Marks.{MarkStandsAt, IsMarkAt, depends_on}
 -- ---- marks of frames
 
 some_words : (s : Standing) → 1 ≤ head_words s
-some_words Marked = omega arith
-some_words (Entered level environment back) = omega arith
+some_words s = grind arith
 
 mark_low : (fs : List Frame) (f : Frame) (mark : ℕ) → MarkStandsAt fs f mark → mark < height fs
 mark_low [] f mark h = absurd h
@@ -53,13 +52,7 @@ record Found (fs : List Frame) (identity mark : ℕ) : Type 0 where
 
 found : (k : ℕ) (outer : ℕ → StackPlace) (fs : List Frame) (c : ℕ) → Has (identities fs) c → Found fs c (spot_in k outer fs c).disp
 found k outer [] c i = absurd i
-found k outer (f ∷ below) c i = elim (cases_eq f.identity c) [
-  | inl e ↦ rw (eq-eqb f.identity c e) (record { frame = f; is = e; there = inl (refl, refl) })
-  | inr ne ↦
-      (let there : Has (identities below) c = ⊎_elim (λ (e : f.identity ≡ c). absurd (ne e)) (λ z. z) i in
-      let r = found k outer below c there in
-      rw (ne_eqb f.identity c ne) (record { frame = r.frame; is = r.is; there = inr r.there }))
-]
+found k outer (f ∷ below) c i = grind (arith, found k outer below c)
 
 -- no identity is twice among the frames, so a frame is found at its mark
 own_mark : (k : ℕ) (outer : ℕ → StackPlace) (fs : List Frame) (f : Frame) (mark : ℕ) → MarkStandsAt fs f mark → frames_named f.identity fs ≤ 1 → (spot_in k outer fs f.identity).disp ≡ mark
@@ -83,8 +76,7 @@ own_mark k outer (g ∷ below) f mark h once = elim (cases_eq g.identity f.ident
 ]
 
 both_and : (a b : Bool) → (a && b) ≡ true → (a ≡ true) × (b ≡ true)
-both_and true b e = (refl, e)
-both_and false b e = absurd (true≢false (sym e))
+both_and a b e = grind arith
 
 -- ---- rows
 
@@ -130,8 +122,7 @@ module _ (x : Storage) (told : Option (List (List ℕ))) (k : Machine) (plan : P
       let one = one_slot plan s o.numbered h.session.holds.fits.rows h.session.holds.fits.few good rs (map job_row k.tasks.jobs) (counts_of k.tasks) h.tables n m u t b.member a.member b.live a.live (sym b.stack ∙ a.stack) in
       let live : Has m.progress.job.tasks u = subst (λ (z : SessionJob). Has z.progress.job.tasks u) one.0 b.live in
       let same : u ≡ t = one_task plan s o.numbered h.session.holds.fits.rows h.session.holds.fits.few good rs (map job_row k.tasks.jobs) (counts_of k.tasks) h.tables m a.member u t live a.live one.1 in
-      let frames : g ≡ f = one_mark t.frames g f mark (subst (λ (v : Task). MarkStandsAt v.frames g mark) same b.stands) a.stands in
-      ap (λ (z : SessionJob). is_critical z.progress.job g.identity) one.0 ∙ ap (λ (z : Frame). is_critical m.progress.job z.identity) frames
+      grind (arith, one_mark)
 
   -- a row shows who depends on a frame
   shown : (m : SessionJob) (t : Task) (f : Frame) (slot mark : ℕ) → IsMarkAt plan s m t f slot mark → is_critical m.progress.job f.identity ≡ true → list_any (depends_on slot mark) rs ≡ true

@@ -1,14 +1,14 @@
 -- A job's live tasks by their rows.
-use Rattle.std.proofs.Common.{◌≡◌, ◌≢◌, ℕ, ◌+◌, ◌-◌, ◌<◌, ◌≤◌, List, map, length, get_or, Option, Some, None, Bool, true, false, refl, sym, ◌∙◌, ap, arith, inl, inr, subst, ◌==◌, find}
-use Rattle.std.specs.Prelude.{ℤ, pos, negsuc, if◌then◌else◌}
+use Rattle.std.proofs.Common.{◌≡◌, ◌≢◌, ℕ, ◌+◌, ◌-◌, ◌<◌, ◌≤◌, List, length, get_or, Option, Some, None, Bool, true, false, refl, sym, ◌∙◌, ap, arith, subst, ◌==◌, find}
+use Rattle.std.specs.Prelude.{ℤ, pos, if◌then◌else◌}
 use Rattle.std.specs.List.{slice_get}
-use Rattle.std.proofs.lemmas.Bool.{cases_Bool, cases_lt, eq-eqb, eqb-true, ne_eqb}
+use Rattle.std.proofs.lemmas.Bool.{eq-eqb}
 use Rattle.std.proofs.lemmas.Option.{same_Some, slice_get-get_or, slice_get_within}
 use Rattle.b67_lemmas.specs.Lists.{Has}
 use Rattle.b67_lemmas.proofs.Members.{any_has, any_some, find_none, has_get, has_map}
 use Rattle.b67_lemmas.proofs.Places.{has_at, mapped_at}
 use Rattle.b67_law_order.proofs.Numbered.{keyed_member, numbered_low}
-use Rattle.b67_model.specs.Common.{is_live, names_task, status_in, status_of, number_of, Session, Condition, Ready, Awaits, WaitsAt, Task, Job, SessionJob}
+use Rattle.b67_model.specs.Common.{is_live, names_task, status_in, status_of, number_of, Session, Condition, Task, Job, SessionJob}
 use Rattle.b67_model.specs.Keyed.{keyed}
 use Rattle.b67_layout.specs.Common.{Placement, TaskShows, shown}
 use Rattle.b67_layout.specs.Rows as rows
@@ -17,7 +17,7 @@ use Rattle.b67_task_tables.specs.declared.tables.JobRow.{JobRow}
 use Rattle.b67_task_tables.specs.declared.tables.TaskRow.{TaskRow}
 use Rattle.b67_task_tables.specs.declared.tables.TaskState.{TaskState}
 use Rattle.b67_task_tables.specs.declared.tables.Tasks.{Tasks}
-use Rattle.b67_task_tables.specs.Tables.{job_row, state_of, task_row}
+use Rattle.b67_task_tables.specs.Tables.{state_of, task_row}
 use Rattle.b67_task_end.specs.Lives.{FoundState, HasJob, IsTaskIn, StateIs, status_shown, was_before}
 use Rattle.b67_task_end.proofs.Depths.{row_of}
 
@@ -29,21 +29,13 @@ abbrev pub NoneBefore : List TaskRow → ℕ → ℕ → ℤ → Type 0
 NoneBefore rs at job number = (i : ℕ) (q : TaskRow) → i < at → slice_get rs i ≡ Some q → q.job ≡ job → pos q.number ≢ number
 
 pub none_more : (rs : List TaskRow) (at : ℕ) (d : TaskRow) (job : ℕ) (number : ℤ) → at < length rs → NoneBefore rs at job number → (((get_or rs at d).job ≡ job) × (pos (get_or rs at d).number ≡ number) → ⊥) → NoneBefore rs (at + 1) job number
-none_more rs at d job number low none here i q up there ej en = elim (cases_lt i at) [
-  | inl less ↦ none i q less there ej en
-  | inr more ↦
-      (let same : i ≡ at = omega (arith, more, up) in
-      let is : get_or rs at d ≡ q = same_Some (get_or rs at d) q (sym (slice_get-get_or rs at d low) ∙ ap (slice_get rs) (sym same) ∙ there) in
-      here (ap (λ (z : TaskRow). z.job) is ∙ ej, ap (λ (z : TaskRow). pos z.number) is ∙ en))
-]
+none_more rs at d job number low none here i q up there ej en = grind (arith, slice_get-get_or)
 
 pub none_found : (rs : List TaskRow) (at job : ℕ) (number : ℤ) → length rs ≤ at → NoneBefore rs at job number → FoundState rs job number None
 none_found rs at job number past none q i ej en = let (k, there) = has_at rs q i in none k q (omega (arith, past, slice_get_within rs k q there)) there ej en
 
 shown_told : (plan : Placement) (j : ℕ) (job : Job) (t : Task) (c : Condition) → status_shown (shown plan j job t c) ≡ status_in c
-shown_told plan j job t Ready = refl
-shown_told plan j job t (Awaits n) = refl
-shown_told plan j job t (WaitsAt f offset) = refl
+shown_told plan j job t c = grind arith
 
 status_found : (job : Job) (n : ℕ) (t : Task) → find (λ (u : Task). u.number == n) job.tasks ≡ Some t → status_of job (pos n) ≡ status_in t.condition
 status_found job n t e = rw (e, status_of) refl
@@ -54,28 +46,16 @@ module _ (plan : Placement) (s : Session) (m : SessionJob) (tasks : Tasks) (job 
       let (y, t, in_y, in_t, shows) = h.holds.shows.tasks (task_row row) (has_map task_row tasks.rows.items row i) in
       let same_number : y.constants.number ≡ m.constants.number = sym shows.job ∙ e ∙ sym h.number in
       let same : y ≡ m = same_Some y m (sym (keyed_member 1 s.jobs y h.holds.ordered.numbered in_y) ∙ ap (λ (n : ℕ). keyed number_of n s.jobs) same_number ∙ keyed_member 1 s.jobs m h.holds.ordered.numbered h.member) in
-      let P : SessionJob → Type 0 = λ z. Has z.progress.job.tasks t × TaskShows plan z t (task_row row) in
-      let q = subst P same (in_t, shows) in
-      (t, q.0, q.1)
+      grind arith
 
   pub state_is : (number : ℤ) (lent : List TaskRow) → lent ≡ tasks.rows.items → (r : Option TaskState) → FoundState lent job number r → StateIs plan m number r
-  state_is number lent same (Some state) (q, i, ej, en, es) =
-      let (t, in_t, shows) = row_owner q (subst (λ (l : List TaskRow). Has l q) same i) ej in
-      record { task = t; live = in_t; number_is = ap pos (sym shows.number) ∙ en; state_is = ap state_of (sym es) ∙ shows.state }
+  state_is number lent same (Some state) (q, i, ej, en, es) = grind (arith, row_owner)
   state_is number lent same None none = λ t i e.
       (let (q, in_q, shows) = row_of plan s tasks h.holds m h.member t i in
       none q (subst (λ (l : List TaskRow). Has l q) (sym same) in_q) (shows.job ∙ h.number) (ap pos shows.number ∙ e))
 
   pub next_at : (r : JobRow) × (slice_get tasks.jobs (job - 1) ≡ Some r) × (r.next_task ≡ m.progress.job.next_task) × (1 ≤ job)
-  next_at =
-      let b = job_at plan 1 s.jobs (map job_row tasks.jobs) m h.holds.ordered.numbered h.holds.shows.jobs h.member in
-      let (row, at, is) = mapped_at job_row tasks.jobs (m.constants.number - 1) b.row b.at in
-      let low = numbered_low 1 s.jobs m h.holds.ordered.numbered h.member in (
-        row,
-        ap (λ (n : ℕ). slice_get tasks.jobs (n - 1)) (sym h.number) ∙ at,
-        ap (λ (z : rows.JobRow). z.next_task) is ∙ b.shows.next_task,
-        omega (arith, low, h.number),
-      )
+  next_at = grind (arith, job_at, mapped_at, numbered_low)
 
   -- what a live task's state tells
   pub told_is : (number : ℤ) (state : TaskState) → IsTaskIn plan m number state → status_shown (state_of state) ≡ status_of m.progress.job number
@@ -91,20 +71,13 @@ module _ (plan : Placement) (s : Session) (m : SessionJob) (tasks : Tasks) (job 
 
 -- a number that no live task has
 names_same : (number : ℤ) (n : ℕ) → names_task number n ≡ true → pos n ≡ number
-names_same (pos k) n e = ap pos (sym (eqb-true k n e))
-names_same (negsuc k) n e = (let z : false ≡ true = e in let w : ⊥ = cc in absurd w)
+names_same number n e = grind arith
 
 pub none_live : (job : Job) (number : ℤ) → ((t : Task) → Has job.tasks t → pos t.number ≢ number) → false ≡ is_live job number
-none_live job number none = elim (cases_Bool (is_live job number)) [
-  | inl e ↦ (let (t, i, is) = any_has (λ (u : Task). names_task number u.number) job.tasks e in absurd (none t i (names_same number t.number is)))
-  | inr e ↦ sym e
-]
+none_live job number none = grind (arith, any_has)
 
 pub none_status : (job : Job) (number : ℤ) → ((t : Task) → Has job.tasks t → pos t.number ≢ number) → status_of job number ≡ (if was_before number job.next_task then 3 else 0)
-none_status job (negsuc n) none = refl
-none_status job (pos n) none =
-    let gone : find (λ (t : Task). t.number == n) job.tasks ≡ None = find_none (λ (t : Task). t.number == n) job.tasks (λ t i. ne_eqb t.number n (λ e. none t i (ap pos e))) in
-    rw (gone, status_of) refl
+none_status job number none = grind (arith, find_none)
 
 pub ended_is : (job : Job) (number z : ℤ) → z ≡ number → ((t : Task) → Has job.tasks t → pos t.number ≢ z) → (next : ℕ) → next ≡ job.next_task → (b : Bool) → b ≡ was_before z next → (if b then 3 else 0) ≡ status_of job number
 ended_is job number z same none next en b eb = ap (λ (x : Bool). if x then 3 else 0) (eb ∙ ap (was_before z) en) ∙ sym (none_status job z none) ∙ ap (status_of job) same

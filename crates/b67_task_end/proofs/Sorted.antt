@@ -1,42 +1,23 @@
 -- Sorted lists of tasks: there is one with given members, and an item has one place in it.
 use Rattle.std.proofs.Common.{◌≡◌, ◌≢◌, ℕ, zero, suc, ◌<◌, ◌≤◌, List, [], ◌∷◌, ◌++◌, take, drop, Some, refl, sym, ◌∙◌, ap, arith, inl, inr, ⊎_elim, subst}
 use Rattle.std.specs.List.{slice_get}
-use Rattle.std.proofs.lemmas.Bool.{cases_eq, cases_lt}
 use Rattle.b67_lemmas.specs.Lists.{Has}
 use Rattle.b67_lemmas.proofs.Members.{has_append_cases}
 use Rattle.b67_task_end.specs.declared.families.Deep.{Deep}
 use Rattle.b67_task_end.specs.Family.{EndsBefore, AreSorted}
 
 pub before_both : (a b : Deep) → EndsBefore a b → EndsBefore b a → ⊥
-before_both a b (inl l) (inl r) = omega (arith, l, r)
-before_both a b (inl l) (inr r) = omega (arith, l, r.0)
-before_both a b (inr l) (inl r) = omega (arith, l.0, r)
-before_both a b (inr l) (inr r) = omega (arith, l.1, r.1)
+before_both a b h e = grind arith
 
 pub before_then : (a b c : Deep) → EndsBefore a b → EndsBefore b c → EndsBefore a c
-before_then a b c (inl l) (inl r) = inl (omega (arith, l, r))
-before_then a b c (inl l) (inr r) = inl (omega (arith, l, r.0))
-before_then a b c (inr l) (inl r) = inl (omega (arith, l.0, r))
-before_then a b c (inr l) (inr r) = inr (omega (arith, l.0, r.0), omega (arith, l.1, r.1))
+before_then a b c h e = grind arith
 
 same_deep : (a b : Deep) → a.number ≡ b.number → a.depth ≡ b.depth → a ≡ b
 same_deep a b n d = ap (λ (k : ℕ). record a { number = k }) n ∙ ap (λ (k : ℕ). record b { depth = k }) d
 
 -- of two that aren't the same one comes first
 pub before_or : (a b : Deep) → (EndsBefore a b → ⊥) → a ≢ b → EndsBefore b a
-before_or a b later ne = elim (cases_lt a.depth b.depth) [
-  | inl low ↦ inl low
-  | inr high ↦ elim (cases_lt b.depth a.depth) [
-    | inl low ↦ absurd (later (inl low))
-    | inr same ↦ elim (cases_lt b.number a.number) [
-      | inl low ↦ inr (omega (arith, high, same), low)
-      | inr more ↦ elim (cases_eq a.number b.number) [
-        | inl e ↦ absurd (ne (same_deep a b e (omega (arith, high, same))))
-        | inr n ↦ absurd (later (inr (omega (arith, high, same), omega (arith, more, n))))
-      ]
-    ]
-  ]
-]
+before_or a b later ne = grind arith
 
 pub before_self : (a : Deep) → EndsBefore a a → ⊥
 before_self a b = before_both a a b b

@@ -2,7 +2,7 @@
 use Rattle.std.proofs.Common.{◌≡◌, ◌≢◌, ℕ, zero, suc, ◌+◌, ◌-◌, ◌<◌, ◌≤◌, List, [], ◌∷◌, ◌++◌, map, length, take, drop, reverse, Some, refl, sym, ◌∙◌, ap, arith, inl, inr, ⊎_elim, subst, Bool, true, ◌==◌}
 use Rattle.std.specs.Prelude.{filter}
 use Rattle.std.specs.List.{slice_get}
-use Rattle.std.proofs.lemmas.Bool.{cases_eq, cases_lt, eq-eqb, eqb-true}
+use Rattle.std.proofs.lemmas.Bool.{cases_lt, eq-eqb, eqb-true}
 use Rattle.std.proofs.lemmas.List.{map-append, length-map, take-append-drop}
 use Rattle.std.proofs.lemmas.Option.{same_Some, none-some}
 use Rattle.std.proofs.lemmas.Simd.{map-map}
@@ -41,20 +41,14 @@ deepest_numbers (suc n) ts = map-append number (level n ts) (deepest n ts) ∙ a
 
 pub deepest_has : (n : ℕ) (ts : List Task) (t : Task) → Has ts t → length t.parents < n → Has (deepest n ts) t
 deepest_has zero ts t i low = absurd (omega (arith, low))
-deepest_has (suc n) ts t i low = elim (cases_eq (length t.parents) n) [
-  | inl e ↦ has_append_left (level n ts) (deepest n ts) t (has_filter_in (λ (u : Task). length u.parents == n) (reverse ts) t (has_reverse ts t i) (eq-eqb (length t.parents) n e))
-  | inr ne ↦ has_append_right (level n ts) (deepest n ts) t (deepest_has n ts t i (omega (arith, low, ne)))
-]
+deepest_has (suc n) ts t i low = grind (arith, has_append_left, has_filter_in, has_reverse, has_append_right, deepest_has n ts t i)
 
 level_back : (n : ℕ) (ts : List Task) (t : Task) → Has (level n ts) t → Has ts t × (length t.parents ≡ n)
 level_back n ts t i = let k = has_filter (λ (u : Task). length u.parents == n) (reverse ts) t i in (has_reverse_back ts t k.0, eqb-true (length t.parents) n k.1)
 
 pub deepest_back : (n : ℕ) (ts : List Task) (t : Task) → Has (deepest n ts) t → Has ts t × (length t.parents < n)
 deepest_back zero ts t i = absurd i
-deepest_back (suc n) ts t i = ⊎_elim
-    (λ (l : Has (level n ts) t). let k = level_back n ts t l in (k.0, omega (arith, k.1)))
-    (λ (r : Has (deepest n ts) t). let k = deepest_back n ts t r in (k.0, omega (arith, k.1)))
-    (has_append_cases (level n ts) (deepest n ts) t i)
+deepest_back (suc n) ts t i = grind (arith, level_back, has_append_cases, deepest_back n ts t)
 
 -- numbers that rise
 abbrev Rises : List Task → Type 0
@@ -79,10 +73,7 @@ rises_reverse bound (t ∷ ts) f =
 
 rises_filter : (p : Task → Bool) (ts : List Task) → Rises ts → Rises (filter p ts)
 rises_filter p [] r = tt
-rises_filter p (t ∷ ts) r = elim (Rattle.std.proofs.lemmas.Bool.cases_Bool (p t)) [
-  | inl e ↦ rw e (λ u i. r.0 u (has_filter p ts u i).0, rises_filter p ts r.1)
-  | inr e ↦ rw e (rises_filter p ts r.1)
-]
+rises_filter p (t ∷ ts) r = grind (arith, has_filter, rises_filter p ts r.1)
 
 level_sorted : (over d : ℕ) (ts : List Task) → Rises ts → ((t : Task) → Has ts t → length t.parents ≡ d) → AreSorted (map (deep_of over) ts)
 level_sorted over d [] r same = tt
@@ -206,15 +197,7 @@ module _ (plan : Placement) (s : Session) (tasks : Tasks) (h : TablesHold plan s
   module _ (head over : ℕ) (below : Task → Bool) (o : HeadOf plan m head over below) where
     -- an item is that of its task
     item_is : (upto : ℕ) (list : List Deep) → AreUnder plan s m head tasks.rows.items upto list → (d : Deep) → Has list d → (t : Task) × Has m.progress.job.tasks t × (below t ≡ true) × (deep_of over t ≡ d) × (over ≤ length t.parents)
-    item_is upto list u d i =
-        let (k, t, low, row, n, under) = u.each d i in
-        let p = o.depth t d.depth row.task under in (
-          t,
-          row.task,
-          p.0,
-          ap (λ (z : ℕ). record { number = z; depth = length t.parents - over }) (sym n) ∙ ap (λ (z : ℕ). record { number = d.number; depth = z }) (let e : length t.parents - over ≡ d.depth = omega (arith, p.1) in e),
-          omega (arith, p.1),
-        )
+    item_is upto list u d i = grind arith
 
     numbers_differ : (list : List Deep) → AreSorted list → ((d : Deep) → Has list d → (t : Task) × Has m.progress.job.tasks t × (deep_of over t ≡ d)) → Differ (map (λ (d : Deep). d.number) list)
     numbers_differ [] s each = tt

@@ -1,7 +1,7 @@
 -- The machine represents the session without the tasks that died.
-use Rattle.std.proofs.Common.{◌≡◌, ◌≢◌, ℕ, ◌+◌, ◌*◌, ◌^◌, ◌<◌, ◌≤◌, List, [], ◌∷◌, length, Some, refl, sym, ◌∙◌, ap, arith, true, false, ◌==◌, inl, inr, ◌⊎◌, ⊎_elim, subst}
+use Rattle.std.proofs.Common.{◌≡◌, ◌≢◌, ℕ, ◌+◌, ◌*◌, ◌^◌, ◌<◌, ◌≤◌, List, [], ◌∷◌, length, Some, refl, sym, ◌∙◌, ap, arith, ◌==◌, inl, inr, ◌⊎◌, ⊎_elim, subst}
 use Rattle.std.specs.List.{slice_get}
-use Rattle.std.proofs.lemmas.Bool.{cases_eq, cases_Bool}
+use Rattle.std.proofs.lemmas.Bool.{cases_eq}
 use Rattle.std.proofs.lemmas.Option.{same_Some}
 use Rattle.b67_word.specs.Tagged.{Tagged, word}
 use Rattle.b67_ctl.specs.declared.registers.Regs.{Regs}
@@ -24,10 +24,7 @@ follow plan rows running at (m ∷ rest) d = (d.0, follow plan rows running (at 
 
 follow_course : (plan : Placement) (i at : ℕ) (c : JobProgress) (jobs : List SessionJob) → DictionariesFollow plan at jobs → DictionariesFollow plan at (with_course jobs i c)
 follow_course plan i at c [] d = d
-follow_course plan i at c (m ∷ rest) d = ⊎_elim
-    (λ (q : (number_of m == i) ≡ true). rw q d)
-    (λ (q : (number_of m == i) ≡ false). rw q (d.0, follow_course plan i (at + (2 + length m.constants.dictionary.cells)) c rest d.1))
-    (cases_Bool (number_of m == i))
+follow_course plan i at c (m ∷ rest) d = grind (arith, follow_course plan i (at + (2 + length m.constants.dictionary.cells)) c rest d.1)
 
 dictionary_above : (plan : Placement) (at : ℕ) (jobs : List SessionJob) (z : SessionJob) → DictionariesFollow plan at jobs → Has jobs z → at ≤ plan.dictionary z.constants.number
 dictionary_above plan at [] z d h = absurd h
@@ -131,12 +128,7 @@ module _ (x : Storage) (core : List Tagged) (r : Regs) (marks : List ℕ) (plan 
     dictionary : (z : SessionJob) → Has s.jobs z → RepresentsDictionary new plan_after z
     dictionary z i =
         let e = dictionary_below plan 160 s.jobs z h.fits.dictionaries i in
-        let was = h.dictionaries z i in
-        let up = dictionary_above plan 160 s.jobs z h.fits.dictionaries i in
-        record {
-          mark = c.words (plan.dictionary z.constants.number) (omega (arith, e)) (λ e. omega (arith, e, up)) (λ g k e. omega (arith, e, up, gone_low g k)) ∙ was.mark;
-          entries = c.words (plan.dictionary z.constants.number + 1) (omega (arith, e)) (λ e. omega (arith, e, up)) (λ g k e. omega (arith, e, up, gone_low g k)) ∙ was.entries;
-        }
+        grind (arith, dictionary_above, gone_low)
 
     vector_same : (z : SessionJob) (u : Task) → Has s.jobs z → Has z.progress.job.tasks u → (z.constants.number ≡ m.constants.number → Stays gone u.number) → slice_get new (32 + slot_of plan_after z.constants.number u.number) ≡ Some (vector_word plan z.constants.number u.parents)
     vector_same z u i l stays =

@@ -1,14 +1,13 @@
 -- What is left of a task that dies are its arrays, and these are given back.
-use Rattle.std.proofs.Common.{◌≡◌, ◌≢◌, ℕ, ◌+◌, ◌*◌, ◌<◌, ◌≤◌, List, ◌++◌, length, Option, Some, refl, sym, ◌∙◌, ap, arith, inl, inr, ◌⊎◌, ⊎_elim, slice_set, length-set}
+use Rattle.std.proofs.Common.{◌≡◌, ◌≢◌, ℕ, ◌+◌, ◌*◌, ◌<◌, ◌≤◌, List, ◌++◌, length, Option, Some, sym, ◌∙◌, ap, arith, ◌⊎◌, ⊎_elim, slice_set, length-set}
 use Rattle.std.specs.List.{slice_get}
-use Rattle.std.proofs.lemmas.Bool.{cases_eq, eq-eqb, ne_eqb}
 use Rattle.b67_word.specs.Tagged.{Tagged, word}
 use Rattle.b67_core.proofs.Writes.{slice_get-set_same, slice_get-set_other}
 use Rattle.b67_area.specs.declared.Areas.{Areas}
 use Rattle.b67_backing.specs.Shelf.{Table}
 use Rattle.b67_ctl.specs.declared.registers.Regs.{Regs}
 use Rattle.b67_stack.specs.declared.Cpu.{Cpu}
-use Rattle.b67_stack.specs.Common.{stack_words, PagedObject, Slot, Free, Running, Waiting, stack_of, MachineView, slot_base, SlotFits, with_slot, Storage, Represents}
+use Rattle.b67_stack.specs.Common.{stack_words, PagedObject, Slot, Free, stack_of, MachineView, slot_base, SlotFits, with_slot, Storage, Represents}
 use Rattle.b67_stack.proofs.Bases.{base-apart}
 use Rattle.b67_stack.proofs.Slots.{by_slot}
 use Rattle.b67_layout_storage.specs.Machine.{MachineRepresentsView}
@@ -19,15 +18,10 @@ use Rattle.b67_task_end_stack.specs.Vacated.{put_out, vacated, SlotVacated, died
 use Rattle.b67_task_end_stack.proofs.Vacates.{Represents-vacated}
 
 by_test : (r : Regs) (k : ℕ) → ((r.slot ≢ k) × (put_out r k ≡ r)) ⊎ ((r.slot ≡ k) × (put_out r k ≡ record r { slot = 255 }))
-by_test r k = ⊎_elim
-    (λ (e : r.slot ≡ k). inr (e, rw (eq-eqb r.slot k e) refl))
-    (λ (ne : r.slot ≡ k → ⊥). inl (ne, rw (ne_eqb r.slot k ne) refl))
-    (cases_eq r.slot k)
+by_test r k = grind arith
 
 fits_rest : (p : MachineView) (rest : List PagedObject) (k q : ℕ) (s : Slot) → SlotFits (of_objects p rest) q s → SlotFits (died p k rest) q s
-fits_rest p rest k q Free f = f
-fits_rest p rest k q (Running st) f = f
-fits_rest p rest k q (Waiting st) f = f
+fits_rest p rest k q s f = grind arith
 
 module _ (x : Storage) (cpu : Cpu) (p : MachineView) (k : ℕ) (gone rest : List PagedObject) (s : Represents x cpu.core cpu.regs p) (may : MayDie p cpu.core k gone rest) where
   base : ℕ
@@ -46,8 +40,7 @@ module _ (x : Storage) (cpu : Cpu) (p : MachineView) (k : ℕ) (gone rest : List
   core_long = omega (arith, inside, s.slots.laid.low, s.inside)
 
   pub base_is : (a b : ℕ) → a ≡ k → b ≡ cpu.regs.stack_size → cpu.regs.stacks + a * b ≡ slot_base p k
-  base_is a b ea eb =
-      ap (λ (n : ℕ). n + a * b) s.slots.regs.stacks ∙ ap (λ (n : ℕ). p.stacks + n * b) ea ∙ ap (λ (n : ℕ). p.stacks + k * n) (eb ∙ s.slots.regs.size)
+  base_is a b ea eb = grind arith
 
   pub top_at : (at top : ℕ) → at ≡ slot_base p k → top ≡ at + stack_words (stack_of (p.slots k)) → top ≡ slot_base p k + stack_words (stack_of (p.slots k))
   top_at at top start e = e ∙ ap (λ (n : ℕ). n + stack_words (stack_of (p.slots k))) start
@@ -63,39 +56,19 @@ module _ (x : Storage) (cpu : Cpu) (p : MachineView) (k : ℕ) (gone rest : List
     regs_is = ap (λ (c : Cpu). c.regs) is
 
     pub outside : (i : ℕ) → i ≢ slot_base p k → i ≢ 32 + k → slice_get new.core i ≡ slice_get cpu.core i
-    outside i a b =
-        ap (λ (c : List Tagged). slice_get c i) core_is
-        ∙ slice_get-set_other (slice_set cpu.core at (word 0 0)) (32 + k) i (word 0 0) (λ e. b e)
-        ∙ slice_get-set_other cpu.core at i (word 0 0) (λ e. a (e ∙ start))
+    outside i a b = grind (arith, slice_get-set_other)
 
     pub size : length new.core ≡ length cpu.core
     size = ap (λ (c : List Tagged). length c) core_is ∙ length-set (slice_set cpu.core at (word 0 0)) (32 + k) (word 0 0) ∙ length-set cpu.core at (word 0 0)
 
     zero_there : slice_get new.core (slot_base p k) ≡ Some (word 0 0)
-    zero_there =
-        ap (λ (c : List Tagged). slice_get c (slot_base p k)) core_is
-        ∙ slice_get-set_other (slice_set cpu.core at (word 0 0)) (32 + k) (slot_base p k) (word 0 0) (λ e. omega (arith, e, low, may.used, may.few))
-        ∙ ap (λ (i : ℕ). slice_get (slice_set cpu.core at (word 0 0)) i) (sym start)
-        ∙ slice_get-set_same cpu.core at (word 0 0) (omega (arith, start, core_long, room))
+    zero_there = grind (arith, slice_get-set_other, slice_get-set_same)
 
     pub vector_zero : slice_get new.core (32 + k) ≡ Some (word 0 0)
-    vector_zero =
-        ap (λ (c : List Tagged). slice_get c (32 + k)) core_is
-        ∙ slice_get-set_same (slice_set cpu.core at (word 0 0)) (32 + k) (word 0 0) (omega (arith, low, may.used, may.few, core_long, length-set cpu.core at (word 0 0)))
+    vector_zero = grind (arith, slice_get-set_same, length-set)
 
     is_vacated : SlotVacated cpu.core new.core cpu.regs new.regs p k
-    is_vacated = record {
-      used = may.used;
-      few = may.few;
-      room = room;
-      size = size;
-      zero = zero_there;
-      outside = outside;
-      regs = ⊎_elim
-          (λ (a : (cpu.regs.slot ≢ k) × (put_out cpu.regs k ≡ cpu.regs)). inl (a.0, regs_is ∙ a.1))
-          (λ (a : (cpu.regs.slot ≡ k) × (put_out cpu.regs k ≡ record cpu.regs { slot = 255 })). inr (a.0, regs_is ∙ a.1))
-          (by_test cpu.regs k);
-    }
+    is_vacated = grind (arith, size, zero_there, outside)
 
     -- the machine represents the view without the task, with its arrays left
     pub left_stands : Represents x new.core new.regs (with_objects gone (died p k rest))

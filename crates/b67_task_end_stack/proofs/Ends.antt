@@ -20,31 +20,16 @@ use Rattle.b67_task_end_stack.proofs.Slotwise.{order_of, found_member}
 
 find_kept : {A : Type 0} (p q : A → Bool) (xs : List A) → ((x : A) → Has xs x → p x ≡ true → q x ≡ true) → find p (filter q xs) ≡ find p xs
 find_kept p q [] g = refl
-find_kept p q (x ∷ xs) g =
-    let rest = find_kept p q xs (λ z i. g z (inr i)) in
-    elim (cases_Bool (q x)) [
-      | inl t ↦ elim (cases_Bool (p x)) [ inl e ↦ rw t (rw e refl) | inr e ↦ rw t (rw e rest) ]
-      | inr t ↦ elim (cases_Bool (p x)) [ inl e ↦ absurd (true≢false (sym (g x (inl refl) e) ∙ t)) | inr e ↦ rw t (rw e rest) ]
-    ]
+find_kept p q (x ∷ xs) g = grind (arith, find_kept p q xs)
 
 find_none : {A : Type 0} (p q : A → Bool) (xs : List A) → ((x : A) → Has xs x → p x ≡ true → q x ≡ false) → find p (filter q xs) ≡ None
 find_none p q [] g = refl
-find_none p q (x ∷ xs) g =
-    let rest = find_none p q xs (λ z i. g z (inr i)) in
-    elim (cases_Bool (q x)) [
-      | inl t ↦ elim (cases_Bool (p x)) [ inl e ↦ absurd (true≢false (sym t ∙ g x (inl refl) e)) | inr e ↦ rw t (rw e rest) ]
-      | inr t ↦ rw t rest
-    ]
+find_none p q (x ∷ xs) g = grind (arith, find_none p q xs)
 
 like_kept : (numbers : List ℕ) (p : Task → Bool) (u : ℕ) (xs : List Task) → ((t : Task) → Has xs t → t.number ≡ u → p t ≡ true)
     → Like (keyed (λ (t : Task). t.number) u (map (λ (t : Task). record t { condition = released numbers t.condition }) (filter p xs))) (keyed (λ (t : Task). t.number) u xs)
 like_kept numbers p u [] g = tt
-like_kept numbers p u (x ∷ xs) g =
-    let rest = like_kept numbers p u xs (λ z i. g z (inr i)) in
-    elim (cases_Bool (p x)) [
-      | inl t ↦ elim (cases_Bool (x.number == u)) [ inl e ↦ rw t (rw e (record { number = refl; parents = refl; critical = refl; frames = refl })) | inr e ↦ rw t (rw e rest) ]
-      | inr t ↦ elim (cases_Bool (x.number == u)) [ inl e ↦ absurd (true≢false (sym (g x (inl refl) (eqb-true x.number u e)) ∙ t)) | inr e ↦ rw t (rw e rest) ]
-    ]
+like_kept numbers p u (x ∷ xs) g = grind (arith, like_kept numbers p u xs)
 
 row_out : (j : ℕ) (numbers : List ℕ) (z : Slotted) → z.job ≡ j → among numbers z.task ≡ true → row_stays j numbers z ≡ false
 row_out j numbers z e t = rw (eq-eqb z.job j e) (ap not t)
@@ -63,16 +48,10 @@ owned_then gone a t =
     (g.0, g.1, subst (Has (identities g.0.frames)) (eqb-true f.0.identity a.owner f.2) (has_map (λ (f : Frame). f.identity) g.0.frames f.0 f.1))
 
 owned_if : (gone : List Task) (a : Array) (g : Task) → Has gone g → Has (identities g.frames) a.owner → is_owned_by gone a ≡ true
-owned_if gone a g i own =
-    let f = has_map_back (λ (f : Frame). f.identity) g.frames a.owner own in
-    any_some (λ (t : Task). list_any (λ (f : Frame). f.identity == a.owner) t.frames) gone g i
-    (any_some (λ (f : Frame). f.identity == a.owner) g.frames f.item f.among (eq-eqb f.item.identity a.owner f.is))
+owned_if gone a g i own = grind (arith, has_map_back, any_some)
 
 not_owned : (gone : List Task) (a : Array) → NotTheirs gone a → not (is_owned_by gone a) ≡ true
-not_owned gone a away = elim (cases_Bool (is_owned_by gone a)) [
-  | inl t ↦ absurd (let g = owned_then gone a t in away g.0 g.1 g.2)
-  | inr t ↦ ap not t
-]
+not_owned gone a away = grind (arith, owned_then)
 
 module _ (x : Storage) (core : List Tagged) (r : Regs) (marks : List ℕ) (plan : Placement) (s : Session) (o : IsInOrderButCounts s) (h : SessionHolds x core r marks plan s)
     (m : SessionJob) (in_m : Has s.jobs m) (numbers : List ℕ) where

@@ -178,10 +178,7 @@ module _ (x : Storage) (core : List Tagged) (r : Regs) (marks : List ℕ) (plan 
 
       -- an object of the session that stays
       code_stays : (y : SessionJob) → Has s.jobs y → (u : PagedObject) → Has (code_objects plan y.constants.number 1 y.constants.segments) u → Has ts u
-      code_stays y in_y u i =
-          let j = y.constants.number in
-          let there = has_flat (objects_of plan) s.jobs y u in_y (has_append_left (code_objects plan j 1 y.constants.segments) (map (array_object plan j) y.progress.job.arrays) u i) in
-          d.still u there (λ g in_g q. let z : ⊥ = omega (arith, q.0, h.memory.slots.laid.codes u there (code_kind j 1 y.constants.segments u i)) in z)
+      code_stays y in_y u i = grind (arith, has_flat, has_append_left, code_kind)
 
       array_stays : (y : SessionJob) → Has s.jobs y → (b : Array) → Has y.progress.job.arrays b → (y ≡ m → NotTheirs gone b) → Has ts (array_object plan y.constants.number b)
       array_stays y in_y b in_b away =

@@ -44,15 +44,7 @@ module _ (P : Starts) (constants : JobConstants) (job : Job) (g : TasksInOrder P
     by (inr (q, lq, above, among)) = one_task P constants job g t q lt lq id mine among (λ e. not_above (subst (Has u.parents) (sym e) above))
 
   foreign : (reach : List Known) → ((id : ℕ) (s : Standing) → Has reach (id, s) → Has (identities t.frames) id → ⊥) → (owner : ℕ) → (Has (identities t.frames) owner → ⊥) → (w : Word) → WordInOrder P job.arrays reach owner w → NamesForeign job.arrays t w
-  foreign reach apart owner own (Row a) o = (o.item, o.live, o.named, apart o.item.owner o.owner.standing o.owner.among)
-  foreign reach apart owner own (Element a index) o = (o.item, o.live, o.named, apart o.item.owner o.owner.standing o.owner.among)
-  foreign reach apart owner own (Original a) o = (o.item, o.live, o.named, λ h. own (subst (Has (identities t.frames)) o.owned h))
-  foreign reach apart owner own (Operand bits) o = tt
-  foreign reach apart owner own (Name couple) o = tt
-  foreign reach apart owner own (Ref frame offset) o = tt
-  foreign reach apart owner own (Proc segment level place) o = tt
-  foreign reach apart owner own (Intrinsic number) o = tt
-  foreign reach apart owner own (Words.Segment number) o = tt
+  foreign reach apart owner own w o = grind arith
 
   frames_foreign : (outer : List Known) (fs : List Frame) → FramesInOrder P job.arrays outer fs → ((id : ℕ) (s : Standing) → Has (map known_of fs ++ outer) (id, s) → Has (identities t.frames) id → ⊥) → (f : Frame) → Has fs f → (w : Word) → Has f.cells w → NamesForeign job.arrays t w
   frames_foreign outer [] order apart f h w i = absurd h

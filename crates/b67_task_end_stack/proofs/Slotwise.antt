@@ -1,5 +1,5 @@
 -- In a session in order no word of a slot is a copy of an array whose original lies in the slot of a task that isn't above.
-use Rattle.std.proofs.Common.{◌≡◌, ◌≢◌, ℕ, suc, ◌+◌, ◌<◌, ◌≤◌, List, [], ◌∷◌, length, reverse, Option, Some, None, refl, sym, ◌∙◌, ap, arith, inl, inr, ◌⊎◌, ⊎_elim, Bool, true, false, subst}
+use Rattle.std.proofs.Common.{◌≡◌, ◌≢◌, ℕ, suc, ◌+◌, ◌<◌, ◌≤◌, List, [], ◌∷◌, length, reverse, Option, Some, None, refl, sym, ◌∙◌, ap, arith, inl, inr, ◌⊎◌, ⊎_elim, Bool, subst}
 use Rattle.std.specs.Prelude.{if◌then◌else◌, ◌==◌}
 use Rattle.std.specs.List.{slice_get}
 use Rattle.std.proofs.lemmas.Bool.{cases_eq, cases_lt}
@@ -9,8 +9,7 @@ use Rattle.std.proofs.lemmas.List.{length-reverse}
 use Rattle.b67_word.specs.Tagged.{Tagged}
 use Rattle.b67_ctl.specs.declared.registers.Regs.{Regs}
 use Rattle.b67_lemmas.specs.Lists.{Has}
-use Rattle.b67_model.specs.Words as Words
-use Rattle.b67_model.specs.Common.{Word, Operand, Name, Ref, Row, Element, Original, Proc, Intrinsic, Frame, Array, Task, Job, SessionJob, number_of, Session, Starts, IsSegment, Known, identities, frames_named, OwnsArray, EntryInOrder, WordInOrder, FramesInOrder, TaskInOrder, outer_of}
+use Rattle.b67_model.specs.Common.{Word, Original, Frame, Array, Task, Job, SessionJob, number_of, Session, Starts, IsSegment, Known, identities, frames_named, OwnsArray, EntryInOrder, WordInOrder, FramesInOrder, outer_of}
 use Rattle.b67_model.specs.Keyed.{keyed}
 use Rattle.b67_law_order.proofs.Looks.{above_one}
 use Rattle.b67_lemmas.proofs.Members.{has_reverse, has_map, has_map_back, keyed_has, keyed_falls, falls_same, all_in}
@@ -20,7 +19,7 @@ use Rattle.b67_stack.proofs.Bases.{base-apart}
 use Rattle.b67_stack.proofs.Heights.{words-length}
 use Rattle.b67_layout.specs.Common.{Slotted, Placement, slot_of, outer_spots, shape, stack_of_task, slot_with, slot_in, slot_by, slot_at, machine_view, DictionariesFollow, SessionHolds, JobInOrderButCounts, IsInOrderButCounts}
 use Rattle.b67_layout.proofs.Common.{task_row, slot_below, lies_at, original_word, InFrame, original_of, entry_number, stack_in_slot}
-use Rattle.b67_task_release.proofs.Copies.{words_descriptor, cell_word, frame_words, home_of}
+use Rattle.b67_task_release.proofs.Copies.{words_descriptor, cell_word, frame_words}
 use Rattle.b67_task_release.proofs.Leavings.{here_lies, original_shape, original_named}
 use Rattle.b67_task_end_stack.proofs.Owners.{NamesForeign, words_foreign, total_two, counted}
 use Rattle.b67_law_order.proofs.Numbered.{keyed_member}
@@ -33,40 +32,20 @@ follow_up plan at (m ∷ more) d = omega (arith, follow_up plan (at + (2 + lengt
 -- a dictionary lies below slot 0
 dictionary_end : (plan : Placement) (at : ℕ) (jobs : List SessionJob) (y : SessionJob) → DictionariesFollow plan at jobs → Has jobs y → plan.dictionary y.constants.number + (2 + length y.constants.dictionary.cells) ≤ plan.stacks
 dictionary_end plan at [] y d h = absurd h
-dictionary_end plan at (m ∷ more) y d (inl e) =
-    let P : SessionJob → Type 0 = λ z. plan.dictionary z.constants.number + (2 + length z.constants.dictionary.cells) ≤ plan.stacks in
-    subst P e (omega (arith, d.0, follow_up plan (at + (2 + length m.constants.dictionary.cells)) more d.1))
+dictionary_end plan at (m ∷ more) y d (inl e) = grind (arith, follow_up)
 dictionary_end plan at (m ∷ more) y d (inr k) = dictionary_end plan (at + (2 + length m.constants.dictionary.cells)) more y d.1 k
 
 -- each task's frames are in order
 pub frames_in_order : (s : Session) → IsInOrderButCounts s → (m : SessionJob) (t : Task) → Has s.jobs m → Has m.progress.job.tasks t → FramesInOrder (IsSegment m.constants) m.progress.job.arrays (outer_of m.progress.job t) t.frames
-frames_in_order s o m t inm int =
-    let order = all_in (λ (z : SessionJob). JobInOrderButCounts (IsSegment z.constants) z.constants z.progress) s.jobs m o.jobs inm in
-    (all_in (TaskInOrder (IsSegment m.constants) m.constants m.progress.job) m.progress.job.tasks t order.tasks.tasks int).frames
+frames_in_order s o m t inm int = grind (arith, all_in)
 
 -- the array of a copy
 module _ (plan : Placement) (j : ℕ) (job : Job) (spot : ℕ → StackPlace) where
   copy_known : (P : Starts) (reach : List Known) (owner : ℕ) (v : Word) (c : Copied) (home : ℕ) → shape plan j job spot v ≡ Copy c home → WordInOrder P job.arrays reach owner v → (a : Array) × Has job.arrays a × (plan.home j a.identity ≡ home)
-  copy_known P reach owner (Row a) c home e o = (o.item, o.live, ap (plan.home j) o.named ∙ ap home_of e)
-  copy_known P reach owner (Element a index) c home e o = (o.item, o.live, ap (plan.home j) o.named ∙ ap home_of e)
-  copy_known P reach owner (Operand bits) c home e o = absurd cc
-  copy_known P reach owner (Name couple) c home e o = absurd cc
-  copy_known P reach owner (Ref frame offset) c home e o = absurd cc
-  copy_known P reach owner (Original a) c home e o = absurd cc
-  copy_known P reach owner (Proc segment level place) c home e o = absurd cc
-  copy_known P reach owner (Intrinsic n) c home e o = absurd cc
-  copy_known P reach owner (Words.Segment n) c home e o = absurd cc
+  copy_known P reach owner v c home e o = grind arith
 
   copy_foreign : (t : Task) (v : Word) (c : Copied) (home : ℕ) → shape plan j job spot v ≡ Copy c home → NamesForeign job.arrays t v → (a : Array) × Has job.arrays a × (plan.home j a.identity ≡ home) × (Has (identities t.frames) a.owner → ⊥)
-  copy_foreign t (Row a) c home e o = (o.0, o.1, ap (plan.home j) o.2 ∙ ap home_of e, o.3)
-  copy_foreign t (Element a index) c home e o = (o.0, o.1, ap (plan.home j) o.2 ∙ ap home_of e, o.3)
-  copy_foreign t (Operand bits) c home e o = absurd cc
-  copy_foreign t (Name couple) c home e o = absurd cc
-  copy_foreign t (Ref frame offset) c home e o = absurd cc
-  copy_foreign t (Original a) c home e o = absurd cc
-  copy_foreign t (Proc segment level place) c home e o = absurd cc
-  copy_foreign t (Intrinsic n) c home e o = absurd cc
-  copy_foreign t (Words.Segment n) c home e o = absurd cc
+  copy_foreign t v c home e o = grind arith
 
 module _ (x : Storage) (core : List Tagged) (r : Regs) (marks : List ℕ) (plan : Placement) (s : Session) (o : IsInOrderButCounts s) (h : SessionHolds x core r marks plan s) where
   abbrev p : MachineView
@@ -180,8 +159,7 @@ module _ (x : Storage) (core : List Tagged) (r : Regs) (marks : List ℕ) (plan 
 
     -- so with the words of another slot
     by_either : (b : Bool) (stack : List Activation) (q : ℕ) (a : Shape) → Has (words q (stack_of (if b then Running stack else Waiting stack))) a → Has (words q stack) a
-    by_either true stack q a w = w
-    by_either false stack q a w = w
+    by_either b stack q a w = grind arith
 
     pub of_slot : (q : ℕ) → q ≢ k → ((u : Task) → Has m.progress.job.tasks u → Has u.parents t.number → slot_of plan m.constants.number u.number ≢ q) → (c : Copied) (home : ℕ)
         → Has (words q (stack_of (slot_at plan s.jobs q))) (Copy c home) → In k home → ⊥

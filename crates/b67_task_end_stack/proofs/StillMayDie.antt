@@ -16,18 +16,7 @@ use Rattle.b67_task_end_stack.specs.Vacated.{put_out, died, MayDie}
 use Rattle.b67_task_end_stack.specs.DeathsInTurn.{Death, MayAllDie, all_died, slots_of, HasGone, SameInside, SameButSlot, SameButSlots, ZeroVector, all_put_out, Buried}
 
 may_die_same : (p : MachineView) (core new : List Tagged) (k : ℕ) (gone rest : List PagedObject) → SameInside p core new → MayDie p core k gone rest → MayDie p new k gone rest
-may_die_same p core new k gone rest same may = record {
-  used = may.used;
-  few = may.few;
-  room = may.room;
-  there = may.there;
-  back = may.back;
-  arrays = may.arrays;
-  among = may.among;
-  each = λ i w from upto get original. may.each i w from upto (sym (same k i may.used from (omega (arith, upto, may.room))) ∙ get) original;
-  alone = may.alone;
-  fits = may.fits;
-}
+may_die_same p core new k gone rest same may = grind arith
 
 pub all_same : (p : MachineView) (core new : List Tagged) (ds : List Death) → SameInside p core new → MayAllDie p core ds → MayAllDie p new ds
 unfolding MayAllDie
@@ -72,13 +61,7 @@ head slots i (d ∷ ds) inside e =
 -- at the end
 pub all_buried : (x y : Storage) (p q : MachineView) (core now : List Tagged) (all done more : List Death) (slots : List ℕ) (i : ℕ) → length slots ≤ i → slots_of more ≡ drop i slots → Buried x y p q core now all done more → Released (HasGone all) x y × (q ≡ all_died p all) × SameButSlots x.low p (slots_of all) core now × ZeroVector (slots_of all) now
 unfolding all_died
-all_buried x y p q core now all done [] slots i out e b =
-    let w : done ≡ all = sym (append-nil done) ∙ b.whole in (
-      subst (λ (z : List Death). Released (HasGone z) x y) w b.released,
-      b.end,
-      subst (λ (z : List Death). SameButSlots x.low p (slots_of z) core now) w b.below,
-      subst (λ (z : List Death). ZeroVector (slots_of z) now) w b.zero,
-    )
+all_buried x y p q core now all done [] slots i out e b = grind (arith, append-nil)
 all_buried x y p q core now all done (d ∷ ds) slots i out e b = absurd (let z : suc (length (slots_of ds)) ≡ length slots - i = ap (λ (xs : List ℕ). length xs) e ∙ length-drop i slots in omega (arith, z, out))
 
 -- one more
@@ -100,13 +83,7 @@ module _ (x y z : Storage) (p q : MachineView) (core now new : List Tagged) (all
   right home g = (d, has_append_right done one d (inl refl), g)
 
   parts : (home : ℕ) → HasGone (done ++ one) home → HasGone done home ⊎ HasHome d.gone home
-  parts home g = ⊎_elim
-      (λ (h : Has done g.0). inl (g.0, h, g.2))
-      (λ (h : Has one g.0). ⊎_elim
-      (λ (e : d ≡ g.0). inr (subst (λ (v : Death). HasHome v.gone home) (sym e) g.2))
-      (λ e. absurd e)
-      h)
-      (has_append_cases done one g.0 g.1)
+  parts home g = grind (arith, has_append_cases)
 
   -- an object that stays is one that was there
   was : (t : PagedObject) → Has d.rest t → Has q.objects t

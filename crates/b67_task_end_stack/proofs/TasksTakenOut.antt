@@ -2,7 +2,7 @@
 -- that the endings leave.
 use Rattle.std.proofs.Common.{◌≡◌, ◌≢◌, ℕ, ◌<◌, List, [], ◌∷◌, map, refl, sym, ◌∙◌, ap, arith, inl, inr, ◌⊎◌, ⊎_elim, subst}
 use Rattle.std.specs.Prelude.{◌==◌, filter}
-use Rattle.std.proofs.lemmas.Bool.{cases_eq, eq-eqb, eqb-true, ne_eqb}
+use Rattle.std.proofs.lemmas.Bool.{eq-eqb, eqb-true, ne_eqb}
 use Rattle.std.proofs.lemmas.Simd.{map-map}
 use Rattle.b67_word.specs.Tagged.{Tagged}
 use Rattle.b67_ctl.specs.declared.registers.Regs.{Regs}
@@ -12,7 +12,6 @@ use Rattle.b67_lemmas.proofs.Members.{any_has, any_some, falls_same, has_filter,
 use Rattle.b67_stack.specs.Common.{PagedObject, MachineView, Storage, Represents}
 use Rattle.b67_layout.specs.Common.{Placement, slot_of, slot_at, machine_view, RepresentsCritical, SessionHolds, IsInOrderButCounts}
 use Rattle.b67_layout.proofs.MachineViews.{with_course}
-use Rattle.b67_layout.proofs.Rows.{slot_below}
 use Rattle.b67_task_end_stack.specs.Vacated.{put_out}
 use Rattle.b67_task_end_stack.specs.DeathsInTurn.{Death, MayAllDie, all_died, slots_of, SameButSlots, ZeroVector, all_put_out}
 use Rattle.b67_task_end_stack.specs.Turns.{InTurn, lies_out, deaths}
@@ -31,10 +30,7 @@ slots_deaths plan j [] objects = refl
 slots_deaths plan j (t ∷ todo) objects = ap (λ (ks : List ℕ). slot_of plan j t.number ∷ ks) (slots_deaths plan j todo (filter (lies_out plan (slot_of plan j t.number)) objects))
 
 put_out_one : (r : Regs) (k : ℕ) → (r.slot ≡ 255) ⊎ (r.slot ≡ k) → (put_out r k).slot ≡ 255
-put_out_one r k e = elim (cases_eq r.slot k) [
-  | inl s ↦ rw (eq-eqb r.slot k s) refl
-  | inr n ↦ rw (ne_eqb r.slot k n) (⊎_elim (λ (z : r.slot ≡ 255). z) (λ (z : r.slot ≡ k). absurd (n z)) e)
-]
+put_out_one r k e = grind arith
 
 put_out_other : (r : Regs) (k : ℕ) → r.slot ≢ k → put_out r k ≡ r
 put_out_other r k n = rw (ne_eqb r.slot k n) refl
@@ -43,13 +39,7 @@ put_out_other r k n = rw (ne_eqb r.slot k n) refl
 pub halts : (r : Regs) (ks : List ℕ) → (r.slot ≡ 255) ⊎ Has ks r.slot → (all_put_out r ks).slot ≡ 255
 unfolding all_put_out
 halts r [] e = ⊎_elim (λ (z : r.slot ≡ 255). z) (λ (z : ⊥). absurd z) e
-halts r (k ∷ ks) e = halts (put_out r k) ks (elim (cases_eq r.slot k) [
-  | inl s ↦ inl (put_out_one r k (inr s))
-  | inr n ↦ ⊎_elim
-      (λ (z : r.slot ≡ 255). inl (put_out_one r k (inl z)))
-      (λ (z : Has (k ∷ ks) r.slot). ⊎_elim (λ (w : k ≡ r.slot). absurd (n (sym w))) (λ (w : Has ks r.slot). inr (subst (λ (q : Regs). Has ks q.slot) (sym (put_out_other r k n)) w)) z)
-      e
-])
+halts r (k ∷ ks) e = grind (arith, halts (put_out r k) ks)
 
 module _ (x : Storage) (core : List Tagged) (r : Regs) (marks : List ℕ) (plan : Placement) (s : Session) (o : IsInOrderButCounts s) (h : SessionHolds x core r marks plan s)
     (m : SessionJob) (in_m : Has s.jobs m) (some : 0 < plan.size) (todo : List Task) (turn : InTurn m.progress.job.tasks [] todo) where
@@ -112,22 +102,10 @@ module _ (x : Storage) (core : List Tagged) (r : Regs) (marks : List ℕ) (plan 
 
     -- their slots' words are cleared, and no others below the slots
     cleared : (new : List Tagged) → SameButSlots x.low (machine_view plan s.jobs) (slots_of dying) core new → ZeroVector (slots_of dying) new → Cleared core new plan m gone
-    cleared new same zero = record {
-      words = λ i low dir apart. same i
-          (omega (arith, low, h.memory.slots.laid.low)) dir
-          (λ k in_k. let t = slot_task k in_k in (λ e. omega (arith, e, low), λ e. apart t.0 t.1 (omega (arith, e, t.2))));
-      vector = λ g i. zero (slot_of plan j g.number) (slots_is g i);
-    }
+    cleared new same zero = grind (arith, slot_task, slots_is)
 
     running_among : (r.slot ≡ 255) ⊎ Has (slots_of dying) r.slot
-    running_among = ⊎_elim
-        (λ (e : plan.running ≡ 255). inl (h.none e))
-        (λ (l : Lost plan j gone plan.running).
-        let (g, in_g, at) = l in
-        let used = slot_below plan s.jobs m g h.fits.rows in_m (died.alive g in_g) in
-        let (z, u, runs) = h.live (λ e. omega (arith, e, at, used, h.fits.few)) in
-        inr (subst (Has (slots_of dying)) (at ∙ runs.slot ∙ sym (h.running z u runs).slot) (slots_is g in_g)))
-        stopped
+    running_among = grind (arith, slots_is)
 
     pub SessionHolds-end : (y : Storage) (new : List Tagged) (marks' : List ℕ) → Represents y new (all_put_out r (slots_of dying)) (all_died (machine_view plan s.jobs) dying) → SameButSlots x.low (machine_view plan s.jobs) (slots_of dying) core new → ZeroVector (slots_of dying) new
         → RepresentsCritical marks' plan_end session_end.jobs → SessionHolds y new (all_put_out r (slots_of dying)) marks' plan_end session_end

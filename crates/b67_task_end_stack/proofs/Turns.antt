@@ -1,8 +1,8 @@
 -- The tasks of a job that die in turn may die, one after another.
-use Rattle.std.proofs.Common.{◌≡◌, ◌≢◌, ℕ, ◌+◌, ◌<◌, ◌≤◌, List, [], ◌∷◌, map, Some, refl, sym, ◌∙◌, ap, arith, inl, inr, ◌⊎◌, ⊎_elim, true, false, not, nat_lt, subst}
+use Rattle.std.proofs.Common.{◌≡◌, ◌≢◌, ℕ, ◌+◌, ◌<◌, ◌≤◌, List, [], ◌∷◌, map, Some, refl, sym, ◌∙◌, ap, arith, inl, inr, ◌⊎◌, ⊎_elim, true, not, nat_lt, subst}
 use Rattle.std.specs.Prelude.{if◌then◌else◌, ◌==◌, ◌&&◌, filter}
 use Rattle.std.specs.List.{slice_get}
-use Rattle.std.proofs.lemmas.Bool.{cases_Bool, cases_eq, eq-eqb, ne_eqb, lt-ltb, ltb-true, true≢false}
+use Rattle.std.proofs.lemmas.Bool.{cases_Bool, cases_eq, eq-eqb, ne_eqb, lt-ltb, true≢false}
 use Rattle.b67_word.specs.Tagged.{Tagged}
 use Rattle.b67_ctl.specs.declared.registers.Regs.{Regs}
 use Rattle.b67_lemmas.specs.Lists.{Has}
@@ -20,10 +20,7 @@ use Rattle.b67_task_end_stack.proofs.Vacates.{slot_room}
 use Rattle.b67_task_end_stack.proofs.Slotwise.{In, In_one, one_each, of_slot, each_original}
 
 both : (a b c : ℕ) → (nat_lt a b && nat_lt b c) ≡ true → (a < b) × (b < c)
-both a b c e = elim (cases_Bool (nat_lt a b)) [
-  | inl t ↦ let z : nat_lt b c ≡ true = rw t at e in (ltb-true a b t, ltb-true b c z)
-  | inr f ↦ absurd (true≢false (sym (let z : false ≡ true = rw f at e in z)))
-]
+both a b c e = grind arith
 
 both_in : (a b c : ℕ) → a < b → b < c → (nat_lt a b && nat_lt b c) ≡ true
 both_in a b c l u = rw (lt-ltb a b l) (lt-ltb b c u)
@@ -34,9 +31,7 @@ fewer p rest q (Running st) keep f = (f.0, λ c home w. let (u, i, e, n) = f.1 c
 fewer p rest q (Waiting st) keep f = (f.0, λ c home w. let (u, i, e, n) = f.1 c home w in (u, keep c home w u i e, e, n))
 
 free_slot : (p : MachineView) (q k : ℕ) (rest : List PagedObject) (z : Slot) → SlotFits (of_objects p rest) q z → SlotFits (died p k rest) q z
-free_slot p q k rest Free f = f
-free_slot p q k rest (Running st) f = f
-free_slot p q k rest (Waiting st) f = f
+free_slot h q e rest z f = grind arith
 
 module _ (x : Storage) (core : List Tagged) (r : Regs) (marks : List ℕ) (plan : Placement) (s : Session) (o : IsInOrderButCounts s) (h : SessionHolds x core r marks plan s)
     (m : SessionJob) (in_m : Has s.jobs m) (some : 0 < plan.size) where
@@ -63,18 +58,7 @@ module _ (x : Storage) (core : List Tagged) (r : Regs) (marks : List ℕ) (plan 
     pub still : (u : PagedObject) → Has p.objects u → ((g : Task) → Has gone g → In x core r marks plan s o h (slot g) u.home → ⊥) → Has ts u
 
   pub none_died : SomeDied (slot_at plan s.jobs) p.objects []
-  none_died = record {
-    alive = λ g i. absurd i;
-    free = λ j. inl refl;
-    kept = λ t i n. refl;
-    lost = λ t i. absurd i;
-    stays = λ j n. refl;
-    closed = λ g i. absurd i;
-    out = λ u i g n. absurd n;
-    fits = h.memory.slots.laid.slots;
-    was = λ u i. i;
-    still = λ u i n. i;
-  }
+  none_died = grind arith
 
   module _ (f : ℕ → Slot) (ts : List PagedObject) (gone : List Task) (d : SomeDied f ts gone) (t : Task) (in_t : Has m.progress.job.tasks t) (new : Has gone t → ⊥)
       (last : (u : Task) → Has m.progress.job.tasks u → Has u.parents t.number → Has gone u) where
@@ -97,15 +81,10 @@ module _ (x : Storage) (core : List Tagged) (r : Regs) (marks : List ℕ) (plan 
     in_goes u i = let g = has_filter (lies_in plan k) ts u i in let b = both (slot_base p k) u.home (slot_base p k + plan.size) g.1 in (g.0, b.0, b.1)
 
     in_rests : (u : PagedObject) → Has rests u → Has ts u × (slot_base p k < u.home → u.home < slot_base p k + plan.size → ⊥)
-    in_rests u i =
-        let g = has_filter (lies_out plan k) ts u i in
-        (g.0, λ low up. true≢false (sym g.1 ∙ ap not (both_in (slot_base p k) u.home (slot_base p k + plan.size) low up)))
+    in_rests u i = grind (arith, has_filter)
 
     to_rests : (u : PagedObject) → Has ts u → (slot_base p k < u.home → u.home < slot_base p k + plan.size → ⊥) → Has rests u
-    to_rests u i out = has_filter_in (lies_out plan k) ts u i (elim (cases_Bool (lies_in plan k u)) [
-      | inl e ↦ absurd (let b = both (slot_base p k) u.home (slot_base p k + plan.size) e in out b.0 b.1)
-      | inr e ↦ ap not e
-    ])
+    to_rests u i out = grind (arith, has_filter_in)
 
     elsewhere : (q : ℕ) → q ≢ k → (c : Copied) (home : ℕ) → Has (words q (stack_of (f q))) (Copy c home) → slot_base p k < home → home < slot_base p k + plan.size → ⊥
     elsewhere q ne c home w low up = elim (d.free q) [

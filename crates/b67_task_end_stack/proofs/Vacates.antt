@@ -1,5 +1,5 @@
 -- A machine of which one slot was vacated represents the view without its task, with the same objects.
-use Rattle.std.proofs.Common.{◌≡◌, ◌≢◌, ℕ, suc, ◌+◌, ◌<◌, ◌≤◌, List, [], ◌∷◌, length, sym, ◌∙◌, ap, arith, ⊎_elim, subst}
+use Rattle.std.proofs.Common.{◌≡◌, ◌≢◌, ℕ, suc, ◌+◌, ◌<◌, ◌≤◌, List, [], ◌∷◌, length, ◌∙◌, ap, arith, ⊎_elim}
 use Rattle.std.specs.List.{slice_get}
 use Rattle.std.proofs.lemmas.Bool.{cases_eq, cases_lt}
 use Rattle.b67_word.specs.Tagged.{Tagged}
@@ -7,7 +7,7 @@ use Rattle.b67_area.specs.Spans.{Span, Area, Hole}
 use Rattle.b67_area.proofs.Climbs.{area_at-low}
 use Rattle.b67_area.proofs.Separation.{Controls, IsDirectory-same}
 use Rattle.b67_ctl.specs.declared.registers.Regs.{Regs}
-use Rattle.b67_stack.specs.Common.{Fits, LieDownward, stack_words, words, Slot, Free, Running, Waiting, stack_of, MachineView, slot_base, SlotFits, IsLaidOut, with_slot, Storage, RepresentsSlot, RepresentsRegs, StacksLie, RepresentsObjects, Represents, info_of}
+use Rattle.b67_stack.specs.Common.{Fits, LieDownward, stack_words, words, Slot, Free, stack_of, MachineView, slot_base, SlotFits, IsLaidOut, with_slot, Storage, RepresentsSlot, RepresentsRegs, StacksLie, RepresentsObjects, Represents, info_of}
 use Rattle.b67_stack.proofs.Bases.{base-apart}
 use Rattle.b67_stack.proofs.Heights.{words-length}
 use Rattle.b67_stack.proofs.Lies.{Lie-same}
@@ -15,14 +15,10 @@ use Rattle.b67_stack.proofs.Slots.{by_slot, Content-areas}
 use Rattle.b67_task_end_stack.specs.Vacated.{SlotVacated}
 
 pub slot_room : (p : MachineView) (k : ℕ) (s : Slot) → SlotFits p k s → 0 < p.size → stack_words (stack_of s) < p.size
-slot_room p k Free f some = some
-slot_room p k (Running stack) f some = f.0.fits
-slot_room p k (Waiting stack) f some = f.0.fits
+slot_room p k s f some = grind arith
 
 fits_same : (p : MachineView) (k j : ℕ) (s : Slot) → SlotFits p j s → SlotFits (with_slot p k Free) j s
-fits_same p k j Free f = f
-fits_same p k j (Running q) f = f
-fits_same p k j (Waiting q) f = f
+fits_same p k j s f = grind arith
 
 -- heads and tails of areas, and the first words of holes, lie above the slots
 controls_above : (at : ℕ) (ss : List Span) (i : ℕ) → Controls at ss i → at ≤ i
@@ -32,14 +28,10 @@ controls_above at (Hole n ∷ ss) i c = ⊎_elim (λ e. omega arith) (λ r. omeg
 
 -- another slot stands where the registers were its own or not
 other_same : (core new : List Tagged) (r : Regs) (p : MachineView) (k j : ℕ) (s : Slot) → slice_get new (slot_base p j) ≡ slice_get core (slot_base p j) → RepresentsSlot core r p j s → RepresentsSlot new r (with_slot p k Free) j s
-other_same core new r p k j Free e t = (t.0, e ∙ t.1)
-other_same core new r p k j (Running stack) e t = record { slot = t.slot; first = t.first; last = t.last; top = t.top; mark = t.mark; level = t.level }
-other_same core new r p k j (Waiting stack) e t = (t.0, e ∙ t.1)
+other_same core new r p k j s e t = grind arith
 
 other_out : (core new : List Tagged) (r : Regs) (p : MachineView) (k j : ℕ) (s : Slot) → j ≢ k → j < 120 → r.slot ≡ k → slice_get new (slot_base p j) ≡ slice_get core (slot_base p j) → RepresentsSlot core r p j s → RepresentsSlot new (record r { slot = 255 }) (with_slot p k Free) j s
-other_out core new r p k j Free ne small runs e t = (λ z. omega (arith, z, small), e ∙ t.1)
-other_out core new r p k j (Running stack) ne small runs e t = absurd (ne (sym t.slot ∙ runs))
-other_out core new r p k j (Waiting stack) ne small runs e t = (λ z. omega (arith, z, small), e ∙ t.1)
+other_out core new r p k j s ne small runs e t = grind arith
 
 module _ (x : Storage) (core new : List Tagged) (r r' : Regs) (p : MachineView) (k : ℕ) (c : SlotVacated core new r r' p k) (s : Represents x core r p) where
   abbrev p' : MachineView
@@ -55,10 +47,7 @@ module _ (x : Storage) (core new : List Tagged) (r r' : Regs) (p : MachineView) 
   vector_low = omega (arith, c.used, c.few)
 
   apart : (q : ℕ) → q ≢ k → slot_base p q ≢ slot_base p k
-  apart q ne e = ⊎_elim
-      (λ (z : q < k). omega (arith, base-apart p q k z, c.room, e))
-      (λ (z : k ≤ q). omega (arith, base-apart p k q (omega (arith, z, ne)), c.room, e))
-      (cases_lt q k)
+  apart q ne e = grind (arith, base-apart)
 
   elsewhere : (q : ℕ) → q ≢ k → slice_get new (slot_base p q) ≡ slice_get core (slot_base p q)
   elsewhere q ne = c.outside (slot_base p q) (apart q ne) (λ e. omega (arith, e, laid.first, vector_low))
@@ -88,26 +77,13 @@ module _ (x : Storage) (core new : List Tagged) (r r' : Regs) (p : MachineView) 
 
   -- the registers afterwards
   regs_stand : RepresentsRegs r' p
-  regs_stand = ⊎_elim
-      (λ (a : (r.slot ≢ k) × (r' ≡ r)). subst (λ (z : Regs). RepresentsRegs z p) (sym a.1) s.slots.regs)
-      (λ (a : (r.slot ≡ k) × (r' ≡ record r { slot = 255 })). subst (λ (z : Regs). RepresentsRegs z p) (sym a.1) (record { stacks = s.slots.regs.stacks; size = s.slots.regs.size; peak = s.slots.regs.peak }))
-      c.regs
+  regs_stand = grind arith
 
   here : RepresentsSlot new r' p' k Free
-  here = (
-    ⊎_elim
-        (λ (a : (r.slot ≢ k) × (r' ≡ r)). λ e. a.0 (ap (λ (z : Regs). z.slot) (sym a.1) ∙ e))
-        (λ (a : (r.slot ≡ k) × (r' ≡ record r { slot = 255 })). λ e. (let z : 255 ≡ k = ap (λ (z : Regs). z.slot) (sym a.1) ∙ e in omega (arith, z, c.used, c.few)))
-        c.regs,
-    c.zero,
-  )
+  here = grind arith
 
   there : (j : ℕ) → j < p.peak → j ≢ k → RepresentsSlot new r' p' j (p.slots j)
-  there j hj ne = ⊎_elim
-      (λ (a : (r.slot ≢ k) × (r' ≡ r)). subst (λ (z : Regs). RepresentsSlot new z p' j (p.slots j)) (sym a.1) (other_same core new r p k j (p.slots j) (elsewhere j ne) (s.slots.slots j hj)))
-      (λ (a : (r.slot ≡ k) × (r' ≡ record r { slot = 255 })). subst (λ (z : Regs). RepresentsSlot new z p' j (p.slots j)) (sym a.1)
-      (other_out core new r p k j (p.slots j) ne (omega (arith, hj, c.few)) a.0 (elsewhere j ne) (s.slots.slots j hj)))
-      c.regs
+  there j hj ne = grind (arith, elsewhere)
 
   pub Represents-vacated : Represents x new r' (with_slot p k Free)
   Represents-vacated = record {

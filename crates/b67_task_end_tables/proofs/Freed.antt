@@ -1,5 +1,5 @@
 -- A row once tasks of a job have ended.
-use Rattle.std.proofs.Common.{◌≡◌, ◌≢◌, ℕ, List, Bool, true, false, refl, sym, ◌∙◌, ap, not}
+use Rattle.std.proofs.Common.{◌≡◌, ◌≢◌, ℕ, List, Bool, true, false, refl, sym, ◌∙◌, ap, not, arith}
 use Rattle.std.proofs.lemmas.Bool.{eq-eqb, ne_eqb}
 use Rattle.b67_model.specs.Endings.{among}
 use Rattle.b67_task_tables.specs.declared.tables.TaskRow.{TaskRow}
@@ -15,14 +15,10 @@ pub stays_other : (j : ℕ) (numbers : List ℕ) (q : TaskRow) → q.job ≢ j �
 stays_other j numbers q e = rw (ne_eqb q.job j e) refl
 
 pub freed_awaits : (j : ℕ) (numbers : List ℕ) (q : TaskRow) (n : ℕ) → q.job ≡ j → Awaits n ≡ q.state → among numbers n ≡ true → record q { state = Ready } ≡ freed j numbers q
-freed_awaits j numbers q n e is t =
-    let to : freed_state numbers (Awaits n) ≡ Ready = rw t refl in
-    sym (freed_own j numbers q e ∙ ap (λ (w : TaskState). record q { state = w }) (ap (freed_state numbers) (sym is) ∙ to))
+freed_awaits j numbers q n e is t = grind arith
 
 pub freed_awaiting : (j : ℕ) (numbers : List ℕ) (q : TaskRow) (n : ℕ) → q.job ≡ j → Awaits n ≡ q.state → among numbers n ≡ false → q ≡ freed j numbers q
-freed_awaiting j numbers q n e is t =
-    let to : freed_state numbers (Awaits n) ≡ Awaits n = rw t refl in
-    sym (freed_own j numbers q e ∙ ap (λ (w : TaskState). record q { state = w }) (ap (freed_state numbers) (sym is) ∙ to ∙ is))
+freed_awaiting j numbers q n e is t = grind arith
 
 pub freed_same : (j : ℕ) (numbers : List ℕ) (q : TaskRow) (w : TaskState) → q.job ≡ j → w ≡ q.state → freed_state numbers w ≡ w → q ≡ freed j numbers q
 freed_same j numbers q w e is fix = sym (freed_own j numbers q e ∙ ap (λ (v : TaskState). record q { state = v }) (ap (freed_state numbers) (sym is) ∙ fix ∙ is))

@@ -1,8 +1,7 @@
 -- Lists whose items are kept or left out, each then changed but for its key.
-use Rattle.std.proofs.Common.{◌≡◌, ℕ, zero, suc, ◌+◌, ◌<◌, ◌≤◌, List, [], ◌∷◌, map, filter, find, length, drop, get_or, Some, None, Bool, true, false, refl, sym, ◌∙◌, ap, arith, inl, inr, ⊎_elim, subst}
+use Rattle.std.proofs.Common.{◌≡◌, ℕ, zero, suc, ◌+◌, ◌<◌, ◌≤◌, List, [], ◌∷◌, map, filter, find, length, drop, get_or, Some, None, Bool, true, false, refl, sym, ◌∙◌, ap, arith, ⊎_elim}
 use Rattle.std.specs.Prelude.{◌||◌}
 use Rattle.std.specs.List.{list_any}
-use Rattle.std.proofs.lemmas.Bool.{cases_Bool}
 use Rattle.std.proofs.lemmas.List.{length-map}
 use Rattle.std.proofs.lemmas.Option.{slice_get-get_or}
 use Rattle.b67_lemmas.specs.Lists.{Has}
@@ -13,19 +12,11 @@ use Rattle.b67_layout.specs.Rows.{Differ}
 module _ {A : Type 0} (f : A → A) (p : A → Bool) (key : A → ℕ) (same : (a : A) → key (f a) ≡ key a) where
   kept_has : (xs : List A) (n : ℕ) → Has (map key (map f (filter p xs))) n → Has (map key xs) n
   kept_has [] n i = i
-  kept_has (x ∷ xs) n i = elim (cases_Bool (p x)) [
-    | inl t ↦
-        (let k : Has (map key (map f (x ∷ filter p xs))) n = rw t at i in
-        ⊎_elim (λ (e : key (f x) ≡ n). inl (sym (same x) ∙ e)) (λ (r : Has (map key (map f (filter p xs))) n). inr (kept_has xs n r)) k)
-    | inr t ↦ (let k : Has (map key (map f (filter p xs))) n = rw t at i in inr (kept_has xs n k))
-  ]
+  kept_has (x ∷ xs) n i = grind (arith, kept_has xs n)
 
   pub kept_differ : (xs : List A) → Differ (map key xs) → Differ (map key (map f (filter p xs)))
   kept_differ [] d = d
-  kept_differ (x ∷ xs) d = elim (cases_Bool (p x)) [
-    | inl t ↦ rw t (λ i. d.0 (kept_has xs (key x) (subst (Has (map key (map f (filter p xs)))) (same x) i)), kept_differ xs d.1)
-    | inr t ↦ rw t (kept_differ xs d.1)
-  ]
+  kept_differ (x ∷ xs) d = grind (arith, kept_has, kept_differ xs d.1)
 
 pub kept_length : {A B : Type 0} (f : A → B) (p : A → Bool) (xs : List A) → length (map f (filter p xs)) ≤ length xs
 kept_length f p xs = omega (arith, length-map (filter p xs) f, length_filter p xs)
@@ -49,13 +40,7 @@ finds_on {A = A} p xs at d low e t =
     passed x ys q = rw q refl
 
 pub finds_here : {A : Type 0} (p : A → Bool) (xs : List A) (at : ℕ) (d : A) → at < length xs → find p (drop at xs) ≡ find p xs → p (get_or xs at d) ≡ true → find p xs ≡ Some (get_or xs at d)
-finds_here {A = A} p xs at d low e t =
-    sym e
-    ∙ ap (find p) (drop-get xs at (get_or xs at d) (slice_get-get_or xs at d low))
-    ∙ met (get_or xs at d) (drop (suc at) xs) t
-  where
-    met : (x : A) (ys : List A) → p x ≡ true → find p (x ∷ ys) ≡ Some x
-    met x ys q = rw q refl
+finds_here {A = A} p xs at d low e t = grind (arith, drop-get, slice_get-get_or)
 
 pub finds_none : {A : Type 0} (p : A → Bool) (xs : List A) (at : ℕ) → length xs ≤ at → find p (drop at xs) ≡ find p xs → find p xs ≡ None
 finds_none p xs at past e = sym e ∙ ap (find p) (drop_past xs at past)

@@ -25,9 +25,7 @@ use Rattle.b67_task_end_tables.proofs.Remains.{member', member_of}
 gone_lies : (p : MachineView) (core : List Tagged) (ds : List Death) → MayAllDie p core ds → (d : Death) → Has ds d → (v : PagedObject) → Has d.gone v → (slot_base p d.slot < v.home) × (v.home < slot_base p d.slot + p.size)
 unfolding MayAllDie
 gone_lies p core [] may d i v among = absurd i
-gone_lies p core (e ∷ ds) may d (inl is) v among =
-    let P : Death → Type 0 = λ z. Has z.gone v → (slot_base p z.slot < v.home) × (v.home < slot_base p z.slot + p.size) in
-    subst P is (λ k. let a = may.0.among v k in (a.0, (let room = may.0.room in omega (arith, a.1, room)))) among
+gone_lies p core (e ∷ ds) may d (inl is) v among = grind arith
 gone_lies p core (e ∷ ds) may d (inr i) v among = gone_lies (died p e.slot e.rest) core ds may.1 d i v among
 
 -- segments
@@ -77,8 +75,7 @@ module _ (x : Storage) (core : List Tagged) (r : Regs) (marks : List ℕ) (plan 
       of_member part.item (member_of x core r marks plan s o h m in_m numbers stopped closed part.item part.among) u part.inside
 
   was : (u : PagedObject) → Left u → Has (machine_view plan s.jobs).objects u
-  was u (segment y in_y c) =
-      has_flat (objects_of plan) s.jobs y u in_y (has_append_left (code_objects plan y.constants.number 1 y.constants.segments) (map (array_object plan y.constants.number) y.progress.job.arrays) u c)
+  was u (segment y in_y c) = grind (arith, has_flat, has_append_left)
   was u (array y in_y b in_b is away) =
       has_flat (objects_of plan) s.jobs y u in_y
       (has_append_right (code_objects plan y.constants.number 1 y.constants.segments) (map (array_object plan y.constants.number) y.progress.job.arrays) u

@@ -39,10 +39,7 @@ turn_closed : (live gone todo : List Task) → InTurn live gone todo → (t : Ta
 unfolding InTurn
 turn_closed live gone [] turn t i u in_u above = absurd i
 turn_closed live gone (v ∷ todo) turn t (inl e) u in_u above = inl (turn.2 u in_u (subst (λ (w : Task). Has u.parents w.number) (sym e) above))
-turn_closed live gone (v ∷ todo) turn t (inr i) u in_u above = ⊎_elim
-    (λ (g : Has (v ∷ gone) u). ⊎_elim (λ (e : v ≡ u). inr (inl e)) (λ (k : Has gone u). inl k) g)
-    (λ (k : Has todo u). inr (inr k))
-    (turn_closed live (v ∷ gone) todo turn.3 t i u in_u above)
+turn_closed live gone (v ∷ todo) turn t (inr i) u in_u above = grind (arith, turn_closed live (v ∷ gone) todo turn.3 t i u in_u above)
 
 turn_live : (live gone todo : List Task) → InTurn live gone todo → (t : Task) → Has todo t → Has live t
 unfolding InTurn
@@ -126,16 +123,7 @@ module _ (k : Machine) (u : Tasks) (x : Storage) (told : Option (List (List ℕ)
   view = record { stands = h.stands.session.holds.memory; low = h.stands.storage.low; shelf = h.stands.storage.shelf; device = says_of x.device told h.stands.storage.device }
 
   pub may_bury : MayTakeOut x k.cpu.core k.cpu.regs k.cpu.critical plan s m numbers
-  may_bury = record {
-    ordered = h.ordered;
-    holds = h.stands.session.holds;
-    member = may.member;
-    room = (let big = (job_in_order s m h.ordered may.member).unchanging.stack_low in omega (arith, big, h.stands.session.holds.fits.sizes m may.member));
-    todo = may.todo;
-    named = may.named;
-    turn = may.turn;
-    stopped = may.stopped;
-  }
+  may_bury = grind (arith, job_in_order)
 
   row_items : u.rows.items ≡ k.tasks.rows.items
   row_items = ap (λ r. r.items) h.same.rows

@@ -1,8 +1,8 @@
 -- The marks of rows, one row after another.
-use Rattle.std.proofs.Common.{◌≡◌, ◌≢◌, ℕ, zero, suc, ◌+◌, ◌<◌, ◌≤◌, max, List, [], ◌∷◌, length, drop, get_or, replicate, Some, refl, sym, ◌∙◌, ap, arith, inl, inr, subst, ◌==◌}
+use Rattle.std.proofs.Common.{◌≡◌, ◌≢◌, ℕ, zero, suc, ◌+◌, ◌<◌, ◌≤◌, max, List, [], ◌∷◌, length, drop, get_or, replicate, Some, refl, sym, ◌∙◌, ap, arith, ◌==◌}
 use Rattle.std.specs.Prelude.{if◌then◌else◌}
 use Rattle.std.specs.List.{slice_get}
-use Rattle.std.proofs.lemmas.Bool.{cases_eq, eq-eqb, ne_eqb}
+use Rattle.std.proofs.lemmas.Bool.{ne_eqb}
 use Rattle.std.proofs.lemmas.Option.{slice_get-get_or}
 use Rattle.b67_lemmas.proofs.Places.{drop-get}
 use Rattle.b67_task_tables.specs.declared.tables.TaskRow.{TaskRow}
@@ -13,10 +13,7 @@ pub raised_none : (old : List ℕ) (r : TaskRow) → 120 ≤ r.parent → Raised
 raised_none old r high k n low e = rw (ne_eqb r.parent k (λ q. omega (arith, q, high, low))) e
 
 pub raised_by : (old new : List ℕ) (r : TaskRow) → ((v : ℕ) → slice_get old r.parent ≡ Some v → slice_get new r.parent ≡ Some (max v r.critical)) → ((q : ℕ) → q ≢ r.parent → slice_get new q ≡ slice_get old q) → Raised old new r
-raised_by old new r own others k n low e = elim (cases_eq r.parent k) [
-  | inl q ↦ rw (eq-eqb r.parent k q) (subst (λ (i : ℕ). slice_get new i ≡ Some (max n r.critical)) q (own n (ap (slice_get old) q ∙ e)))
-  | inr q ↦ rw (ne_eqb r.parent k q) (others k (λ z. q (sym z)) ∙ e)
-]
+raised_by old new r own others k n low e = grind arith
 
 -- the marks so far, with those of the rows that are left, are those of all rows
 abbrev pub MarksSoFar : List ℕ → List TaskRow → List TaskRow → Type 0
@@ -31,10 +28,7 @@ pub marks_first : (marks : List ℕ) (rows : List TaskRow) → marks ≡ replica
 marks_first marks rows e k low = (0, ap (λ (l : List ℕ). slice_get l k) e ∙ each_is 0 120 k low, (let g : max 0 (top_critical k rows) ≡ top_critical k rows = omega arith in g))
 
 step : (k n : ℕ) (r : TaskRow) (rest : List TaskRow) → (max (if r.parent == k then max n r.critical else n) (top_critical k rest)) ≡ max n (top_critical k (r ∷ rest))
-step k n r rest = elim (cases_eq r.parent k) [
-  | inl q ↦ rw (eq-eqb r.parent k q) (let g : max (max n r.critical) (top_critical k rest) ≡ max n (max r.critical (top_critical k rest)) = omega arith in g)
-  | inr q ↦ rw (ne_eqb r.parent k q) refl
-]
+step k n r rest = grind arith
 
 pub marks_more : (marks new : List ℕ) (rows : List TaskRow) (at : ℕ) (d : TaskRow) → at < length rows → MarksSoFar marks (drop at rows) rows → Raised marks new (get_or rows at d) → MarksSoFar new (drop (at + 1) rows) rows
 marks_more marks new rows at d low so raised k small =
@@ -52,6 +46,4 @@ marks_more marks new rows at d low so raised k small =
 pub marks_all : (marks : List ℕ) (rows : List TaskRow) (at : ℕ) → length rows ≤ at → MarksSoFar marks (drop at rows) rows → ShowsMarks marks rows
 marks_all marks rows at past so k small =
     let (n, here, e) = so k small in
-    let same : max n (top_critical k []) ≡ top_critical k rows = ap (λ (l : List TaskRow). max n (top_critical k l)) (sym (drop_past rows at past)) ∙ e in
-    let is : n ≡ top_critical k rows = omega (arith, same) in
-    here ∙ ap Some is
+    grind (arith, drop_past)

@@ -1,7 +1,7 @@
 -- The tables show the session without the tasks that ended, once their rows are out and who awaited one of them is ready.
 use Rattle.std.proofs.Common.{◌≡◌, ◌≢◌, ℕ, ◌≤◌, List, [], ◌∷◌, map, filter, length, not, Option, Some, None, true, false, refl, sym, ◌∙◌, ap, arith, inl, inr, ◌⊎◌, ⊎_elim, subst, ◌==◌}
 use Rattle.std.specs.List.{slice_get}
-use Rattle.std.proofs.lemmas.Bool.{cases_Bool, cases_eq, eq-eqb, ne_eqb, true≢false}
+use Rattle.std.proofs.lemmas.Bool.{cases_eq, eq-eqb, ne_eqb, true≢false}
 use Rattle.std.proofs.lemmas.List.{length-map}
 use Rattle.std.proofs.lemmas.Option.{same_Some, slice_get_past}
 use Rattle.std.proofs.lemmas.Simd.{map-map}
@@ -14,7 +14,7 @@ use Rattle.b67_model.specs.Keyed.{keyed}
 use Rattle.b67_law_order.proofs.Deaths.{IsClosed}
 use Rattle.b67_stack.specs.Represents.{Storage}
 use Rattle.b67_stack.specs.Stacks.{StackPlace}
-use Rattle.b67_layout.specs.Common.{Placement, slot_of, spot_in, base_spot, spots, address_of, AwaitsTask, WaitsAtCell, JobRow, JobCounts, shown, parent_slot, critical_disp, TaskShows, JobShows, JobsShow, RunningRow, Differ, TablesShow, RowsFit, SessionHolds, IsInOrderButCounts}
+use Rattle.b67_layout.specs.Common.{Placement, slot_of, spot_in, base_spot, spots, address_of, AwaitsTask, WaitsAtCell, JobRow, JobCounts, shown, parent_slot, critical_disp, TaskShows, JobsShow, RunningRow, Differ, TablesShow, RowsFit, SessionHolds, IsInOrderButCounts}
 use Rattle.b67_layout.specs.Rows as rows
 use Rattle.b67_layout.proofs.MachineViews.{with_course}
 use Rattle.b67_layout.proofs.Rows.{slot_below}
@@ -34,17 +34,11 @@ use Rattle.b67_task_end_tables.specs.Left.{freed_state, freed, row_is_kept, rows
 use Rattle.b67_task_end_tables.proofs.Kept.{kept_differ, kept_length}
 
 frames_like : (o' o : Option Task) → Like o' o → frames_of_task o' ≡ frames_of_task o
-frames_like None None l = refl
-frames_like (Some t') (Some t) l = l.frames
-frames_like None (Some t) l = absurd l
-frames_like (Some t') None l = absurd l
+frames_like o' o l = grind arith
 
 -- a row that stays
 pub stays_then : (j : ℕ) (numbers : List ℕ) (q : TaskRow) → row_is_kept j numbers q ≡ true → q.job ≡ j → among numbers q.number ≡ false
-stays_then j numbers q t e = elim (cases_Bool (among numbers q.number)) [
-  | inl a ↦ absurd (let w : false ≡ true = rw (eq-eqb q.job j e, a) at t in true≢false (sym w))
-  | inr a ↦ a
-]
+stays_then j numbers q t e = grind arith
 
 pub stays_if : (j : ℕ) (numbers : List ℕ) (q : TaskRow) → (q.job ≡ j → among numbers q.number ≡ false) → row_is_kept j numbers q ≡ true
 stays_if j numbers q f = elim (cases_eq q.job j) [ inl e ↦ rw (eq-eqb q.job j e) (ap not (f e)) | inr n ↦ rw (ne_eqb q.job j n) refl ]
@@ -62,11 +56,7 @@ freed_slot j numbers q = elim (cases_eq q.job j) [ inl e ↦ ap (λ (z : TaskRow
 freed_shows : (plan plan' : Placement) (j : ℕ) (job job' : Job) (t t' : Task) (numbers : List ℕ) → ((id : ℕ) → address_of plan' (spots plan' j job' t' id) ≡ address_of plan (spots plan j job t id))
     → (w : TaskState) (c : Condition) → state_of w ≡ shown plan j job t c → state_of (freed_state numbers w) ≡ shown plan' j job' t' (released numbers c)
 freed_shows plan plan' j job job' t t' numbers same states.Ready Ready e = refl
-freed_shows plan plan' j job job' t t' numbers same (states.Awaits n) (Awaits k) e =
-    let w : AwaitsTask n ≡ AwaitsTask k = e in
-    let is : n ≡ k = cc in
-    subst (λ (z : ℕ). state_of (freed_state numbers (states.Awaits n)) ≡ shown plan' j job' t' (released numbers (Awaits z))) is
-    (elim (cases_Bool (among numbers n)) [ inl b ↦ rw b refl | inr b ↦ rw b refl ])
+freed_shows plan plan' j job job' t t' numbers same (states.Awaits n) (Awaits k) e = grind arith
 freed_shows plan plan' j job job' t t' numbers same (states.WaitsAt mark offset) (WaitsAt frame off) e =
     e ∙ ap (λ (q : ℕ). WaitsAtCell q off) (sym (same frame))
 freed_shows plan plan' j job job' t t' numbers same states.Ready (Awaits k) e = (let w : rows.IsReady ≡ AwaitsTask k = e in let z : ⊥ = cc in absurd z)
@@ -146,9 +136,7 @@ module _ (x : Storage) (core : List Tagged) (r : Regs) (marks : List ℕ) (plan 
       ∙ ap (λ (n : ℕ). (spot_in n (base_spot m.constants.number) (frames_of_task q) c).disp) (slot_left m.constants.number parent (λ e. old parent (inl refl)))
 
   critical_other : (i : ℕ) → i ≢ m.constants.number → (job : Job) (c : ℕ) (parents : List ℕ) → critical_disp after_plan i job c parents ≡ critical_disp plan i job c parents
-  critical_other i ne job c [] = refl
-  critical_other i ne job c (parent ∷ above) =
-      ap (λ (n : ℕ). (spot_in n (base_spot i) (frames_of_task (keyed (λ (t : Task). t.number) parent job.tasks)) c).disp) (slot_left i parent (λ e. absurd (ne e)))
+  critical_other i ne job c parents = grind (arith, slot_left)
 
   spots_own : (t : Task) → Has m.progress.job.tasks t → among numbers t.number ≡ false → (id : ℕ) → spots after_plan m.constants.number job' (left_task t) id ≡ spots plan m.constants.number m.progress.job t id
   spots_own t i out id =
@@ -213,9 +201,7 @@ module _ (x : Storage) (core : List Tagged) (r : Regs) (marks : List ℕ) (plan 
   left_back : (u : Task) → Has job'.tasks u → (t : Task) × Has m.progress.job.tasks t × (among numbers t.number ≡ false) × (left_task t ≡ u)
   left_back u i =
       let b = has_map_back left_task (filter (λ (t : Task). not (among numbers t.number)) m.progress.job.tasks) u i in
-      let k = has_filter (λ (t : Task). not (among numbers t.number)) m.progress.job.tasks b.item b.among in
-      let out : among numbers b.item.number ≡ false = elim (cases_Bool (among numbers b.item.number)) [ inl e ↦ absurd (true≢false (sym k.1 ∙ ap not e)) | inr e ↦ e ] in
-      (b.item, k.0, out, b.is)
+      grind (arith, has_filter)
 
   -- each live task has a slot of its own still
   pub rows_fit : RowsFit after_plan after.jobs
@@ -246,33 +232,13 @@ module _ (x : Storage) (core : List Tagged) (r : Regs) (marks : List ℕ) (plan 
   rest_shows [] [] w = w
   rest_shows [] (q ∷ js) w = absurd w
   rest_shows (y ∷ ys) [] w = absurd w
-  rest_shows (y ∷ ys) (q ∷ js) w = (
-    record { dictionary = w.0.dictionary; segments = w.0.segments; rows = w.0.rows; limit = w.0.limit; made = w.0.made; next_task = w.0.next_task; numbers = w.0.numbers },
-    rest_shows ys js w.1,
-  )
+  rest_shows (y ∷ ys) (q ∷ js) w = grind (arith, rest_shows ys js w.1)
 
   jobs_left : (jobs : List SessionJob) (js : List JobRow) → keyed number_of m.constants.number jobs ≡ Some m → JobsShow plan jobs js → JobsShow after_plan (with_course jobs m.constants.number member'.progress) js
   jobs_left [] [] found w = w
   jobs_left [] (q ∷ js) found w = absurd w
   jobs_left (y ∷ ys) [] found w = absurd w
-  jobs_left (y ∷ ys) (q ∷ js) found w = elim (cases_Bool (number_of y == m.constants.number)) [
-    | inl t ↦
-        (let is : y ≡ m = same_Some y m (rw t at found) in
-        let here : JobShows after_plan (record y { progress = member'.progress }) q = record {
-          dictionary = w.0.dictionary;
-          segments = w.0.segments;
-          rows = w.0.rows;
-          limit = w.0.limit;
-          made = w.0.made ∙ ap (λ (z : SessionJob). z.progress.made) is;
-          next_task = w.0.next_task ∙ ap (λ (z : SessionJob). z.progress.job.next_task) is;
-          numbers = w.0.numbers ∙ ap (λ (z : SessionJob). z.progress.job.numbers) is;
-        } in
-        rw t (here, rest_shows ys js w.1))
-    | inr t ↦ rw t (
-      record { dictionary = w.0.dictionary; segments = w.0.segments; rows = w.0.rows; limit = w.0.limit; made = w.0.made; next_task = w.0.next_task; numbers = w.0.numbers },
-      jobs_left ys js (rw t at found) w.1,
-    )
-  ]
+  jobs_left (y ∷ ys) (q ∷ js) found w = grind (arith, rest_shows, jobs_left ys js)
 
   module _ (rs : List TaskRow) (few : length rs ≤ 120) (job_rows : List JobRow) (c : JobCounts) (shows : TablesShow plan s (map task_row rs) job_rows c) where
     abbrev pub left : List TaskRow
@@ -298,8 +264,7 @@ module _ (x : Storage) (core : List Tagged) (r : Regs) (marks : List ℕ) (plan 
     row_back row i =
         let a = has_map_back task_row left row i in
         let b = has_map_back (freed m.constants.number numbers) (filter (row_is_kept m.constants.number numbers) rs) a.item a.among in
-        let k = has_filter (row_is_kept m.constants.number numbers) rs b.item b.among in
-        subst RowShows (ap task_row b.is ∙ a.is) (row_shows b.item k.0 k.1)
+        grind (arith, has_filter, row_shows)
 
     row_in : (q : TaskRow) → Has rs q → row_is_kept m.constants.number numbers q ≡ true → Has (map task_row left) (task_row (freed m.constants.number numbers q))
     row_in q i st = has_map task_row left (freed m.constants.number numbers q) (has_map (freed m.constants.number numbers) (filter (row_is_kept m.constants.number numbers) rs) q (has_filter_in (row_is_kept m.constants.number numbers) rs q i st))

@@ -1,6 +1,6 @@
 -- The marks of the tables' rows are those on which live tasks depend.
-use Rattle.std.proofs.Common.{◌≡◌, ◌≢◌, ℕ, ◌<◌, ◌≤◌, max, List, [], ◌∷◌, map, Some, Option, true, refl, sym, ◌∙◌, ap, arith, inl, inr, ◌⊎◌, ⊎_elim, subst, ◌==◌}
-use Rattle.std.proofs.lemmas.Bool.{cases_Bool, cases_eq, eq-eqb, ne_eqb, eqb-true, true≢false}
+use Rattle.std.proofs.Common.{◌≡◌, ◌≢◌, ℕ, ◌<◌, ◌≤◌, max, List, [], ◌∷◌, map, Option, true, refl, sym, ◌∙◌, ap, arith, inl, inr, ◌⊎◌, ⊎_elim, subst, ◌==◌}
+use Rattle.std.proofs.lemmas.Bool.{cases_Bool, cases_eq, eqb-true, true≢false}
 use Rattle.std.proofs.lemmas.Option.{same_Some}
 use Rattle.b67_lemmas.specs.Lists.{Has}
 use Rattle.b67_lemmas.proofs.Members.{all_in, any_has, any_some, falls_same, has_map, has_map_back, keyed_has}
@@ -19,16 +19,8 @@ use Rattle.b67_task_end_tables.specs.Marks.{top_critical, ShowsMarks}
 
 pub top_high : (k : ℕ) (rs : List TaskRow) (q : TaskRow) → Has rs q → q.parent ≡ k → q.critical ≤ top_critical k rs
 top_high k [] q i e = absurd i
-top_high k (r ∷ rs) q (inl same) e =
-    let here : r.parent ≡ k = ap (λ (z : TaskRow). z.parent) same ∙ e in
-    let at : r.critical ≡ q.critical = ap (λ (z : TaskRow). z.critical) same in
-    rw (eq-eqb r.parent k here) (let g : q.critical ≤ max r.critical (top_critical k rs) = omega (arith, at) in g)
-top_high k (r ∷ rs) q (inr i) e =
-    let rest = top_high k rs q i e in
-    elim (cases_Bool (r.parent == k)) [
-      | inl t ↦ rw t (let g : q.critical ≤ max r.critical (top_critical k rs) = omega (arith, rest) in g)
-      | inr t ↦ rw t rest
-    ]
+top_high k (r ∷ rs) q (inl same) e = grind arith
+top_high k (r ∷ rs) q (inr i) e = grind (arith, top_high k rs q i e)
 
 pub top_low : (k n : ℕ) (rs : List TaskRow) → ((q : TaskRow) → Has rs q → q.parent ≡ k → q.critical ≤ n) → top_critical k rs ≤ n
 top_low k n [] low = omega arith
@@ -41,23 +33,12 @@ top_low k n (r ∷ rs) low =
 
 spot_low : (k : ℕ) (outer : ℕ → StackPlace) (fs : List Frame) (c : ℕ) → Has (identities fs) c → (spot_in k outer fs c).disp ≤ height fs
 spot_low k outer [] c i = absurd i
-spot_low k outer (f ∷ below) c i = elim (cases_eq f.identity c) [
-  | inl e ↦ rw (eq-eqb f.identity c e) (omega arith)
-  | inr ne ↦ (let there : Has (identities below) c = ⊎_elim (λ (e : f.identity ≡ c). absurd (ne e)) (λ z. z) i in let low = spot_low k outer below c there in rw (ne_eqb f.identity c ne) (omega (arith, low)))
-]
+spot_low k outer (f ∷ below) c i = grind (arith, spot_low k outer below c)
 
 -- where a critical frame is found is no higher than the mark
 mark_high : (job : Job) (k : ℕ) (outer : ℕ → StackPlace) (fs : List Frame) (c : ℕ) → Has (identities fs) c → is_critical job c ≡ true → (spot_in k outer fs c).disp ≤ critical_mark job fs
 mark_high job k outer [] c i t = absurd i
-mark_high job k outer (f ∷ below) c i t = elim (cases_eq f.identity c) [
-  | inl e ↦ (let here : is_critical job f.identity ≡ true = ap (is_critical job) e ∙ t in rw (eq-eqb f.identity c e, here) (omega arith))
-  | inr ne ↦
-      (let there : Has (identities below) c = ⊎_elim (λ (e : f.identity ≡ c). absurd (ne e)) (λ z. z) i in
-      elim (cases_Bool (is_critical job f.identity)) [
-        | inl e ↦ rw (ne_eqb f.identity c ne, e) (spot_low k outer below c there)
-        | inr e ↦ rw (ne_eqb f.identity c ne, e) (mark_high job k outer below c there t)
-      ])
-]
+mark_high job k outer (f ∷ below) c i t = grind (arith, spot_low, mark_high job k outer below c)
 
 -- the mark is at a critical frame, or there is none
 pub record MarkAt (job : Job) (k : ℕ) (outer : ℕ → StackPlace) (fs : List Frame) : Type 0 where
@@ -68,15 +49,7 @@ pub record MarkAt (job : Job) (k : ℕ) (outer : ℕ → StackPlace) (fs : List 
 
 mark_from : (job : Job) (k : ℕ) (outer : ℕ → StackPlace) (fs : List Frame) → (critical_mark job fs ≡ 0) ⊎ MarkAt job k outer fs
 mark_from job k outer [] = inl refl
-mark_from job k outer (f ∷ below) = elim (cases_Bool (is_critical job f.identity)) [
-  | inl e ↦ inr (record { frame = f.identity; among = inl refl; critical = e; at = rw (eq-eqb f.identity f.identity refl, e) refl })
-  | inr e ↦ elim (mark_from job k outer below) [
-    | inl z ↦ inl (rw e z)
-    | inr w ↦
-        (let ne : f.identity ≢ w.frame = λ q. true≢false (sym w.critical ∙ ap (is_critical job) (sym q) ∙ e) in
-        inr (record { frame = w.frame; among = inr w.among; critical = w.critical; at = rw (ne_eqb f.identity w.frame ne, e) w.at }))
-  ]
-]
+mark_from job k outer (f ∷ below) = grind (arith, mark_from job k outer below)
 
 module _ (plan : Placement) (s : Session) (numbered : NumberedFrom 1 s.jobs) (fits : RowsFit plan s.jobs) (few : plan.peak ≤ 120)
     (good : (y : SessionJob) → Has s.jobs y → TasksInOrder (IsSegment y.constants) y.constants y.progress.job)
@@ -111,9 +84,7 @@ module _ (plan : Placement) (s : Session) (numbered : NumberedFrom 1 s.jobs) (fi
     pub disp : critical_disp plan y.constants.number y.progress.job u.critical u.parents ≡ (spot_in (slot_of plan y.constants.number parent.number) (base_spot y.constants.number) parent.frames u.critical).disp
 
   pub under_of : (y : SessionJob) (u : Task) → Has s.jobs y → Has y.progress.job.tasks u → (ps : List ℕ) → u.parents ≡ ps → ((ps ≡ []) × (u.critical ≡ 0)) ⊎ Under y u
-  under_of y u in_y in_u [] e =
-      let birth = subst (BirthInOrder y.progress.job u) e (all_in (TaskInOrder (IsSegment y.constants) y.constants y.progress.job) y.progress.job.tasks u (good y in_y).tasks in_u).birth in
-      inl (refl, birth.1)
+  under_of y u in_y in_u [] e = grind (arith, all_in)
   under_of y u in_y in_u (p ∷ more) e =
       let birth : ParentInOrder y.progress.job u p more = subst (BirthInOrder y.progress.job u) e (all_in (TaskInOrder (IsSegment y.constants) y.constants y.progress.job) y.progress.job.tasks u (good y in_y).tasks in_u).birth in
       let found = keyed_has (λ (v : Task). v.number) p y.progress.job.tasks birth.parent birth.found in
@@ -139,13 +110,7 @@ module _ (plan : Placement) (s : Session) (numbered : NumberedFrom 1 s.jobs) (fi
 
   at_most : (m : SessionJob) (t : Task) → Has s.jobs m → Has m.progress.job.tasks t → (y : SessionJob) (u : Task) → Has s.jobs y → Has y.progress.job.tasks u → (q : TaskRow) → TaskShows plan y u (tables.task_row q) → (p : Under y u) → y ≡ m → p.parent.number ≡ t.number
       → q.critical ≤ critical_mark m.progress.job t.frames
-  at_most m t in_m in_t y u in_y in_u q w p same n =
-      let own : Has y.progress.job.tasks t = subst (λ (z : SessionJob). Has z.progress.job.tasks t) (sym same) in_t in
-      let is : p.parent ≡ t = one_task y in_y p.parent t p.live own n in
-      let yes : is_critical y.progress.job u.critical ≡ true = any_some (λ (v : Task). v.critical == u.critical) y.progress.job.tasks u in_u (eq-eqb u.critical u.critical refl) in
-      let high = mark_high y.progress.job (slot_of plan y.constants.number p.parent.number) (base_spot y.constants.number) p.parent.frames u.critical p.critical yes in
-      let to : critical_mark y.progress.job p.parent.frames ≡ critical_mark m.progress.job t.frames = ap (λ (v : Task). critical_mark y.progress.job v.frames) is ∙ ap (λ (z : SessionJob). critical_mark z.progress.job t.frames) same in
-      omega (arith, w.critical, p.disp, high, to)
+  at_most m t in_m in_t y u in_y in_u q w p same n = grind (arith, one_task, any_some, mark_high)
 
   at_least : (m : SessionJob) (t : Task) → Has s.jobs m → Has m.progress.job.tasks t → MarkAt m.progress.job (slot_of plan m.constants.number t.number) (base_spot m.constants.number) t.frames
       → critical_mark m.progress.job t.frames ≤ top_critical (slot_of plan m.constants.number t.number) rs
@@ -193,7 +158,4 @@ module _ (plan : Placement) (s : Session) (numbered : NumberedFrom 1 s.jobs) (fi
       omega (arith, zero)
 
   pub marks_show : (marks : List ℕ) → ShowsMarks marks rs → RepresentsCritical marks plan s.jobs
-  marks_show marks w = record {
-    live = λ m t in_m in_t. w (slot_of plan m.constants.number t.number) (omega (arith, slot_below plan s.jobs m t fits in_m in_t, few)) ∙ ap Some (top_is m t in_m in_t);
-    free = λ k low none. w k low ∙ ap Some (top_free k low none);
-  }
+  marks_show marks w = grind (arith, slot_below, top_is, top_free)

@@ -1,5 +1,5 @@
 -- What the code reads is what the need is made of.
-use Rattle.std.proofs.Common.{◌≡◌, ℕ, ◌+◌, ◌*◌, ◌^◌, ◌<◌, ◌≤◌, List, [], ◌∷◌, Option, Some, None, map, length, refl, sym, ◌∙◌, ap, arith, ⊎_elim}
+use Rattle.std.proofs.Common.{◌≡◌, ℕ, ◌+◌, ◌*◌, ◌^◌, ◌<◌, ◌≤◌, List, [], ◌∷◌, Option, map, length, sym, ◌∙◌, ap, arith, ⊎_elim}
 use Rattle.std.specs.Prelude.{sum_by, max, nat_lt, if◌then◌else◌}
 use Rattle.std.proofs.lemmas.List.{length-map}
 use Rattle.std.proofs.lemmas.Bool.{cases_eq, eq-eqb, ne_eqb}
@@ -55,23 +55,12 @@ pub area_low : (n : ℕ) → n < 2 ^ 16 → array_area n ≤ n + 2
 area_low n h = ⊎_elim (λ (e : n ≡ 0). rw (eq-eqb n 0 e) (omega arith)) (λ (ne : n ≡ 0 → ⊥). rw (ne_eqb n 0 ne) (omega arith)) (cases_eq n 0)
 
 area_same : (job : Job) (touched : Option ℕ) → HasWords job touched → area_of job touched ≡ array_area (touched_words job touched)
-area_same job None h = refl
-area_same job (Some a) h = rw (ne_eqb (length (array job a).numbers) 0 h) refl
+area_same job touched h = grind arith
 
 -- what a step needs: without a new stack and the array where that much isn't there, else with both
 pub need_whole : (core : ℕ) (s : Session) (m : SessionJob) (t : Task) → live_tasks s.jobs ≤ s.peak → (made : Answer Done) → made ≡ step m.constants m.progress.job t → HasWords m.progress.job (touched_of m.constants m.progress.job t made)
     → need core s m t ≡ (if nat_lt core (need_with s m t 0 0) then need_with s m t 0 0 else need_with s m t (started_by m.progress.job made) (touched_words m.progress.job (touched_of m.constants m.progress.job t made)))
-need_whole core s m t low made is h =
-    let code = length (code_of m.constants t.segment) + 2 in
-    let size = m.constants.stack_size in
-    let peak : max s.peak (live_tasks s.jobs + 0) ≡ s.peak = omega (arith, low) in
-    let base : fixed s.jobs + s.peak * size + code ≡ need_with s m t 0 0 = rw peak (omega arith) in
-    let full : fixed s.jobs + max s.peak (live_tasks s.jobs + started_by m.progress.job made) * size + code + area_of m.progress.job (touched_of m.constants m.progress.job t made) ≡ need_with s m t (started_by m.progress.job made) (touched_words m.progress.job (touched_of m.constants m.progress.job t made)) =
-    ap (λ (n : ℕ). fixed s.jobs + max s.peak (live_tasks s.jobs + started_by m.progress.job made) * size + code + n) (area_same m.progress.job (touched_of m.constants m.progress.job t made) h) in
-    let N : ℕ → ℕ → ℕ = λ b f. if nat_lt core b then b else f in
-    ap (λ (a : Answer Done). N (fixed s.jobs + s.peak * size + code) (fixed s.jobs + max s.peak (live_tasks s.jobs + started_by m.progress.job a) * size + code + area_of m.progress.job (touched_of m.constants m.progress.job t a))) (sym is)
-    ∙ ap (λ (b : ℕ). N b (fixed s.jobs + max s.peak (live_tasks s.jobs + started_by m.progress.job made) * size + code + area_of m.progress.job (touched_of m.constants m.progress.job t made))) base
-    ∙ ap (N (need_with s m t 0 0)) full
+need_whole core s m t low made is h = grind arith
 
 module _ (k : Machine) (s : Session) (m : SessionJob) (t : Task) (r : Read k s m t) (stacks peak size : ℕ)
     (peak_is : peak ≡ max k.cpu.regs.peak (length k.tasks.rows.items + stacks)) (size_is : size ≡ k.cpu.regs.stack_size) where
@@ -83,12 +72,7 @@ module _ (k : Machine) (s : Session) (m : SessionJob) (t : Task) (r : Read k s m
   stacks_low one = mul-le peak size 121 (2 ^ 14) (omega (arith, peak_same, one, r.few, r.within)) (omega (arith, size_is, r.small))
 
   pub need_is : (code words area : ℕ) → code ≡ length (code_of m.constants t.segment) → area ≡ array_area words → k.cpu.regs.stacks + peak * size + (code + 2) + area ≡ need_with s m t stacks words
-  need_is code words area code_is area_is =
-      let e : peak * size ≡ max s.peak (live_tasks s.jobs + stacks) * m.constants.stack_size = ap (λ (n : ℕ). n * size) peak_same ∙ ap (λ (n : ℕ). max s.peak (live_tasks s.jobs + stacks) * n) (size_is ∙ r.size) in
-      ap (λ (n : ℕ). n + peak * size + (code + 2) + area) r.stacks
-      ∙ ap (λ (n : ℕ). fixed s.jobs + n + (code + 2) + area) e
-      ∙ ap (λ (n : ℕ). fixed s.jobs + max s.peak (live_tasks s.jobs + stacks) * m.constants.stack_size + (n + 2) + area) code_is
-      ∙ ap (λ (n : ℕ). fixed s.jobs + max s.peak (live_tasks s.jobs + stacks) * m.constants.stack_size + (length (code_of m.constants t.segment) + 2) + n) area_is
+  need_is code words area code_is area_is = grind arith
 
 -- areas begin behind the dictionaries and the stacks of the slots used so far, so that without a new stack the need is
 -- what lies below them, the running segment's area and the array's
@@ -104,7 +88,4 @@ module _ (x : Storage) (told : Option (List (List ℕ))) (k : Machine) (plan : P
       ∙ ap (λ (n : ℕ). fixed s.jobs + s.peak * n) (sym slots.regs.size ∙ r.size)
 
   pub need_above_low : (words : ℕ) → need_with s m t 0 words ≡ k.areas.low + (length (code_of m.constants t.segment) + 2) + array_area words
-  need_above_low words =
-      let peak : max s.peak (live_tasks s.jobs + 0) ≡ s.peak = omega (arith, o.peak_low) in
-      ap (λ (n : ℕ). fixed s.jobs + n * m.constants.stack_size + (length (code_of m.constants t.segment) + 2) + array_area words) peak
-      ∙ ap (λ (n : ℕ). n + (length (code_of m.constants t.segment) + 2) + array_area words) (sym low_is)
+  need_above_low words = grind (arith, low_is)

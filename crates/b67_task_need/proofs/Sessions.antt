@@ -11,7 +11,7 @@ use Rattle.b67_lemmas.specs.Lists.{Has, total, how_many}
 use Rattle.b67_lemmas.proofs.Members.{all_in, has_flat, has_flat_back, has_map, has_map_back, has_reverse_back, keyed_falls, total_append, total_flat, total_map, total_reverse, total_same, total_zero, found-has}
 use Rattle.b67_lemmas.proofs.Sums.{sum_total, total_plus}
 use Rattle.b67_model.specs.Words as Words
-use Rattle.b67_model.specs.Common.{Word, Operand, Name, Ref, Row, Element, Original, Proc, Intrinsic, Frame, Array, Segment, JobConstants, Task, Job, SessionJob, sectors_for, sectors_of, sectors, Session, Starts, IsSegment, Known, known_of, OwnsArray, FramesInOrder, WordInOrder, EntryInOrder, is_original_of, originals_of, outer_of, rows_after, DictionaryWords, TaskInOrder, TasksInOrder}
+use Rattle.b67_model.specs.Common.{Word, Operand, Name, Ref, Row, Element, Original, Proc, Intrinsic, Frame, Array, Segment, JobConstants, Task, Job, SessionJob, sectors_for, sectors_of, sectors, Session, Starts, IsSegment, Known, OwnsArray, FramesInOrder, EntryInOrder, is_original_of, originals_of, outer_of, rows_after, DictionaryWords, TaskInOrder, TasksInOrder}
 use Rattle.b67_model.specs.Keyed.{keyed}
 use Rattle.b67_layout.specs.Common.{IsInOrderButCounts, Slotted, Placement, slot_of, spot_in, outer_spots, shape, head, activations, stack_of_task, slot_by, slot_at, array_object, code_objects, objects_of, machine_view, DictionariesFollow, RepresentsSession}
 use Rattle.b67_stack.specs.declared.Cpu.{Cpu}
@@ -42,11 +42,7 @@ abbrev cells_of : JobConstants → Job → List Word
 cells_of constants job = constants.dictionary.cells ++ flat_map cells_of_task job.tasks
 
 count_cells : (test : Word → Bool) (constants : JobConstants) (job : Job) → how_many test (cells_of constants job) ≡ how_many test constants.dictionary.cells + total (λ (t : Task). total (λ (f : Frame). how_many test f.cells) t.frames) job.tasks
-count_cells test constants job =
-    let one : Word → ℕ = λ w. if test w then 1 else 0 in
-    total_append one constants.dictionary.cells (flat_map cells_of_task job.tasks)
-    ∙ ap (λ (n : ℕ). how_many test constants.dictionary.cells + n)
-    (total_flat cells_of_task one job.tasks ∙ total_same (λ (t : Task). total one (cells_of_task t)) (λ (t : Task). total (λ (f : Frame). how_many test f.cells) t.frames) job.tasks (λ t there. total_flat (λ (f : Frame). f.cells) one t.frames))
+count_cells test constants job = grind (arith, total_append, total_flat)
 
 -- a job's cells keep what its arrays do
 job_kept : (constants : JobConstants) (job : Job) → TasksInOrder (IsSegment constants) constants job
@@ -58,9 +54,7 @@ job_kept constants job o =
 -- the original in a frame is that of a live array
 frame_owns : (P : Starts) (arrays : List Array) (outer : List Known) (fs : List Frame) (g : Frame) (w : Word) → FramesInOrder P arrays outer fs → Has fs g → Has g.cells w → (a : ℕ) → w ≡ Original a → OwnsArray arrays g.identity a
 frame_owns P arrays outer [] g w o h i a e = absurd h
-frame_owns P arrays outer (f ∷ below) g w o (inl z) i a e =
-    subst (λ (y : Frame). OwnsArray arrays y.identity a) z
-    (all_in (WordInOrder P arrays (map known_of (f ∷ below) ++ outer) f.identity) f.cells (Original a) o.0.0 (subst (Has f.cells) e (subst (λ (y : Frame). Has y.cells w) (sym z) i)))
+frame_owns P arrays outer (f ∷ below) g w o (inl z) i a e = grind (arith, all_in)
 frame_owns P arrays outer (f ∷ below) g w o (inr h) i a e = frame_owns P arrays outer below g w o.2 h i a e
 
 -- words that begin with those of segments
@@ -117,8 +111,7 @@ module _ (x : Storage) (cpu : Cpu) (plan : Placement) (s : Session) (o : IsInOrd
         omega (arith, i, h.holds.memory.directory.small)
 
   no_code : (w : Bool) → (if w then kind.Array else kind.Row) ≢ kind.Code
-  no_code true = λ e. cc
-  no_code false = λ e. cc
+  no_code w = grind arith
 
   -- the word at an array's home
   array_at : (m : SessionJob) (a : Array) → Has s.jobs m → Has m.progress.job.arrays a → (code : Bool) → sectors_at code (slice_get cpu.core (plan.home m.constants.number a.identity)) ≡ sectors_for (length a.numbers)
@@ -129,9 +122,7 @@ module _ (x : Storage) (cpu : Cpu) (plan : Placement) (s : Session) (o : IsInOrd
       ap (sectors_at code) (h.holds.memory.objects t there).home ∙ home_array (length a.numbers) (x.held t.home) short (address_small t there) code t.kind (no_code a.writable)
 
   original_at : (m : SessionJob) → Has s.jobs m → (owner n : ℕ) → OwnsArray m.progress.job.arrays owner n → (code : Bool) → sectors_at code (slice_get cpu.core (plan.home m.constants.number n)) ≡ kept m.progress.job.arrays (Original n)
-  original_at m inm owner n own code =
-      let P : ℕ → Type 0 = λ i. sectors_at code (slice_get cpu.core (plan.home m.constants.number i)) ≡ kept m.progress.job.arrays (Original i) in
-      subst P own.named (array_at m own.item inm own.live code ∙ sym (kept_original m.progress.job.next_array m.progress.job.arrays own.item (job_in_order s m o inm).tasks.names own.live))
+  original_at m inm owner n own code = grind (arith, array_at, kept_original, job_in_order)
 
   nothing : (m : SessionJob) (w : Word) → ((a : Array) → is_original_of a.identity w ≡ false) → 0 ≡ kept m.progress.job.arrays w
   nothing m w misses = sym (total_zero (λ (a : Array). if is_original_of a.identity w then sectors_for (length a.numbers) else 0) m.progress.job.arrays (λ a there. rw (misses a) refl))
@@ -271,10 +262,7 @@ module _ (x : Storage) (cpu : Cpu) (plan : Placement) (s : Session) (o : IsInOrd
       let d = h.holds.dictionaries m inm in
       let one = range_first true cpu.core at (2 + n) (1 + n) (omega arith) in
       let two = range_first true cpu.core (at + 1) (1 + n) n (omega arith) in
-      let mark : sectors_at true (slice_get cpu.core at) ≡ 0 = ap (sectors_at true) d.mark in
-      let entries : sectors_at true (slice_get cpu.core (at + 1)) ≡ 0 = ap (sectors_at true) d.entries in
-      let here : at + 1 + 1 ≡ at + 2 = omega arith in
-      omega (arith, one, two, mark, entries, ap (λ (i : ℕ). core_sectors_from true cpu.core i n) here, entries_kept m inm)
+      grind (arith, entries_kept)
 
   dictionaries_kept : (at n : ℕ) (ms : List SessionJob) → DictionariesFollow plan at ms → at + n ≡ plan.stacks → ((m : SessionJob) → Has ms m → Has s.jobs m) → core_sectors_from true cpu.core at n ≡ total of_dictionary ms
   dictionaries_kept at n [] d e inside = ap (core_sectors_from true cpu.core at) (let z : n ≡ 0 = omega (arith, d, e) in z)

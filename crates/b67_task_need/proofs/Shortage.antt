@@ -1,8 +1,6 @@
 -- A present array that keeps no chain is one of a job of the session.
-use Rattle.std.proofs.Common.{◌≡◌, ℕ, ◌+◌, List, [], ◌∷◌, map, flat_map, length, refl, sym, ◌∙◌, ap, inl, inr, ◌⊎◌}
-use Rattle.std.proofs.lemmas.Option.{none-some}
+use Rattle.std.proofs.Common.{◌≡◌, ℕ, ◌+◌, List, [], ◌∷◌, map, flat_map, refl, sym, ◌∙◌, ap, inl, inr, ◌⊎◌, arith}
 use Rattle.b67_area.specs.declared.kinds.Kind.TheVariants as kind
-use Rattle.b67_backing.specs.Held.{sectors_for}
 use Rattle.b67_lemmas.specs.Lists.{Has}
 use Rattle.b67_lemmas.proofs.Members.{has_append_cases, has_map_back}
 use Rattle.b67_model.specs.State.{Array, Segment, SessionJob}
@@ -39,18 +37,4 @@ owner plan (m ∷ more) t k h = either (has_append_cases (objects_of plan m) (fl
   either (inr rest) behind = let r = behind rest in record { member = r.member; in_session = inr r.in_session; array = r.array; among = r.among; is = r.is }
 
 pub short_of : (y : Storage) (plan : Placement) (jobs : List SessionJob) (wants free : ℕ) → IsShortBy y (machine_view plan jobs) wants free → IsShortOf y plan jobs wants free
-short_of y plan jobs wants free w =
-    let o = owner plan jobs w.object w.short.kind w.present.there in
-    let home : plan.home o.member.constants.number o.array.identity ≡ w.object.home = ap (λ (u : PagedObject). u.home) o.is in
-    let count : length o.array.numbers ≡ length w.object.numbers = ap (λ (u : PagedObject). length u.numbers) o.is in
-    record {
-      member = o.member;
-      in_session = o.in_session;
-      array = o.array;
-      among = o.among;
-      present = λ e. none-some w.at (sym e ∙ ap (λ (q : ℕ). (y.held q).area) home ∙ w.present.present);
-      unkept = ap (λ (q : ℕ). (y.held q).chain) home ∙ w.short.none;
-      wants_is = w.wants_is ∙ ap sectors_for (sym count);
-      free_is = w.free_is;
-      fewer = rw (w.wants_is, w.free_is) w.short.few;
-    }
+short_of y plan jobs wants free w = grind (arith, owner)

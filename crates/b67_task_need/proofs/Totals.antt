@@ -1,8 +1,8 @@
 -- Totals over slots, over ranges of core, and over the cells of a job.
-use Rattle.std.proofs.Common.{◌≡◌, ◌≢◌, ℕ, zero, suc, ◌+◌, ◌<◌, ◌==◌, Bool, true, false, List, [], ◌∷◌, map, length, refl, sym, ◌∙◌, ap, arith, inl, inr, ⊎_elim, subst}
+use Rattle.std.proofs.Common.{◌≡◌, ◌≢◌, ℕ, zero, suc, ◌+◌, ◌<◌, ◌==◌, Bool, List, [], ◌∷◌, map, length, refl, sym, ◌∙◌, ap, arith, inl, inr, ⊎_elim, subst}
 use Rattle.std.specs.Prelude.{if◌then◌else◌}
 use Rattle.std.specs.List.{slice_get}
-use Rattle.std.proofs.lemmas.Bool.{cases_Bool, cases_eq, eq-eqb, ne_eqb}
+use Rattle.std.proofs.lemmas.Bool.{cases_eq, eq-eqb, ne_eqb}
 use Rattle.b67_word.specs.Tagged.{Tagged}
 use Rattle.b67_lemmas.specs.Lists.{Has, Falls, total, how_many}
 use Rattle.b67_lemmas.proofs.Members.{falls_low, has_map, total_same, total_zero}
@@ -45,22 +45,13 @@ upto-but k h (suc n) low = ⊎_elim
 -- the numbers at which a function isn't 0 are some of a list
 pub slots_total : (h : ℕ → ℕ) (n : ℕ) (ks : List ℕ) → Differ ks → ((k : ℕ) → Has ks k → k < n) → ((k : ℕ) → k < n → h k ≢ 0 → Has ks k) → upto h n ≡ total h ks
 slots_total h n [] d low all = upto-zero h n (λ k less. ⊎_elim (λ (e : h k ≡ 0). e) (λ (ne : h k ≡ 0 → ⊥). absurd (all k less ne)) (cases_eq (h k) 0))
-slots_total h n (k ∷ ks) d low all =
-    let rest = slots_total (but k h) n ks d.1 (λ i there. low i (inr there))
-    (λ i less some. ⊎_elim
-    (λ (e : i ≡ k). absurd (some (ap (but k h) e ∙ but-here k h)))
-    (λ (ne : i ≡ k → ⊥). ⊎_elim (λ (e : k ≡ i). absurd (ne (sym e))) (λ (there : Has ks i). there) (all i less (λ z. some (but-other k h i ne ∙ z))))
-    (cases_eq i k)) in
-    let same = total_same (but k h) h ks (λ i there. but-other k h i (λ (e : i ≡ k). d.0 (subst (Has ks) e there))) in
-    omega (arith, upto-but k h n (low k (inl refl)), rest, same)
+slots_total h n (k ∷ ks) d low all = grind (arith, but-other, total_same, upto-but, slots_total (but k h) n ks d.1)
 
 -- a range in two
 pub range_split : (code : Bool) (core : List Tagged) (from a n b : ℕ) → n ≡ a + b → core_sectors_from code core from n ≡ core_sectors_from code core from a + core_sectors_from code core (from + a) b
 range_split code core from a n zero e = omega (arith, ap (core_sectors_from code core from) (let z : n ≡ a = omega (arith, e) in z))
 range_split code core from a zero (suc b) e = absurd (omega (arith, e))
-range_split code core from a (suc n) (suc b) e =
-    let at : from + n ≡ from + a + b = omega (arith, e) in
-    omega (arith, range_split code core from a n b (omega (arith, e)), ap (λ (i : ℕ). sectors_at code (slice_get core i)) at)
+range_split code core from a (suc n) (suc b) e = grind (arith, range_split code core from a n b)
 
 pub range_first : (code : Bool) (core : List Tagged) (from n b : ℕ) → n ≡ b + 1 → core_sectors_from code core from n ≡ sectors_at code (slice_get core from) + core_sectors_from code core (from + 1) b
 range_first code core from n b e =
@@ -73,17 +64,11 @@ kept arrays w = total (λ (a : Array). if is_original_of a.identity w then secto
 
 no_hit : {A : Type 0} (test : A → Bool) (c : ℕ) (xs : List A) → how_many test xs ≡ 0 → total (λ x. if test x then c else 0) xs ≡ 0
 no_hit test c [] e = refl
-no_hit test c (x ∷ xs) e = ⊎_elim
-    (λ (t : test x ≡ true). absurd (let z : 1 + how_many test xs ≡ 0 = rw t at e in omega (arith, z)))
-    (λ (t : test x ≡ false). let z : 0 + how_many test xs ≡ 0 = rw t at e in rw t (omega (arith, no_hit test c xs (omega (arith, z)))))
-    (cases_Bool (test x))
+no_hit test c (x ∷ xs) e = grind (arith, no_hit test c xs)
 
 one_hit : {A : Type 0} (test : A → Bool) (c : ℕ) (xs : List A) → how_many test xs ≡ 1 → total (λ x. if test x then c else 0) xs ≡ c
 one_hit test c [] e = absurd (omega (arith, e))
-one_hit test c (x ∷ xs) e = ⊎_elim
-    (λ (t : test x ≡ true). let z : 1 + how_many test xs ≡ 1 = rw t at e in rw t (omega (arith, no_hit test c xs (omega (arith, z)))))
-    (λ (t : test x ≡ false). let z : 0 + how_many test xs ≡ 1 = rw t at e in rw t (omega (arith, one_hit test c xs (omega (arith, z)))))
-    (cases_Bool (test x))
+one_hit test c (x ∷ xs) e = grind (arith, no_hit, one_hit test c xs)
 
 -- where each array has one original among some words, these keep what the arrays do
 pub kept_once : (arrays : List Array) (ws : List Word) → ((a : Array) → Has arrays a → how_many (is_original_of a.identity) ws ≡ 1) → total (kept arrays) ws ≡ total (λ (a : Array). sectors_for (length a.numbers)) arrays

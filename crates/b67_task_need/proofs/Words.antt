@@ -1,15 +1,15 @@
 -- What the words of stacks and of dictionaries keep.
-use Rattle.std.proofs.Common.{◌≡◌, ◌≢◌, ℕ, ◌+◌, ◌*◌, ◌^◌, ◌/◌, ◌%◌, ◌<◌, Bool, true, false, List, [], ◌∷◌, length, Some, refl, sym, ◌∙◌, ap, arith}
+use Rattle.std.proofs.Common.{◌≡◌, ◌≢◌, ℕ, ◌+◌, ◌*◌, ◌^◌, ◌/◌, ◌%◌, ◌<◌, Bool, true, false, List, [], ◌∷◌, length, Some, refl, ◌∙◌, ap, arith}
 use Rattle.std.specs.List.{slice_get}
 use Rattle.std.proofs.lemmas.Bool.{eq-eqb, ne_eqb}
 use Rattle.b67_word.specs.Tagged.{Tagged, bits_at}
 use Rattle.b67_area.specs.declared.Kind.{Kind}
-use Rattle.b67_area.specs.declared.Kind.TheVariants.{Array, Row, Code}
+use Rattle.b67_area.specs.declared.Kind.TheVariants.{Code}
 use Rattle.b67_ctl.specs.Layout.{flag_bit}
 use Rattle.b67_lemmas.specs.Lists.{total}
 use Rattle.b67_model.specs.Sectors.{sectors_for}
 use Rattle.b67_stack.specs.Shapes as Shapes
-use Rattle.b67_stack.specs.Common.{Location, Locations, Shape, Is, Copy, Fits, LieDownward, is_indexed, Head, Marked, Entered, Activation, headed, is_present, address_or, home_word_of}
+use Rattle.b67_stack.specs.Common.{Location, Locations, Shape, Is, Copy, Fits, LieDownward, Head, Activation, headed, is_present, address_or, home_word_of}
 use Rattle.b67_stack.proofs.Homes.{bit-lt}
 use Rattle.b67_task_need.specs.Sums.{sectors_of_word, sectors_at, core_sectors_from}
 
@@ -45,9 +45,7 @@ is_plain w t = rw (ne_eqb w.tag 5 t) refl
 -- the word at the home of an object
 module _ (n : ℕ) (h : Location) (short : n < 2 ^ 16) (low : address_or h.area h.chain < 2 ^ 20) where
   pub home_array : (code : Bool) (k : Kind) → k ≢ Code → sectors_of_word code (home_word_of k n h) ≡ sectors_for n
-  home_array code Array ne = is_data code (home_word_of Array n h) n refl (own_bit (flag_bit (is_present h.area)) 0 n (address_or h.area h.chain) (bit-lt (is_present h.area)) (omega arith) short low) (own_length (flag_bit (is_present h.area)) 0 n (address_or h.area h.chain) (bit-lt (is_present h.area)) (omega arith) short low)
-  home_array code Row ne = is_data code (home_word_of Row n h) n refl (own_bit (flag_bit (is_present h.area)) 1 n (address_or h.area h.chain) (bit-lt (is_present h.area)) (omega arith) short low) (own_length (flag_bit (is_present h.area)) 1 n (address_or h.area h.chain) (bit-lt (is_present h.area)) (omega arith) short low)
-  home_array code Code ne = absurd (ne refl)
+  home_array code k ne = grind arith
 
   pub home_code : sectors_of_word true (home_word_of Code n h) ≡ sectors_for n
   home_code = is_code (home_word_of Code n h) n refl (code_bit (flag_bit (is_present h.area)) n (address_or h.area h.chain) (bit-lt (is_present h.area)) short low) (code_length (flag_bit (is_present h.area)) n (address_or h.area h.chain) (bit-lt (is_present h.area)) short low)
@@ -59,18 +57,11 @@ of_shape core (Shapes.Original home) = sectors_at false (slice_get core home)
 of_shape core (Copy c home) = 0
 
 word_fits : (held : Locations) (core : List Tagged) (c : Shape) (at : ℕ) (w : Tagged) → slice_get core at ≡ Some w → Fits held c at w → sectors_of_word false w ≡ of_shape core c
-word_fits held core (Is v) at w get f = is_plain w (λ z. f.1 (ap (λ (u : Tagged). u.tag) (sym f.0) ∙ z))
-word_fits held core (Shapes.Original home) at w get f = ap (sectors_at false) (sym get ∙ ap (slice_get core) f.0)
-word_fits held core (Copy c home) at w get f =
-    ap (sectors_of_word false) f.is
-    ∙ is_copy _ refl (copy_bit (flag_bit f.present) (flag_bit (is_indexed c.index)) (flag_bit c.read_only) f.number f.address (bit-lt f.present) (bit-lt (is_indexed c.index)) (bit-lt c.read_only) f.fits.words f.fits.address)
+word_fits held core c at w get f = grind arith
 
 pub lies_total : (held : Locations) (core : List Tagged) (from : ℕ) (xs : List Shape) → LieDownward (Fits held) core from xs → core_sectors_from false core from (length xs) ≡ total (of_shape core) xs
 lies_total held core from [] l = refl
-lies_total held core from (a ∷ more) l =
-    let here : sectors_at false (slice_get core (from + length more)) ≡ of_shape core a = ap (sectors_at false) l.0.1 ∙ word_fits held core a (from + length more) l.0.0 l.0.1 l.0.2 in
-    omega (arith, here, lies_total held core from more l.1)
+lies_total held core from (a ∷ more) l = grind (arith, lies_total held core from more l.1)
 
 pub headed_total : (core : List Tagged) (k : ℕ) (h : Head) (below : List Activation) (under : List Shape) → total (of_shape core) (headed k h below under) ≡ total (of_shape core) under
-headed_total core k Marked below under = omega arith
-headed_total core k (Entered level environment back) below under = omega arith
+headed_total core k h below under = grind arith

@@ -1,5 +1,5 @@
 -- In a session that is in order each copy on a stack is one of an array of the session.
-use Rattle.std.proofs.Common.{◌≡◌, ◌≢◌, ℕ, List, [], ◌∷◌, map, Option, Some, None, refl, sym, ◌∙◌, ap, inl, inr, ⊎_elim, Bool, true, false, subst, if◌then◌else◌}
+use Rattle.std.proofs.Common.{◌≡◌, ◌≢◌, ℕ, List, [], ◌∷◌, map, Option, Some, None, refl, sym, ◌∙◌, inl, inr, ⊎_elim, Bool, true, false, subst, if◌then◌else◌, arith}
 use Rattle.std.specs.Prelude.{flat_map, ◌==◌}
 use Rattle.std.specs.List.{AllByRecursion}
 use Rattle.b67_word.specs.Tagged.{Tagged}
@@ -7,22 +7,17 @@ use Rattle.b67_area.specs.declared.Kind.TheVariants as kind
 use Rattle.b67_lemmas.specs.Lists.{Has}
 use Rattle.b67_lemmas.proofs.Members.{all_in, has_append_cases, has_append_right, has_flat, has_map, has_map_back, keyed_has}
 use Rattle.b67_model.specs.Keyed.{keyed}
-use Rattle.b67_model.specs.Words as Words
-use Rattle.b67_model.specs.Common.{Word, Operand, Name, Ref, Row, Element, Original, Proc, Intrinsic, Frame, Array, Task, Job, SessionJob, number_of, Session, Starts, IsSegment, Known, WordInOrder, FramesInOrder, TaskInOrder, outer_of}
-use Rattle.b67_layout.specs.Common.{JobInOrderButCounts, IsInOrderButCounts, Slotted, Placement, spot_in, outer_spots, shape, activations, stack_of_task, slot_with, slot_in, slot_by, slot_at, array_object, code_objects, objects_of, machine_view, with_objects}
+use Rattle.b67_model.specs.Common.{Word, Row, Original, Frame, Array, Task, Job, SessionJob, number_of, Session, Starts, IsSegment, Known, WordInOrder, FramesInOrder, outer_of}
+use Rattle.b67_layout.specs.Common.{IsInOrderButCounts, Slotted, Placement, spot_in, outer_spots, shape, activations, stack_of_task, slot_with, slot_in, slot_by, slot_at, array_object, code_objects, objects_of, machine_view, with_objects}
 use Rattle.b67_stack.specs.Shapes as Shapes
-use Rattle.b67_stack.specs.Common.{Shape, Is, Copy, Copied, StackPlace, Head, Marked, Entered, Activation, headed, words, PagedObject, Slot, Free, Running, Waiting, stack_of, SlotFits, CopiesName}
+use Rattle.b67_stack.specs.Common.{Shape, Is, Copy, Copied, StackPlace, Head, Activation, headed, words, PagedObject, Slot, Free, Running, Waiting, stack_of, SlotFits, CopiesName}
 
 -- a descriptor's shape
 abbrev pub IsDescriptor : Shape → Type 0
 IsDescriptor a = (w : Tagged) → Is w ≢ a
 
 headed_descriptor : (k : ℕ) (h : Head) (below : List Activation) (under : List Shape) (a : Shape) → IsDescriptor a → Has (headed k h below under) a → Has under a
-headed_descriptor k Marked below under a n (inl e) = absurd (n _ e)
-headed_descriptor k Marked below under a n (inr i) = i
-headed_descriptor k (Entered level environment back) below under a n (inl e) = absurd (n _ e)
-headed_descriptor k (Entered level environment back) below under a n (inr (inl e)) = absurd (n _ e)
-headed_descriptor k (Entered level environment back) below under a n (inr (inr i)) = i
+headed_descriptor k h below under a n e = grind arith
 
 -- a descriptor on a stack is a cell
 pub record IsCell (stack : List Activation) (a : Shape) : Type 0 where
@@ -32,12 +27,7 @@ pub record IsCell (stack : List Activation) (a : Shape) : Type 0 where
 
 pub words_descriptor : (k : ℕ) (stack : List Activation) (a : Shape) → IsDescriptor a → Has (words k stack) a → IsCell stack a
 words_descriptor k [] a n h = absurd h
-words_descriptor k (e ∷ below) a n h = ⊎_elim
-    (λ (i : Has e.cells a). let r : IsCell (e ∷ below) a = record { activation = e; among = inl refl; cell = i } in r)
-    (λ (i : Has (headed k e.head below (words k below)) a).
-    let q = words_descriptor k below a n (headed_descriptor k e.head below (words k below) a n i) in
-    let r : IsCell (e ∷ below) a = record { activation = q.activation; among = inr q.among; cell = q.cell } in r)
-    (has_append_cases e.cells (headed k e.head below (words k below)) a h)
+words_descriptor k (e ∷ below) a n h = grind (arith, has_append_cases, words_descriptor k below a n)
 
 -- the word of a frame that it represents
 pub record IsWord (plan : Placement) (j : ℕ) (job : Job) (frames : List Frame) (a : Shape) : Type 0 where
@@ -54,9 +44,7 @@ module _ (plan : Placement) (j : ℕ) (job : Job) (k : ℕ) (outer : ℕ → Sta
   cell_word (f ∷ below) a e (inl q) i =
       let r = has_map_back (shape plan j job (spot_in k outer (f ∷ below))) f.cells a (subst (λ (b : Activation). Has b.cells a) (sym q) i) in
       record { frame = f; among = inl refl; spot = spot_in k outer (f ∷ below); word = r.item; cell = r.among; is = r.is }
-  cell_word (f ∷ below) a e (inr h) i =
-      let r = cell_word below a e h i in
-      record { frame = r.frame; among = inr r.among; spot = r.spot; word = r.word; cell = r.cell; is = r.is }
+  cell_word (f ∷ below) a e (inr h) i = grind (arith, cell_word below a e h i)
 
 -- the array of a copy
 abbrev pub home_of : Shape → ℕ
@@ -66,15 +54,7 @@ home_of (Copy c home) = home
 
 module _ (plan : Placement) (j : ℕ) (job : Job) (spot : ℕ → StackPlace) (P : Starts) (reach : List Known) (owner : ℕ) where
   copy_named : (v : Word) (c : Copied) (home : ℕ) → shape plan j job spot v ≡ Copy c home → WordInOrder P job.arrays reach owner v → (a : Array) × Has job.arrays a × (plan.home j a.identity ≡ home)
-  copy_named (Row a) c home e o = (o.item, o.live, ap (plan.home j) o.named ∙ ap home_of e)
-  copy_named (Element a index) c home e o = (o.item, o.live, ap (plan.home j) o.named ∙ ap home_of e)
-  copy_named (Operand bits) c home e o = absurd cc
-  copy_named (Name couple) c home e o = absurd cc
-  copy_named (Ref frame offset) c home e o = absurd cc
-  copy_named (Original a) c home e o = absurd cc
-  copy_named (Proc segment level place) c home e o = absurd cc
-  copy_named (Intrinsic n) c home e o = absurd cc
-  copy_named (Words.Segment n) c home e o = absurd cc
+  copy_named v c home e o = grind arith
 
 -- a frame's words are in order, by some reach
 pub record FrameWords (P : Starts) (arrays : List Array) (f : Frame) : Type 0 where
@@ -89,14 +69,11 @@ frame_words P arrays outer (g ∷ below) f o (inl e) =
 frame_words P arrays outer (g ∷ below) f o (inr h) = frame_words P arrays outer below f o.2 h
 
 pub array_kind : (b : Bool) → (if b then kind.Array else kind.Row) ≢ kind.Code
-array_kind true e = cc
-array_kind false e = cc
+array_kind b e = grind arith
 
 -- in a session in order each task's frames are
 pub frames_in_order : (s : Session) → IsInOrderButCounts s → (m : SessionJob) (t : Task) → Has s.jobs m → Has m.progress.job.tasks t → FramesInOrder (IsSegment m.constants) m.progress.job.arrays (outer_of m.progress.job t) t.frames
-frames_in_order s o m t inm int =
-    let order = all_in (λ (n : SessionJob). JobInOrderButCounts (IsSegment n.constants) n.constants n.progress) s.jobs m o.jobs inm in
-    (all_in (TaskInOrder (IsSegment m.constants) m.constants m.progress.job) m.progress.job.tasks t order.tasks.tasks int).frames
+frames_in_order s o m t inm int = grind (arith, all_in)
 
 module _ (plan : Placement) (s : Session) (o : (m : SessionJob) (t : Task) → Has s.jobs m → Has m.progress.job.tasks t → FramesInOrder (IsSegment m.constants) m.progress.job.arrays (outer_of m.progress.job t) t.frames) where
   abbrev objects : List PagedObject

@@ -1,8 +1,7 @@
 -- The machine represents the objects but one, whose area and chain are free.
-use Rattle.std.proofs.Common.{◌≡◌, ◌≢◌, ℕ, suc, ◌<◌, ◌≤◌, ◌==◌, List, [], length, Some, refl, sym, ◌∙◌, ap, arith, inl, inr, ◌⊎◌, ⊎_elim, Bool, true, false, subst}
-use Rattle.std.specs.Prelude.{MatchBool}
+use Rattle.std.proofs.Common.{◌≡◌, ◌≢◌, ℕ, suc, ◌<◌, ◌≤◌, ◌==◌, List, [], length, Some, sym, ◌∙◌, ap, arith, ◌⊎◌, ⊎_elim, subst}
 use Rattle.std.specs.List.{slice_get}
-use Rattle.std.proofs.lemmas.Bool.{cases_eq, cond-true, eq-eqb, ne_eqb}
+use Rattle.std.proofs.lemmas.Bool.{cases_eq}
 use Rattle.std.proofs.lemmas.Option.{same_Some, none-some}
 use Rattle.b67_word.specs.Tagged.{Tagged}
 use Rattle.b67_area.specs.declared.Info.{Info}
@@ -11,12 +10,11 @@ use Rattle.b67_backing.specs.Shelf.{Shelf, Table, IsShelf, chain_of}
 use Rattle.b67_backing.proofs.News.{chain_of-others, chain_of-given}
 use Rattle.b67_ctl.specs.declared.registers.Regs.{Regs}
 use Rattle.b67_lemmas.specs.Lists.{Has}
-use Rattle.b67_stack.specs.Common.{Location, Locations, Shape, Is, Original, Copy, Copied, Fits, nowhere, words, PagedObject, MachineView, Slot, Free, Running, Waiting, stack_of, slot_base, SlotFits, CopiesName, home_word, Storage, RepresentsSlot, StacksLie, RepresentsObject, Content, ObjectHasChain, Owned, Represents, info_of, with_held, ChainStays}
+use Rattle.b67_stack.specs.Common.{Location, Locations, Shape, Copy, Copied, Fits, nowhere, words, PagedObject, MachineView, Slot, stack_of, slot_base, SlotFits, CopiesName, Storage, RepresentsSlot, StacksLie, RepresentsObject, ObjectHasChain, Owned, Represents, info_of, with_held, ChainStays}
 use Rattle.b67_stack.proofs.Lies.{Lie-each}
 use Rattle.b67_stack.proofs.Helds.{held-other, held-same}
 use Rattle.b67_stack.proofs.Reheld.{Content-stays}
-use Rattle.b67_stack.proofs.Unchanged.{area_of_object, home_below, slot_below, base_low}
-use Rattle.b67_layout_storage.proofs.Chained.{Content-chain}
+use Rattle.b67_stack.proofs.Unchanged.{area_of_object, slot_below, base_low}
 use Rattle.b67_task_release.specs.Released.{without_chain, storage_released, of_objects, Drops, Vacated}
 
 sectors_some : (x : Storage) (t : PagedObject) (f : ℕ) → 0 < length t.numbers → ObjectHasChain x t f → 1 ≤ length (chain_of f x.shelf.chains)
@@ -24,34 +22,17 @@ sectors_some x t f some h = omega (arith, h.sectors)
 
 -- the chains but one, where that is free
 pub chains_other : (f g : ℕ) (st : Shelf) → g ≢ f → chain_of g (without_chain f st).chains ≡ chain_of g st.chains
-chains_other f g st n = ⊎_elim
-    (λ (z : f ≡ 0). rw (eq-eqb f 0 z) refl)
-    (λ (m : f ≡ 0 → ⊥). rw (ne_eqb f 0 m) (chain_of-others f g st.chains n))
-    (cases_eq f 0)
+chains_other f g st n = grind (arith, chain_of-others)
 
 pub chains_gone : (table : Table) (f : ℕ) (st : Shelf) → IsShelf table st → chain_of 0 st.chains ≡ [] → (f ≡ 0) ⊎ (1 ≤ length (chain_of f st.chains)) → chain_of f (without_chain f st).chains ≡ []
-chains_gone table f st sh no_zero has = ⊎_elim
-    (λ (z : f ≡ 0). rw (eq-eqb f 0 z) (ap (λ k. chain_of k st.chains) z ∙ no_zero))
-    (λ (m : f ≡ 0 → ⊥). rw (ne_eqb f 0 m) (⊎_elim
-    (λ (z : f ≡ 0). absurd (m z))
-    (λ (h : 1 ≤ length (chain_of f st.chains)). chain_of-given table f f st sh h ∙ cond-true (f == f) _ _ (eq-eqb f f refl))
-    has))
-    (cases_eq f 0)
+chains_gone table f st sh no_zero has = grind (arith, chain_of-given)
 
 -- a word that isn't a copy of the array
 fits_other : (held : Locations) (home : ℕ) (h : Location) (a : Shape) (i : ℕ) (v : Tagged) → ((c : Copied) (q : ℕ) → a ≡ Copy c q → q ≢ home) → Fits held a i v → Fits (with_held held home h) a i v
-fits_other held home h (Is u) i v other f = f
-fits_other held home h (Original q) i v other f = f
-fits_other held home h (Copy c q) i v other f = record { number = f.number; numbered = f.numbered; present = f.present; address = f.address; fits = f.fits; is = f.is; to = by f.present f.to } where
-  by : (b : Bool) → MatchBool b ((held q).area ≡ Some f.address) (f.address ≡ q) → MatchBool b ((with_held held home h q).area ≡ Some f.address) (f.address ≡ q)
-  by false e = e
-  by true e = ap (λ (g : Location). g.area) (held-other held home h q (other c q refl)) ∙ e
+fits_other held home h a i v e g = grind arith
 
 pub has_chain : (x : Storage) (core : List Tagged) (r : Regs) (p : MachineView) → Represents x core r p → (t : PagedObject) → Has p.objects t → ((x.held t.home).chain ≡ 0) ⊎ (1 ≤ length (chain_of (x.held t.home).chain x.shelf.chains))
-has_chain x core r p s t int = ⊎_elim
-    (λ (z : (x.held t.home).chain ≡ 0). inl z)
-    (λ (h : ObjectHasChain x t (x.held t.home).chain). inr (sectors_some x t (x.held t.home).chain (s.slots.laid.lengths t int).0 h))
-    (Content-chain x core t (x.held t.home).area (x.held t.home).chain (s.objects t int).content)
+has_chain x core r p s t int = grind arith
 
 module _ (x : Storage) (core : List Tagged) (r : Regs) (p : MachineView) (s : Represents x core r p) (t : PagedObject) (objects : List PagedObject) (d : Drops p t objects)
     (table : Table) (sh : IsShelf table x.shelf) (new : List Tagged) (v : Vacated x.low (x.held t.home).area x.spans core new) where
@@ -75,15 +56,7 @@ module _ (x : Storage) (core : List Tagged) (r : Regs) (p : MachineView) (s : Re
 
   -- another object's chain
   chain_stays : (u : PagedObject) → Has objects u → ChainStays x y (x.held u.home).chain
-  chain_stays u inu = record { chain = by; told = λ ns e. e } where
-    by : chain_of (x.held u.home).chain y.shelf.chains ≡ chain_of (x.held u.home).chain x.shelf.chains
-    by = ⊎_elim
-        (λ (e : (x.held u.home).chain ≡ f). ⊎_elim
-        (λ (z : f ≡ 0). rw (eq-eqb f 0 z) refl)
-        (λ (m : f ≡ 0 → ⊥). absurd ((d.fewer u inu).1 (s.owned.one_chain u t (d.fewer u inu).0 d.there (omega (arith, m, e)) e)))
-        (cases_eq f 0))
-        (λ (n : (x.held u.home).chain ≡ f → ⊥). chains_other f (x.held u.home).chain x.shelf n)
-        (cases_eq (x.held u.home).chain f)
+  chain_stays u inu = grind (arith, chains_other)
 
   -- and its area
   area_stays : (u : PagedObject) → Has objects u → (b : ℕ) → (x.held u.home).area ≡ Some b → (x.held t.home).area ≢ Some b
@@ -96,14 +69,10 @@ module _ (x : Storage) (core : List Tagged) (r : Regs) (p : MachineView) (s : Re
   words_low i down up = v.below i up (λ e. omega arith)
 
   stands : (k : ℕ) (a : Slot) → slice_get new (slot_base p k) ≡ slice_get core (slot_base p k) → RepresentsSlot core r p k a → RepresentsSlot new r q k a
-  stands k Free e h = (h.0, e ∙ h.1)
-  stands k (Running stack) e h = record { slot = h.slot; first = h.first; last = h.last; top = h.top; mark = h.mark; level = h.level }
-  stands k (Waiting stack) e h = (h.0, e ∙ h.1)
+  stands k a e h = grind arith
 
   names : (k : ℕ) (a : Slot) → SlotFits q k a → CopiesName objects (words k (stack_of a))
-  names k Free h = λ c home e. absurd e
-  names k (Running stack) h = h.1
-  names k (Waiting stack) h = h.1
+  names k a h = grind arith
 
   stacks : StacksLie y.held new q
   stacks k hk = Lie-each (Fits x.held) (Fits y.held) core new (suc (slot_base p k)) (words k (stack_of (p.slots k)))
@@ -122,9 +91,7 @@ module _ (x : Storage) (core : List Tagged) (r : Regs) (p : MachineView) (s : Re
       let was = s.objects u inp in
       let it = Content-stays x y u (x.held u.home).chain (chain_stays u inu) core new (x.held u.home).area
       (λ b e i low high. v.bodies b (info_of x u) (v.stays b (info_of x u) (area_of_object x core r p s u inp b e) (area_stays u inu b e)) i low high) was.content in
-      let P : Location → Type 0 = λ g. (slice_get new u.home ≡ Some (home_word u g)) × Content y new u g.area g.chain in
-      let both = subst P (sym (held_there u inu)) (words_low u.home (home_below x core r p s u inp).0 (home_below x core r p s u inp).1 ∙ was.home, it) in
-      record { home = both.0; content = both.1 }
+      grind arith
 
   info_there : (u : PagedObject) → Has objects u → info_of x u ≡ info_of y u
   info_there u inu = ap (λ (h : Location). let a : Info = record { kind = u.kind; words = length u.numbers; owner = u.home; kept = h.chain } in a) (sym (held_there u inu))

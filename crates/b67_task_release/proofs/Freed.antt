@@ -1,6 +1,6 @@
 -- An original's array, by its fields, and its area that is freed.
-use Rattle.std.proofs.Common.{◌≡◌, ◌≢◌, ℕ, ◌==◌, List, length, Option, Some, None, sym, ◌∙◌, ap, arith, ⊎_elim, Bool, true, false, not, inl, inr, ◌⊎◌}
-use Rattle.std.proofs.lemmas.Bool.{cases_eq, cond-true, cond-false, eq-eqb, ne_eqb, cases_Bool, true≢false}
+use Rattle.std.proofs.Common.{◌≡◌, ◌≢◌, ℕ, ◌==◌, List, length, Some, sym, ◌∙◌, ap, arith, ⊎_elim, Bool, false, not, ◌⊎◌}
+use Rattle.std.proofs.lemmas.Bool.{cases_eq, cond-true, cond-false, eq-eqb, ne_eqb, true≢false}
 use Rattle.std.proofs.lemmas.Option.{same_Some, none-some}
 use Rattle.b67_word.specs.Tagged.{Tagged}
 use Rattle.b67_area.specs.Spans.{Span, area_at, without, but}
@@ -11,11 +11,7 @@ use Rattle.b67_task_release.specs.Released.{Vacated}
 
 -- a present one's area
 pub present_area : (h : Location) (present : Bool) (address : ℕ) → not present ≡ false → present ≡ is_present h.area → address ≡ address_or h.area h.chain → h.area ≡ Some address
-present_area h present address e p a = by h.area (cases_Bool present) p a where
-  by : (o : Option ℕ) → (present ≡ true) ⊎ (present ≡ false) → present ≡ is_present o → address ≡ address_or o h.chain → o ≡ Some address
-  by (Some at) b p a = ap Some (sym a)
-  by None (inl t) p a = absurd (true≢false (sym t ∙ p))
-  by None (inr f) p a = absurd (true≢false (sym (ap not f) ∙ e))
+present_area h present address e p a = grind arith
 
 pub vacated_some : (low at : ℕ) (spans : List Span) (core new : List Tagged) → IsDirectory new low (without low at spans) → OnlyHoles core new low (without low at spans)
     → ((y : ℕ) → area_at low (without low at spans) y ≡ but at y (area_at low spans y)) → length new ≡ length core → Vacated low (Some at) spans core new

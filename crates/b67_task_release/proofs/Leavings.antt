@@ -2,29 +2,26 @@
 use Rattle.std.proofs.Common.{◌≡◌, ◌≢◌, ℕ, suc, ◌+◌, ◌<◌, ◌≤◌, List, [], ◌∷◌, map, Option, length, Some, refl, sym, ◌∙◌, ap, arith, inl, inr, ◌⊎◌, ⊎_elim, Bool, true, false, not, subst}
 use Rattle.std.specs.Prelude.{◌==◌}
 use Rattle.std.specs.List.{slice_get, list_any}
-use Rattle.std.proofs.lemmas.Bool.{cases_Bool, cases_eq, eq-eqb, ne_eqb, true≢false, eqb-true}
+use Rattle.std.proofs.lemmas.Bool.{cases_eq, eq-eqb, ne_eqb, true≢false}
 use Rattle.std.proofs.lemmas.Option.{same_Some}
 use Rattle.b67_word.specs.Tagged.{Tagged}
 use Rattle.b67_area.specs.declared.Kind.TheVariants.{Code}
 use Rattle.b67_lemmas.specs.Lists.{Has, Falls}
 use Rattle.b67_lemmas.proofs.Members.{all_in, any_has, any_some, falls_same, has_append_right, has_filter, has_filter_in, has_flat, has_map, has_map_back, keyed_has}
-use Rattle.b67_model.specs.Words as Words
-use Rattle.b67_model.specs.Common.{Word, Operand, Name, Ref, Row, Element, Original, Proc, Intrinsic, Standing, Entered, Return, Frame, Array, Task, Job, SessionJob, number_of, Session, Starts, IsSegment, Known, WordInOrder, FramesInOrder, outer_of}
+use Rattle.b67_model.specs.Common.{Word, Original, Standing, Entered, Return, Frame, Array, Task, Job, SessionJob, number_of, Session, Starts, IsSegment, Known, WordInOrder, FramesInOrder, outer_of}
 use Rattle.b67_layout.specs.Common.{JobInOrderButCounts, IsInOrderButCounts, Placement, spot_in, outer_spots, shape, head, activations, stack_of_task, array_object, code_objects, objects_of, machine_view, gone, objects_gone, with_job, IsRunning, RepresentsSession, RepresentsSessionBut}
 use Rattle.b67_stack.specs.declared.Cpu.{Cpu}
 use Rattle.b67_stack.specs.Shapes as Shapes
-use Rattle.b67_stack.specs.Common.{Locations, Shape, Is, Copy, IsOriginal, Fits, LieDownward, copy_desc, StackPlace, Activation, headed, stack_words, words, PagedObject, MachineView, RunsOn, slot_base, Storage}
+use Rattle.b67_stack.specs.Common.{Locations, Shape, IsOriginal, Fits, LieDownward, StackPlace, Activation, headed, stack_words, words, PagedObject, MachineView, RunsOn, slot_base, Storage}
 use Rattle.b67_stack.specs.Stacks as Stacks
 use Rattle.b67_stack.proofs.Heights.{words-length}
-use Rattle.b67_stack.proofs.Homes.{same_desc}
 use Rattle.b67_stack.proofs.Lies.{Lie-under}
 use Rattle.b67_stack.proofs.Slots.{running_fits, running_lies, running_slot}
 use Rattle.b67_layout.proofs.Common.{runs_on, slot_below, base, all, homes_low, homes_high, others}
 use Rattle.b67_layout.proofs.LeftSettles.{under}
 use Rattle.b67_task_release.specs.Released.{HasHome}
 use Rattle.b67_task_release.specs.Left.{IsLeft}
-use Rattle.b67_task_release.proofs.Remaining.{is_original}
-use Rattle.b67_task_release.proofs.Copies.{words_descriptor, cell_word, frame_words, frames_in_order, array_kind, home_of}
+use Rattle.b67_task_release.proofs.Copies.{words_descriptor, cell_word, frame_words, frames_in_order, array_kind}
 
 -- the word at a place of a stack
 pub record HereLies (R : Shape → ℕ → Tagged → Type 0) (core : List Tagged) (xs : List Shape) (i : ℕ) : Type 0 where
@@ -47,29 +44,17 @@ here_lies R core from (a ∷ more) i l low up = ⊎_elim
 -- the return control word of an entered record is no descriptor
 return_plain : (held : Locations) (core : List Tagged) (from k level : ℕ) (environment : StackPlace) (back : Option Return) (below : List Activation) (under : List Shape) (i : ℕ)
     → LieDownward (Fits held) core from (headed k (Stacks.Entered level environment back) below under) → i ≡ from + (1 + length under) → (w : Tagged) × (slice_get core i ≡ Some w) × (w.tag ≢ 5)
-return_plain held core from k level environment back below under i l e =
-    let at : i ≡ from + suc (length under) = omega (arith, e) in
-    (l.0.0, ap (slice_get core) at ∙ l.0.1, λ five. l.0.2.1 (ap (λ (v : Tagged). v.tag) (sym l.0.2.0) ∙ five))
+return_plain held core from k level environment back below under i l e = grind arith
 
 original_tag : (w : Tagged) → IsOriginal w → w.tag ≡ 5
 original_tag w o = ap (λ (v : Tagged). v.tag) o.is
 
 pub original_shape : (held : Locations) (a : Shape) (i : ℕ) (w : Tagged) → Fits held a i w → IsOriginal w → a ≡ Shapes.Original i
-original_shape held (Is v) i w f o = absurd (f.1 (ap (λ (u : Tagged). u.tag) (sym f.0 ∙ o.is)))
-original_shape held (Shapes.Original q) i w f o = ap Shapes.Original (sym f.0)
-original_shape held (Copy c q) i w f o = absurd (true≢false ((same_desc (copy_desc c f.number f.present f.address) o.desc f.fits o.fits (sym f.is ∙ o.is)).copy ∙ o.own))
+original_shape held a i w f o = grind arith
 
 module _ (plan : Placement) (j : ℕ) (job : Job) (spot : ℕ → StackPlace) (P : Starts) (reach : List Known) (owner : ℕ) where
   pub original_named : (v : Word) (home : ℕ) → shape plan j job spot v ≡ Shapes.Original home → WordInOrder P job.arrays reach owner v → (a : Array) × Has job.arrays a × (plan.home j a.identity ≡ home)
-  original_named (Original a) home e o = (o.item, o.live, ap (plan.home j) o.named ∙ ap home_of e)
-  original_named (Row a) home e o = absurd cc
-  original_named (Element a index) home e o = absurd cc
-  original_named (Operand bits) home e o = absurd cc
-  original_named (Name couple) home e o = absurd cc
-  original_named (Ref frame offset) home e o = absurd cc
-  original_named (Proc segment level place) home e o = absurd cc
-  original_named (Intrinsic n) home e o = absurd cc
-  original_named (Words.Segment n) home e o = absurd cc
+  original_named v home e o = grind arith
 
 abbrev names : ℕ → Array → Bool
 names identity b = b.identity == identity
@@ -86,14 +71,7 @@ gone_owned owner old new is a h =
     (cases_eq a.owner owner)
 
 owned_gone : (owner bound : ℕ) (old new : Job) → Falls bound (map (λ (a : Array). a.identity) old.arrays) → new.arrays ≡ others owner old.arrays → (a : Array) → Has old.arrays a → a.owner ≡ owner → Has (gone old new) a
-owned_gone owner bound old new falls is a h e = ⊎_elim
-    (λ (t : list_any (names a.identity) new.arrays ≡ true).
-    let f = any_has (names a.identity) new.arrays t in
-    let b = has_filter (λ (b : Array). not (b.owner == owner)) old.arrays f.0 (subst (λ (xs : List Array). Has xs f.0) is f.1) in
-    let same : f.0 ≡ a = falls_same (λ (b : Array). b.identity) bound old.arrays f.0 a falls b.0 h (eqb-true f.0.identity a.identity f.2) in
-    absurd (true≢false (sym b.1 ∙ ap not (eq-eqb f.0.owner owner (ap (λ (b : Array). b.owner) same ∙ e)))))
-    (λ (t : list_any (names a.identity) new.arrays ≡ false). has_filter_in (λ (b : Array). not (list_any (names b.identity) new.arrays)) old.arrays a h (ap not t))
-    (cases_Bool (list_any (names a.identity) new.arrays))
+owned_gone owner bound old new falls is a h e = grind (arith, any_has, has_filter, falls_same, has_filter_in)
 
 module _ (x : Storage) (old : Cpu) (plan : Placement) (s : Session) (m : SessionJob) (t : Task) (f : Frame) (below : List Frame) (o : IsInOrderButCounts s) (h : RepresentsSession x old plan s)
     (runs : IsRunning plan s.jobs m t) (frames : t.frames ≡ f ∷ below) (job : Job) (is : job.arrays ≡ others f.identity m.progress.job.arrays) where
@@ -136,8 +114,7 @@ module _ (x : Storage) (old : Cpu) (plan : Placement) (s : Session) (m : Session
       let (a, ina, e) = item_of u inu in
       let r = gone_owned f.identity m.progress.job job is a ina in
       let b = homes_high x old.core old.regs old.critical plan s m t f below o h.holds runs frames a r.0 r.1 in
-      let home = ap (λ (v : PagedObject). v.home) e in
-      (omega (arith, b.0, home), omega (arith, b.1, home, old_top, ap stack_words all_is))
+      grind (arith, old_top)
 
   gone_each : (i : ℕ) (w : Tagged) → new_top < i → i ≤ old.regs.s → slice_get old.core i ≡ Some w → IsOriginal w → HasHome (objects_gone plan m job) i
   gone_each i w low up get original =
@@ -181,8 +158,7 @@ module _ (x : Storage) (old : Cpu) (plan : Placement) (s : Session) (m : Session
       let H : Standing → Type 0 = λ st. LieDownward (Fits x.held) old.core from (headed plan.running (head (spot_in plan.running outer below) st) below_words (words plan.running below_words)) in
       let entered = subst H e (Lie-under (Fits x.held) old.core from cells (headed plan.running (head (spot_in plan.running outer below) f.standing) below_words (words plan.running below_words)) lies) in
       let w = return_plain x.held old.core from plan.running level (spot_in plan.running outer below environment) back below_words (words plan.running below_words) u.home entered (omega (arith, z, words-length plan.running below_words)) in
-      let original = is_original x old.core old.regs p h.holds.memory u (gone_there u inu) (gone_kind u inu) w.0 w.1 in
-      w.2 (original_tag w.0 original)
+      grind (arith, gone_there)
 
   -- what is left, for any machine with the old words above the new top. A value may stand where the frame's mark stood, or
   -- another frame's mark and return control word in the place of those

@@ -1,7 +1,7 @@
 -- The arrays that are left, one word after another.
 use Rattle.std.proofs.Common.{◌≡◌, ◌≢◌, ℕ, ◌+◌, ◌<◌, ◌^◌, ◌==◌, List, [], ◌∷◌, ◌++◌, length, Option, Some, None, refl, sym, ◌∙◌, ap, arith, inl, inr, ◌⊎◌, ⊎_elim, Bool, true, false, not, subst, if◌then◌else◌}
 use Rattle.std.specs.List.{slice_get}
-use Rattle.std.proofs.lemmas.Bool.{cases_eq, eq-eqb, ne_eqb, false≢true, not-true}
+use Rattle.std.proofs.lemmas.Bool.{cases_eq, ne_eqb, false≢true, not-true}
 use Rattle.std.proofs.lemmas.Option.{same_Some, none-some}
 use Rattle.b67_word.specs.Tagged.{Tagged}
 use Rattle.b67_area.specs.declared.Areas.{Areas}
@@ -14,7 +14,7 @@ use Rattle.b67_ctl.specs.Descriptors.{data_word, IsDataDesc}
 use Rattle.b67_lemmas.specs.Lists.{Has}
 use Rattle.b67_lemmas.proofs.Members.{has_append_cases, has_append_left, has_append_right}
 use Rattle.b67_stack.specs.declared.Cpu.{Cpu}
-use Rattle.b67_stack.specs.Common.{Location, IsOriginal, nowhere, PagedObject, MachineView, Slot, Free, Running, Waiting, SlotFits, is_present, address_or, home_desc, home_word_of, Storage, Represents, info_of}
+use Rattle.b67_stack.specs.Common.{Location, IsOriginal, nowhere, PagedObject, MachineView, Slot, SlotFits, is_present, address_or, home_desc, home_word_of, Storage, Represents, info_of}
 use Rattle.b67_stack.proofs.Homes.{same_desc, chain_small}
 use Rattle.b67_layout_storage.specs.Machine.{MachineRepresentsView}
 use Rattle.b67_stack.proofs.Helds.{held-other, held-same}
@@ -22,7 +22,7 @@ use Rattle.b67_stack.proofs.Unchanged.{area_of_object, area_bounds}
 use Rattle.b67_layout_storage.proofs.Words.{original_of_home}
 use Rattle.b67_layout.specs.Session.{with_objects}
 use Rattle.b67_task_release.specs.Released.{storage_released, of_objects, Drops, LocatesArray, SameBelow, HasHome, Released, AreLeft, SomeRemain}
-use Rattle.b67_task_release.proofs.Dropped.{chains_other, chains_gone, has_chain}
+use Rattle.b67_task_release.proofs.Dropped.{chains_other, chains_gone}
 
 -- the word of an array's original, as a descriptor
 record HomeDesc (k : Kind) (n : ℕ) (h : Location) : Type 0 where
@@ -33,8 +33,7 @@ record HomeDesc (k : Kind) (n : ℕ) (h : Location) : Type 0 where
   address : desc.address ≡ address_or h.area h.chain
 
 home_fits : (read_only : Bool) (n : ℕ) (a : Option ℕ) (f : ℕ) → n < 2 ^ 20 → f < 2 ^ 20 → ((b : ℕ) → a ≡ Some b → b < 2 ^ 20) → IsDataDesc (home_desc read_only n (record { area = a; chain = f }))
-home_fits read_only n (Some b) f small chain area = record { words = small; address = area b refl; indexed = λ z. absurd (false≢true z) }
-home_fits read_only n None f small chain area = record { words = small; address = chain; indexed = λ z. absurd (false≢true z) }
+home_fits read_only n a f small chain area = grind arith
 
 home_desc_of : (k : Kind) (n : ℕ) (h : Location) → k ≢ Code → n < 2 ^ 20 → h.chain < 2 ^ 20 → ((b : ℕ) → h.area ≡ Some b → b < 2 ^ 20) → HomeDesc k n h
 home_desc_of Array n h ne small chain area = record { desc = home_desc false n h; fits = home_fits false n h.area h.chain small chain area; is = refl; present = refl; address = refl }
@@ -58,9 +57,7 @@ module _ (x : Storage) (core : List Tagged) (r : Regs) (p : MachineView) (s : Re
 
 -- a copy is no original
 pub copy_none : (w : Tagged) (d : DataDesc) → IsDataDesc d → w ≡ data_word d → not d.copy ≡ false → IsOriginal w → ⊥
-copy_none w d fits is copy o =
-    let same = same_desc d o.desc fits o.fits (sym is ∙ o.is) in
-    false≢true (sym copy ∙ ap not (same.copy ∙ o.own))
+copy_none w d fits is copy o = grind arith
 
 -- nor is one with another tag
 pub tag_none : (w : Tagged) → w.tag ≢ 5 → IsOriginal w → ⊥
@@ -77,33 +74,16 @@ without_home home (t ∷ ts) = if t.home == home then without_home home ts else 
 
 without_home-in : (home : ℕ) (ts : List PagedObject) (t : PagedObject) → Has (without_home home ts) t → Has ts t × (t.home ≢ home)
 without_home-in home [] t h = absurd h
-without_home-in home (u ∷ us) t h = ⊎_elim
-    (λ (e : u.home ≡ home). let r = without_home-in home us t (rw (eq-eqb u.home home e) at h) in let q : Has (u ∷ us) t × (t.home ≢ home) = (inr r.0, r.1) in q)
-    (λ (n : u.home ≡ home → ⊥). ⊎_elim
-    (λ (e : u ≡ t). let q : Has (u ∷ us) t × (t.home ≢ home) = (inl e, λ z. n (ap (λ (v : PagedObject). v.home) e ∙ z)) in q)
-    (λ (k : Has (without_home home us) t). let r = without_home-in home us t k in let q : Has (u ∷ us) t × (t.home ≢ home) = (inr r.0, r.1) in q)
-    (rw (ne_eqb u.home home n) at h))
-    (cases_eq u.home home)
+without_home-in home (u ∷ us) t h = grind (arith, without_home-in home us t)
 
 without_home-there : (home : ℕ) (ts : List PagedObject) (t : PagedObject) → Has ts t → t.home ≢ home → Has (without_home home ts) t
 without_home-there home [] t h n = absurd h
 without_home-there home (u ∷ us) t (inl e) n = rw (ne_eqb u.home home (λ z. n (sym (ap (λ (v : PagedObject). v.home) e) ∙ z))) (inl e)
-without_home-there home (u ∷ us) t (inr k) n = ⊎_elim
-    (λ (e : u.home ≡ home). rw (eq-eqb u.home home e) (without_home-there home us t k n))
-    (λ (m : u.home ≡ home → ⊥). rw (ne_eqb u.home home m) (inr (without_home-there home us t k n)))
-    (cases_eq u.home home)
+without_home-there home (u ∷ us) t (inr k) n = grind (arith, without_home-there home us t k n)
 
 -- nothing was released
 pub Released-none : (Gone : ℕ → Type 0) (x : Storage) → ((home : ℕ) → Gone home → ⊥) → Released Gone x x
-Released-none Gone x no_one = record {
-  low = refl;
-  device = refl;
-  others = λ home n. refl;
-  nowhere = λ home g. absurd (no_one home g);
-  free = λ home g. absurd (no_one home g);
-  chains = λ first n. refl;
-  no_more = λ first e. e;
-}
+Released-none Gone x no_one = grind arith
 
 -- one after others
 pub Released-then : (P Q R : ℕ → Type 0) (x y z : Storage) → ((home : ℕ) → P home → Q home → ⊥) → ((home : ℕ) → R home → P home ⊎ Q home) → ((home : ℕ) → P home → R home) → ((home : ℕ) → Q home → R home)
@@ -125,41 +105,15 @@ Released-then P Q R x y z apart cases left right a b = record {
 }
 
 pub Released-same : (P Q : ℕ → Type 0) (x y : Storage) → ((home : ℕ) → P home → Q home) → ((home : ℕ) → Q home → P home) → Released P x y → Released Q x y
-Released-same P Q x y to from a = record {
-  low = a.low;
-  device = a.device;
-  others = λ home n. a.others home (λ q. n (to home q));
-  nowhere = λ home g. a.nowhere home (from home g);
-  free = λ home g. a.free home (from home g);
-  chains = λ first n. a.chains first (λ home q. n home (to home q));
-  no_more = a.no_more;
-}
+Released-same P Q x y to from a = grind arith
 
 -- one array
 pub Released-one : (x : Storage) (core : List Tagged) (r : Regs) (p : MachineView) (table : Table) → Represents x core r p → IsShelf table x.shelf → (t : PagedObject) → Has p.objects t
     → (Gone : ℕ → Type 0) → Gone t.home → ((home : ℕ) → Gone home → home ≡ t.home) → Released Gone x (storage_released x t)
-Released-one x core r p table s sh t int Gone here only = record {
-  low = refl;
-  device = refl;
-  others = λ home n. held-other x.held t.home nowhere home (λ e. n (subst Gone (sym e) here));
-  nowhere = λ home g. ap (storage_released x t).held (only home g) ∙ held-same x.held t.home nowhere;
-  free = λ home g. ap (λ h. chain_of (x.held h).chain (storage_released x t).shelf.chains) (only home g) ∙ gone;
-  chains = λ first n. chains_other f first x.shelf (λ e. n t.home here (sym e));
-  no_more = λ first e. ⊎_elim
-      (λ (z : first ≡ f). ap (λ g. chain_of g (storage_released x t).shelf.chains) z ∙ gone)
-      (λ (m : first ≡ f → ⊥). chains_other f first x.shelf m ∙ e)
-      (cases_eq first f);
-} where
-  f : ℕ
-  f = (x.held t.home).chain
-
-  gone : chain_of f (storage_released x t).shelf.chains ≡ []
-  gone = chains_gone table f x.shelf sh s.owned.no_zero (has_chain x core r p s t int)
+Released-one x core r p table s sh t int Gone here only = grind (arith, held-other, held-same, chains_other, chains_gone)
 
 fits_more : (p : MachineView) (more : List PagedObject) (k : ℕ) (slot : Slot) → SlotFits p k slot → SlotFits (of_objects p (more ++ p.objects)) k slot
-fits_more p more k Free f = f
-fits_more p more k (Running stack) f = (f.0, λ c home h. let (t, i, e, n) = f.1 c home h in (t, has_append_right more p.objects t i, e, n))
-fits_more p more k (Waiting stack) f = (f.0, λ c home h. let (t, i, e, n) = f.1 c home h in (t, has_append_right more p.objects t i, e, n))
+fits_more p more k slot f = grind (arith, has_append_right)
 
 module _ (x : Storage) (cpu : Cpu) (areas : Areas) (table : Table) (told : Option (List (List ℕ))) (p : MachineView) (left : List PagedObject) (at upto : ℕ)
     (m : MachineRepresentsView x cpu areas table told (with_objects left p)) (l : AreLeft p cpu.core at upto left) where
@@ -199,18 +153,7 @@ module _ (x : Storage) (cpu : Cpu) (areas : Areas) (table : Table) (told : Optio
     rest = without_home at left
 
     pub drops : Drops (with_objects left p) t (rest ++ p.objects)
-    drops = record {
-      there = in_all t int;
-      fewer = λ u h. ⊎_elim
-          (λ (a : Has rest u). let r = without_home-in at left u a in let q : Has (left ++ p.objects) u × (u.home ≢ t.home) = (in_all u r.0, λ e. r.1 (e ∙ home)) in q)
-          (λ (a : Has p.objects u). let q : Has (left ++ p.objects) u × (u.home ≢ t.home) = (has_append_right left p.objects u a, l.alone t u int a) in q)
-          (has_append_cases rest p.objects u h);
-      rest = λ u h n. ⊎_elim
-          (λ (a : Has left u). has_append_left rest p.objects u (without_home-there at left u a (λ e. n (e ∙ sym home))))
-          (λ (a : Has p.objects u). has_append_right rest p.objects u a)
-          (has_append_cases left p.objects u h);
-      fits = λ k hk. fits_more p rest k (p.slots k) (l.fits k hk);
-    }
+    drops = grind (arith, without_home-in, has_append_right, has_append_cases, has_append_left, without_home-there, fits_more)
 
     pub remains_one : (new : List Tagged) → SameBelow x.low cpu.core new → SomeRemain (λ h. (h ≡ at) × HasHome left h) x (storage_released x t) p cpu.core new (at + 1) upto left rest
     remains_one new same = record {

@@ -1,5 +1,5 @@
 -- A session whose machine has arrays left: they lie above the top, and without them the machine represents the session.
-use Rattle.std.proofs.Common.{◌≡◌, ◌≢◌, ℕ, ◌+◌, ◌<◌, List, [], ◌∷◌, length, Option, Some, None, refl, sym, ◌∙◌, ap, arith, subst}
+use Rattle.std.proofs.Common.{◌≡◌, ◌≢◌, ℕ, ◌+◌, ◌<◌, List, [], ◌∷◌, length, Option, refl, sym, ◌∙◌, ap, arith, subst}
 use Rattle.b67_area.specs.declared.Areas.{Areas}
 use Rattle.b67_backing.specs.Shelf.{Table}
 use Rattle.b67_ctl.specs.declared.registers.Regs.{Regs}
@@ -7,12 +7,12 @@ use Rattle.b67_lemmas.specs.Lists.{Has}
 use Rattle.b67_lemmas.proofs.Members.{keyed_has}
 use Rattle.b67_model.specs.Common.{Task, SessionJob, number_of, Session}
 use Rattle.b67_stack.specs.declared.Cpu.{Cpu}
-use Rattle.b67_stack.specs.Common.{stack_words, PagedObject, MachineView, Slot, stack_of, slot_base, Storage, Represents}
+use Rattle.b67_stack.specs.Common.{stack_words, PagedObject, MachineView, stack_of, slot_base, Storage, Represents}
 use Rattle.b67_stack.proofs.Bases.{base-apart}
 use Rattle.b67_stack.proofs.Slots.{running_slot}
 use Rattle.b67_layout_storage.specs.Machine.{MachineRepresentsView, Says}
 use Rattle.b67_layout_storage.proofs.Below.{not_heads}
-use Rattle.b67_layout.specs.Common.{Placement, machine_view, stack_of_task, with_objects, RepresentsStorage}
+use Rattle.b67_layout.specs.Common.{Placement, machine_view, with_objects, RepresentsStorage}
 use Rattle.b67_layout.proofs.Common.{runs_on, AllAlike, RepresentsSession-over}
 use Rattle.b67_task_release.specs.Released.{HasHome, Released, SameBelow, AreLeft}
 use Rattle.b67_task_release.specs.Left.{IsLeft, AreReleased}
@@ -37,15 +37,10 @@ module _ (left : List PagedObject) (x : Storage) (cpu : Cpu) (plan : Placement) 
   top_is =
       let (m, t, runs) = l.stands.holds.live l.runs in
       let on = runs_on plan s.jobs m t l.stands.holds.fits.rows (keyed_has number_of m.constants.number s.jobs m runs.member).0 (keyed_has (λ (u : Task). u.number) t.number m.progress.job.tasks t runs.task).0 runs.slot runs.member runs.task in
-      let stack = stack_of_task plan m.constants.number m.progress.job plan.running t in
-      let r = running_slot x cpu.core cpu.regs (with_objects left p) plan.running stack l.stands.holds.memory (record { used = on.used; is = on.is }) in
-      record { slot = plan.running; used = on.used; top = r.top ∙ ap (λ (a : Slot). slot_base p plan.running + stack_words (stack_of a)) (sym on.is); last = r.last }
+      grind (arith, running_slot)
 
   alone : (t u : PagedObject) → Has left t → Has p.objects u → u.home ≢ t.home
-  alone t u int inu e =
-      let k = top_is in
-      let a = l.among t int in
-      let z : ⊥ = omega (arith, l.stands.holds.settled u inu k.slot k.used (omega (arith, e, a.0, l.low, k.top)) (omega (arith, e, a.1, l.high, k.last)), k.top, e, a.0, l.low) in z
+  alone t u int inu e = grind (arith, top_is)
 
   pub are_left : AreLeft p cpu.core from upto left
   are_left = let k = top_is in record {
@@ -60,8 +55,7 @@ module _ (left : List PagedObject) (x : Storage) (cpu : Cpu) (plan : Placement) 
 
   module _ (areas : Areas) (table : Table) (told : Option (List (List ℕ))) (b : RepresentsStorage areas table told cpu.core x) where
     says : (d : Option (List (List ℕ))) → told ≡ d → Says d told
-    says None e = tt
-    says (Some all) e = e
+    says d e = grind arith
 
     pub machine_left : MachineRepresentsView x cpu areas table told (with_objects left p)
     machine_left = record { stands = l.stands.holds.memory; low = b.low; shelf = b.shelf; device = says x.device b.device }

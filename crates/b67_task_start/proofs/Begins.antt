@@ -1,5 +1,5 @@
 -- A task is started: its slot is opened, its stack built, its row added.
-use Rattle.std.proofs.Common.{◌≡◌, ℕ, ◌+◌, ◌-◌, ◌*◌, ◌<◌, ◌≤◌, List, [], ◌∷◌, ◌++◌, length, Option, Some, refl, sym, ◌∙◌, ap, arith, inl, inr, subst, slice_set}
+use Rattle.std.proofs.Common.{◌≡◌, ℕ, ◌+◌, ◌-◌, ◌*◌, ◌<◌, ◌≤◌, List, [], ◌∷◌, ◌++◌, length, Option, Some, refl, sym, ◌∙◌, ap, arith, subst, slice_set}
 use Rattle.std.specs.Prelude.{max}
 use Rattle.std.specs.List.{slice_get}
 use Rattle.b67_word.specs.declared.couples.Place.{Place}
@@ -10,9 +10,9 @@ use Rattle.b67_lemmas.proofs.Members.{keyed_has}
 use Rattle.b67_lemmas.proofs.Sums.{sum_total, total_gap}
 use Rattle.b67_model.specs.Common.{Frame, Task, SessionJob, height, Proc, live_tasks, number_of, Session}
 use Rattle.b67_law_order.proofs.Numbered.{numbered_low}
-use Rattle.b67_layout.specs.Common.{IsInOrderButCounts, Placement, address_of, spots, IsRunning, RepresentsSession, RepresentsStorage, stack_of_task, IsReady, peak_with, session_moved}
+use Rattle.b67_layout.specs.Common.{IsInOrderButCounts, Placement, spots, IsRunning, RepresentsSession, RepresentsStorage, stack_of_task, IsReady, peak_with, session_moved}
 use Rattle.b67_stack.specs.declared.Cpu.{Cpu}
-use Rattle.b67_stack.specs.Common.{StackPlace, mark_place, Storage}
+use Rattle.b67_stack.specs.Common.{mark_place, Storage}
 use Rattle.b67_stack.specs.Changes as Changes
 use Rattle.b67_layout.proofs.Fresh.{job_in_order}
 use Rattle.b67_refer.specs.Cells.{IsCellAt}
@@ -28,11 +28,10 @@ use Rattle.b67_task_start_stack.specs.Born.{with_peak, with_task_at}
 use Rattle.b67_task_start_stack.specs.Joining.{MayBuild, session_joined}
 use Rattle.b67_task_start.specs.Opening.{HasSlot, SlotOpened}
 use Rattle.b67_task_start.specs.Starts.{IsProcCell, MayStart, IsStarted, child, with_child, with_next}
-use Rattle.b67_task_start.proofs.Opens.{not_past, peak_stays, peak_rises}
+use Rattle.b67_task_start.proofs.Opens.{not_past, peak_rises}
 use Rattle.b67_task_start.proofs.Rows.{JobRowOf, job_row_of, rows_few, tables_started}
 use Rattle.b67_task_start.proofs.Starting.{Two, IsPcwAt, found_cell, frames, joins, may_build, pcw, row_shows}
 use Rattle.b67_task_start_stack.proofs.Started.{under_place}
-use Rattle.b67_task_start_stack.proofs.Wider.{spots-wide}
 
 fifteens : (jobs : List SessionJob) → total (λ (y : SessionJob). 15) jobs ≡ 15 * length jobs
 fifteens [] = refl
@@ -49,45 +48,22 @@ module _ (x : Storage) (cpu : Cpu) (plan : Placement) (s : Session) (m : Session
       omega (arith, n, sum_total (λ (y : SessionJob). length y.progress.job.tasks) s.jobs, fifteens s.jobs, o.few)
 
   pub has_slot : HasSlot x plan s core k
-  has_slot = record {
-    few = live_low;
-    some = omega (arith, h.holds.fits.sizes m has_m, (job_in_order s m o has_m).unchanging.stack_low);
-    lowest = may.lowest;
-    inside = may.inside;
-    clear = may.clear;
-  }
+  has_slot = grind (arith, live_low, has_m)
 
   pub opened_order : IsInOrderButCounts (record s { peak = peak_with s 1 })
-  opened_order = record {
-    few = o.few;
-    numbered = o.numbered;
-    one_size = o.one_size;
-    jobs = o.jobs;
-    peak_low = (let e : live_tasks s.jobs ≤ max s.peak (live_tasks s.jobs + 1) = omega arith in e);
-    peak_high = (let e : max s.peak (live_tasks s.jobs + 1) ≤ 120 = omega (arith, o.peak_high, live_low) in e);
-  }
+  opened_order = grind (arith, live_low)
 
   pub opened_runs : IsRunning (with_peak plan (peak_with s 1)) s.jobs m t
   opened_runs = record { member = runs.member; task = runs.task; slot = runs.slot }
 
   pub below_peak : k < peak_with s 1
-  below_peak = elim (Rattle.std.proofs.lemmas.Bool.cases_lt k plan.peak) [
-    | inl low ↦ omega (arith, low, peak_stays plan s o h.holds.fits.rows h.holds.fits.peak k may.lowest low)
-    | inr high ↦ (let e : k ≡ plan.peak = omega (arith, high, not_past plan s o h.holds.fits.rows h.holds.fits.peak k may.lowest) in omega (arith, e, peak_rises plan s o h.holds.fits.rows h.holds.fits.peak k may.lowest e))
-  ]
+  below_peak = grind (arith, not_past, peak_rises)
 
   pub peak_wider : plan.peak ≤ peak_with s 1
   peak_wider = (let e : plan.peak ≤ max s.peak (live_tasks s.jobs + 1) = omega (arith, h.holds.fits.peak) in e)
 
   pub opened_proc : IsProcCell (with_peak plan (peak_with s 1)) m t at f segment level place
-  opened_proc = record {
-    names = may.proc.names;
-    own = may.proc.own;
-    offset = may.proc.offset;
-    found = may.proc.found;
-    at_is = may.proc.at_is ∙ ap (λ (q : StackPlace). address_of plan q + may.proc.offset) (sym (spots-wide plan (peak_with s 1) m.constants.number m.progress.job t f));
-    level_is = may.proc.level_is;
-  }
+  opened_proc = grind arith
 
   -- the child may be built once its slot is open
   pub opened_build : (y : Storage) (now : Cpu) (z : RepresentsSession y now (with_peak plan (peak_with s 1)) (record s { peak = peak_with s 1 })) (j env_stack env_disp : ℕ) → m.constants.number ≡ j

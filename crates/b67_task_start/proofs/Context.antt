@@ -43,16 +43,7 @@ module _ (k : Machine) (at count : ℕ) (q : StartsSome k at count) where
   has = may_open q.storage q.told k q.plan q.session q.member q.task q.ordered q.stands q.running at count q.f q.segment q.level q.place q.slot q.may
 
   pub some_slot : HasSomeSlot k.cpu k.areas
-  some_slot = record {
-    storage = q.storage;
-    plan = q.plan;
-    session = q.session;
-    slot = q.slot;
-    ordered = q.ordered;
-    stands = q.stands.session;
-    low = q.stands.storage.low;
-    has = has;
-  }
+  some_slot = grind (arith, has)
 
   pub next_row : (j : ℕ) → j ≡ q.member.constants.number → (r : JobRow) × (slice_get k.tasks.jobs (j - 1) ≡ Some r) × (1 ≤ j)
   next_row j e =
@@ -111,16 +102,7 @@ module _ (k : Machine) (at count : ℕ) (q : StartsSome k at count) where
           (ap (λ (z : Pcw). z.level) p_is)
 
       pub builds : BuildsSome now slot parent.job env_stack env_disp p.level count
-      builds = record {
-        storage = op.storage;
-        plan = with_peak q.plan (peak_with q.session 1);
-        session = record q.session { peak = peak_with q.session 1 };
-        member = q.member;
-        task = q.task;
-        after = with_child q.member.progress.job new;
-        child = new;
-        may = may_build;
-      }
+      builds = grind (arith, may_build)
 
       -- the machine with the child's stack, and its row
       pub is_started : (built : Cpu) (tasks' : Tasks) (number under : ℕ) (row : TaskRow)

@@ -13,8 +13,7 @@ use Rattle.b67_model.specs.Common.{Task, SessionJob, live_tasks, Session}
 use Rattle.b67_model.specs.Keyed.{keyed}
 use Rattle.b67_layout.specs.Common.{IsInOrderButCounts, Slotted, Placement, slot_of, slot_at, slot_by, machine_view, Differ, RowsFit, SessionHolds, RepresentsSession, vector_word, peak_with}
 use Rattle.b67_stack.specs.declared.Cpu.{Cpu}
-use Rattle.b67_stack.specs.Common.{Free, NoOriginalAboveTop, slot_base, Storage, Represents}
-use Rattle.b67_stack.proofs.Bases.{base-step}
+use Rattle.b67_stack.specs.Common.{Free, NoOriginalAboveTop, Storage, Represents}
 use Rattle.b67_layout.proofs.Common.{task_row, jobs_differ, not_more, slots_of, slots_length}
 use Rattle.b67_task_start_stack.specs.Born.{with_peak}
 use Rattle.b67_task_start_stack.specs.Slots.{grown, raised, HasRoom}
@@ -23,8 +22,7 @@ use Rattle.b67_task_start_stack.proofs.Wider.{RepresentsSession-wider}
 
 -- the word of a slot in the stack vector has tag 0 only if no task lives in the slot
 vector_tag : (plan : Placement) (j : ℕ) (parents : List ℕ) → (vector_word plan j parents).tag ≡ 3
-vector_tag plan j [] = refl
-vector_tag plan j (parent ∷ more) = refl
+vector_tag plan j parents = grind arith
 
 abbrev pub IsTaken : List Tagged → ℕ → Type 0
 IsTaken core i = (w : Tagged) × (slice_get core (32 + i) ≡ Some w) × (w.tag ≢ 0)
@@ -76,8 +74,7 @@ module _ (x : Storage) (core : List Tagged) (r : Regs) (marks : List ℕ) (plan 
   }
 
 pub end_is : (stacks size slot wide k : ℕ) (plan : Placement) → stacks ≡ plan.stacks → size ≡ plan.size → slot ≡ k → wide ≡ size → stacks + (slot + 1) * wide ≡ slot_end plan k
-end_is stacks size slot wide k plan start width same is =
-    ap (λ (n : ℕ). n + (slot + 1) * wide) start ∙ ap (λ (n : ℕ). plan.stacks + (n + 1) * wide) same ∙ ap (λ (n : ℕ). plan.stacks + (k + 1) * n) (is ∙ width)
+end_is stacks size slot wide k plan start width same is = grind arith
 
 -- there is one lowest free slot
 pub one_lowest : (plan : Placement) (a b : ℕ) → IsLowestFree plan a → IsLowestFree plan b → a ≡ b
@@ -136,10 +133,7 @@ module _ (plan : Placement) (s : Session) (o : IsInOrderButCounts s) (fit : Rows
       omega (arith, n, below_length k, slots_length plan s.jobs)
 
   pub not_past : k ≤ plan.peak
-  not_past = ⊎_elim
-      (λ (past : plan.peak < k). (let (r, i, e) = l.lowest plan.peak past in absurd (let z : ⊥ = omega (arith, fit.below r i, e) in z)))
-      (λ (low : k ≤ plan.peak). low)
-      (cases_lt plan.peak k)
+  not_past = grind arith
 
   room_for_one : k < plan.peak → live_tasks s.jobs + 1 ≤ plan.peak
   room_for_one low =
@@ -195,18 +189,10 @@ module _ (x : Storage) (cpu new : Cpu) (areas areas' : Areas) (plan : Placement)
         task_in m t e = (found-has (λ (u : Task). u.number == t.number) m.progress.job.tasks t e).0
 
     slot_end_is : plan.stacks + (k + 1) * plan.size ≡ x.low + plan.size
-    slot_end_is =
-        ap (λ (n : ℕ). plan.stacks + (n + 1) * plan.size) is ∙ (let e : plan.stacks + (plan.peak + 1) * plan.size ≡ x.low + plan.size = omega (arith, base-step (machine_view plan s.jobs) plan.peak, h.holds.memory.slots.laid.low) in e)
+    slot_end_is = grind arith
 
     pub has_room : HasRoom x cpu.core cpu.regs (machine_view plan s.jobs)
-    has_room = record {
-      few = peak_low;
-      some = has.some;
-      inside = omega (arith, has.inside, slot_end_is);
-      clear = λ at a e. omega (arith, has.clear at a e, slot_end_is);
-      free = free_slot;
-      away = away;
-    }
+    has_room = grind (arith, peak_low, free_slot, away)
 
     module _ (stands : Represents (raised x areas'.low) new.core new.regs (grown (machine_view plan s.jobs))) (rest : new ≡ record cpu { core = new.core; regs = record cpu.regs { peak = cpu.regs.peak + 1 } })
         (below : (i : ℕ) → i < areas.low → i ≢ 152 → slice_get new.core i ≡ slice_get cpu.core i) where
@@ -214,13 +200,7 @@ module _ (x : Storage) (cpu new : Cpu) (areas areas' : Areas) (plan : Placement)
       regs_are = ap (λ (c : Cpu). c.regs) rest ∙ ap (λ (n : ℕ). record cpu.regs { peak = n }) (sym (ap (λ (c : Cpu). c.regs.peak) rest))
 
       settled : NoOriginalAboveTop (record (machine_view plan s.jobs) { peak = plan.peak + 1 })
-      settled u i q up from below = ⊎_elim
-          (λ (z : q < plan.peak). h.holds.settled u i q z from below)
-          (λ (z : plan.peak ≤ q).
-          let laid = h.holds.memory.slots.laid in
-          let same : slot_base (machine_view plan s.jobs) q ≡ slot_base (machine_view plan s.jobs) plan.peak = ap (slot_base (machine_view plan s.jobs)) (let e : q ≡ plan.peak = omega (arith, z, up) in e) in
-          absurd (let b : ⊥ = omega (arith, (laid.homes u i).1, laid.low, from, same) in b))
-          (cases_lt q plan.peak)
+      settled u i q up from below = grind arith
 
       session : RepresentsSession (raised x areas'.low) new (with_peak plan (plan.peak + 1)) (record s { peak = plan.peak + 1 })
       session = RepresentsSession-wider x (raised x areas'.low) cpu new plan s h (plan.peak + 1) (omega arith) (omega (arith, peak_low)) regs_are (ap (λ (c : Cpu). c.critical) rest) (ap (λ (c : Cpu). c.display) rest)

@@ -1,16 +1,15 @@
 -- The tables once a task was started: its row is the last, and its job's next task has the next number.
-use Rattle.std.proofs.Common.{◌≡◌, ℕ, zero, suc, ◌+◌, ◌-◌, ◌<◌, ◌≤◌, List, [], ◌∷◌, ◌++◌, map, length, Option, Some, None, refl, sym, ◌∙◌, ap, arith, inl, inr, subst, slice_set}
+use Rattle.std.proofs.Common.{◌≡◌, ℕ, zero, suc, ◌+◌, ◌-◌, ◌<◌, ◌≤◌, List, [], ◌∷◌, ◌++◌, map, length, Option, Some, None, refl, sym, ◌∙◌, ap, arith, slice_set}
 use Rattle.std.specs.List.{slice_get}
-use Rattle.std.proofs.lemmas.Bool.Decides.{eqb_tells}
 use Rattle.std.proofs.lemmas.List.{map-append, length-map}
-use Rattle.std.proofs.lemmas.Option.{same_Some, none-some}
+use Rattle.std.proofs.lemmas.Option.{none-some}
 use Rattle.b67_lemmas.specs.Lists.{Has}
 use Rattle.b67_lemmas.proofs.Members.{has_get, keyed_has}
 use Rattle.b67_lemmas.proofs.Places.{map-slice_set, mapped_at, at_mapped}
 use Rattle.b67_law_order.proofs.Numbered.{keyed_member, numbered_low}
 use Rattle.b67_model.specs.Common.{Task, Job, SessionJob, live_tasks, number_of, Session, NumberedFrom}
 use Rattle.b67_model.specs.Keyed.{keyed}
-use Rattle.b67_layout.specs.Common.{IsInOrderButCounts, Placement, JobShows, JobsShow, RunningRow, TaskShows, TablesShow, IsRunning, RepresentsSession, peak_with, session_moved}
+use Rattle.b67_layout.specs.Common.{IsInOrderButCounts, Placement, JobsShow, RunningRow, TaskShows, IsRunning, RepresentsSession, peak_with, session_moved}
 use Rattle.b67_stack.specs.Represents.{Storage}
 use Rattle.b67_layout.specs.Rows as rows
 use Rattle.b67_layout.proofs.Common.{with_course, slot_below, running_only, rows_live, job_at, live_in_order}
@@ -56,10 +55,7 @@ pub record JobRowOf (tasks : Tasks) (m : SessionJob) : Type 0 where
   pub next : row.next_task ≡ m.progress.job.next_task
 
 pub job_row_of : (tasks : Tasks) (plan : Placement) (s : Session) (m : SessionJob) → NumberedFrom 1 s.jobs → TasksShow plan s tasks → Has s.jobs m → JobRowOf tasks m
-job_row_of tasks plan s m numbered shows i =
-    let b = job_at plan 1 s.jobs (map job_row tasks.jobs) m numbered shows.jobs i in
-    let (row, at, same) = mapped_at job_row tasks.jobs (m.constants.number - 1) b.row b.at in
-    record { row = row; at = at; next = ap (λ (z : rows.JobRow). z.next_task) same ∙ b.shows.next_task }
+job_row_of tasks plan s m numbered shows i = grind (arith, job_at, mapped_at)
 
 -- as many rows as live tasks
 pub rows_few : (tasks : Tasks) (plan : Placement) (s : Session) (x : Storage) (cpu : Cpu) → IsInOrderButCounts s → RepresentsSession x cpu plan s → TasksShow plan s tasks → length tasks.rows.items ≡ live_tasks s.jobs
@@ -73,38 +69,15 @@ module _ (plan : Placement) (m : SessionJob) (job' : Job) (number k peak : ℕ) 
   rest_shows [] [] h = h
   rest_shows [] (r ∷ rs) h = absurd h
   rest_shows (y ∷ ys) [] h = absurd h
-  rest_shows (y ∷ ys) (r ∷ rs) h = (
-    record { dictionary = h.0.dictionary; segments = h.0.segments; rows = h.0.rows; limit = h.0.limit; made = h.0.made; next_task = h.0.next_task; numbers = h.0.numbers },
-    rest_shows ys rs h.1,
-  )
+  rest_shows (y ∷ ys) (r ∷ rs) h = grind (arith, rest_shows ys rs h.1)
 
   pub jobs_next : (from i : ℕ) (jobs : List SessionJob) (rs : List rows.JobRow) (r : rows.JobRow) → from + i ≡ m.constants.number → NumberedFrom from jobs → keyed number_of m.constants.number jobs ≡ Some m → JobsShow plan jobs rs → slice_get rs i ≡ Some r
       → JobsShow (with_task_at plan m.constants.number number k peak) (with_course jobs m.constants.number (record m.progress { job = job' })) (slice_set rs i (record r { next_task = r.next_task + 1 }))
   jobs_next from i [] [] r e d found h at = absurd (none-some r at)
   jobs_next from i [] (q ∷ rs) r e d found h at = absurd h
   jobs_next from i (y ∷ ys) [] r e d found h at = absurd h
-  jobs_next from zero (y ∷ ys) (q ∷ rs) r e d found h at = elim (eqb_tells (number_of y) m.constants.number) [
-    | inl t ↦ let same : q ≡ r = same_Some q r at in
-        let is : y ≡ m = same_Some y m (rw t.0 at found) in
-        let shows : JobShows more (record y { progress = record m.progress { job = job' } }) (record q { next_task = q.next_task + 1 }) = record {
-          dictionary = h.0.dictionary;
-          segments = h.0.segments;
-          rows = h.0.rows;
-          limit = h.0.limit;
-          made = h.0.made ∙ ap (λ (z : SessionJob). z.progress.made) is;
-          next_task = omega (arith, h.0.next_task, ap (λ (z : SessionJob). z.progress.job.next_task) is, next);
-          numbers = h.0.numbers ∙ ap (λ (z : SessionJob). z.progress.job.numbers) is ∙ sym numbers;
-        } in
-        rw t.0 (subst (λ (z : rows.JobRow). JobShows more (record y { progress = record m.progress { job = job' } }) (record z { next_task = z.next_task + 1 })) same shows, rest_shows ys rs h.1)
-    | inr t ↦ absurd (t.1 (omega (arith, d.0, e)))
-  ]
-  jobs_next from (suc i) (y ∷ ys) (q ∷ rs) r e d found h at = elim (eqb_tells (number_of y) m.constants.number) [
-    | inl t ↦ absurd (omega (arith, t.1, d.0, e))
-    | inr t ↦ rw t.0 (
-      record { dictionary = h.0.dictionary; segments = h.0.segments; rows = h.0.rows; limit = h.0.limit; made = h.0.made; next_task = h.0.next_task; numbers = h.0.numbers },
-      jobs_next (from + 1) i ys rs r (omega (arith, e)) d.1 (rw t.0 at found) h.1 at,
-    )
-  ]
+  jobs_next from zero (y ∷ ys) (q ∷ rs) r e d found h at = grind (arith, rest_shows)
+  jobs_next from (suc i) (y ∷ ys) (q ∷ rs) r e d found h at = grind (arith, jobs_next (from + 1) i ys rs r)
 
 -- the tables show the session with the new task
 pub tables_started : (tasks tasks' : Tasks) (plan : Placement) (s : Session) (m : SessionJob) (t new : Task) (k : ℕ) (x : Storage) (cpu : Cpu) (o : IsInOrderButCounts s) (h : RepresentsSession x cpu plan s) (shows : TasksShow plan s tasks) (runs : IsRunning plan s.jobs m t)
@@ -125,8 +98,4 @@ tables_started tasks tasks' plan s m t new k x cpu o h shows runs joins row job_
     let next = jobs_next plan m (with_child m.progress.job new) new.number k P refl refl 1 (m.constants.number - 1) s.jobs (map job_row tasks.jobs) (job_row j.row) (omega (arith, low)) o.numbered runs.member shows.jobs (at_mapped job_row tasks.jobs (m.constants.number - 1) j.row j.at) in
     let born = tables_born plan s m (with_child m.progress.job new) new k P o.numbered joins (map task_row tasks.rows.items) (map job_row tasks.jobs) (slice_set (map job_row tasks.jobs) (m.constants.number - 1) (job_row (with_next j.row))) (counts_of tasks) (task_row row) shows row_shows at_slot next
     (task_row of.row) (at_mapped task_row tasks.rows.items tasks.running of.row of.at) in
-    let more = with_task_at plan m.constants.number new.number k P in
-    let after = session_moved s m (with_child m.progress.job new) 1 in
-    subst (λ (c : rows.JobCounts). TablesShow more after (map task_row tasks'.rows.items) (map job_row tasks'.jobs) c) (sym (ap counts_of rest))
-    (subst (λ (js : List rows.JobRow). TablesShow more after (map task_row tasks'.rows.items) js (counts_of tasks)) jobs_mapped
-    (subst (λ (rs : List rows.TaskRow). TablesShow more after rs (slice_set (map job_row tasks.jobs) (m.constants.number - 1) (job_row (with_next j.row))) (counts_of tasks)) mapped born))
+    grind (arith, slice_set)

@@ -193,10 +193,7 @@ module _ (x : Storage) (cpu : Cpu) (plan : Placement) (s : Session) (m : Session
       cells_are = reverse-reverse (arguments t count)
 
       pub split : frames.call.cells ≡ reverse (reverse (arguments t count)) ++ drop count (top t.frames).cells
-      split =
-          ap (λ (fs : List Frame). (top fs).cells) (sym frames.is)
-          ∙ sym (take-append-drop count (top t.frames).cells)
-          ∙ ap (λ (ws : List Word). ws ++ drop count (top t.frames).cells) (sym cells_are)
+      split = grind (arith, take-append-drop, cells_are)
 
       in_call : (w : Word) → Has cells w → Has frames.call.cells w
       in_call w i = subst (λ (ws : List Word). Has ws w) (sym split) (has_append_left cells (drop count (top t.frames).cells) w i)

@@ -24,20 +24,10 @@ use Rattle.b67_task_switch.proofs.ReadyTasks.{Rises, ready_rises, row_ready, rea
 -- the first of a part of a list in order
 pub first_passing : (p : Who → Bool) (xs : List Who) (w : Who) → Rises xs → Has xs w → p w ≡ true → ((x : Who) → Has xs x → p x ≡ true → is_before x w ≡ false) → first (filter p xs) ≡ Some w
 first_passing p [] w r h t least = absurd h
-first_passing p (x ∷ xs) w r h t least = elim (cases_Bool (p x)) [
-  | inl e ↦ rw e (elim h [
-    | inl is ↦ ap Some is
-    | inr k ↦ absurd (true≢false (sym (r.0 w k) ∙ least x (inl refl) e))
-  ])
-  | inr e ↦ rw e (elim h [
-    | inl is ↦ absurd (true≢false (sym t ∙ ap p (sym is) ∙ e))
-    | inr k ↦ first_passing p xs w r.1 k t (λ y m. least y (inr m))
-  ])
-]
+first_passing p (x ∷ xs) w r h t least = grind (arith, first_passing p xs w r.1)
 
 first_append : (xs ys : List Who) (w : Who) → first xs ≡ Some w → first (xs ++ ys) ≡ Some w
-first_append [] ys w e = cc
-first_append (x ∷ xs) ys w e = e
+first_append xs ys w e = grind arith
 
 filter_none : (p : Who → Bool) (xs : List Who) → ((x : Who) → Has xs x → p x ≡ false) → filter p xs ≡ []
 filter_none p [] none = refl
@@ -48,9 +38,7 @@ filter_rest p [] none = refl
 filter_rest p (x ∷ xs) none = let t = none x (inl refl) in rw t (ap (λ l. x ∷ l) (filter_rest p xs (λ y k. none y (inr k))))
 
 first_of : (xs : List Who) (w : Who) → Rises xs → Has xs w → ((x : Who) → Has xs x → is_before x w ≡ false) → first xs ≡ Some w
-first_of [] w r h least = absurd h
-first_of (x ∷ xs) w r (inl is) least = ap Some is
-first_of (x ∷ xs) w r (inr k) least = absurd (true≢false (sym (r.0 w k) ∙ least x (inl refl)))
+first_of xs w r h least = grind arith
 
 abbrev pub cyclic : Who → List Who → Option Who
 cyclic last xs = first (filter (is_before last) xs ++ filter (λ who. not (is_before last who)) xs)
@@ -128,20 +116,16 @@ module _ (plan : Placement) (s : Session) (o : IsInOrderButPlaces s) (task_rows 
         (h.who, h.at, subst (λ (v : Who). cyclic v (ready s) ≡ Some h.who) is (cyclic_is last (ready s) h.who rises (in_row i h.who h.at) (λ x k. let (j, a) = row_in x k in h.first j x (within j x a) a)))
 
 pub ready_inside : (task_rows : List TaskRow) (who : Who) (i : Option ℕ) → ReadyRow task_rows who i → IfSome i (λ k. k < length task_rows)
-ready_inside task_rows who None h = tt
-ready_inside task_rows who (Some i) h = slice_get_within task_rows i h.row h.at
+ready_inside task_rows who i h = grind (arith, slice_get_within)
 
 pub next_inside : (n : ℕ) (task_rows : List TaskRow) (last : Who) (i : Option ℕ) → NextRow n task_rows last i → IfSome i (λ k. k < length task_rows)
-next_inside n task_rows last None h = tt
-next_inside n task_rows last (Some i) h = slice_get_within task_rows i h.at.row h.at.at
+next_inside n task_rows last i h = grind (arith, slice_get_within)
 
 -- through a lent slice
 pub lent_named : (lent xs : List text.Switch) (from made : ℕ) (named : Option Who) → lent ≡ xs
     → (SwitchesRise (map switch_of lent) → Past from made (map switch_of lent) → SwitchesTo made (map switch_of lent) named)
     → SwitchesRise (map switch_of xs) → Past from made (map switch_of xs) → SwitchesTo made (map switch_of xs) named
-lent_named lent xs from made named is h =
-    let P : List text.Switch → Type 0 = λ l. SwitchesRise (map switch_of l) → Past from made (map switch_of l) → SwitchesTo made (map switch_of l) named in
-    subst P is h
+lent_named lent xs from made named is h = grind arith
 
 pub lent_ready : (lent xs : List TaskRow) (who : Who) (i : Option ℕ) → lent ≡ xs → ReadyRow lent who i → ReadyRow xs who i
 lent_ready lent xs who i is h = subst (λ (l : List TaskRow). ReadyRow l who i) is h
@@ -151,8 +135,7 @@ lent_next lent xs last i is h = subst (λ (l : List TaskRow). NextRow (length l)
 
 chosen_with : (rows : List TaskRow) (i : ℕ) (c : Chosen) (who : Who) (turn : ℕ) → IsReadyAt rows i who → choice_of c ≡ record { who = who; turn = turn } → c.row ≡ i
     → (choice : Option Choice) → choice ≡ Some (record { who = who; turn = turn }) → Chooses rows (Some c) choice
-chosen_with rows i c who turn a is row choice e =
-    (subst (λ (v : Who). IsReadyAt rows c.row v) (sym (ap (λ (d : Choice). d.who) is)) (subst (λ (n : ℕ). IsReadyAt rows n who) (sym row) a), e ∙ ap Some (sym is))
+chosen_with rows i c who turn a is row choice e = grind arith
 
 -- a switch, and then the next task in order, begin a turn
 pub chosen_by_switch : (s : Session) (rows : List TaskRow) (i : ℕ) (c : Chosen) → RowOf rows (Some i) (switched s) → ((who : Who) → IsReadyAt rows i who → choice_of c ≡ record { who = who; turn = 0 }) → c.row ≡ i

@@ -1,16 +1,15 @@
 -- The tables once a task has made one operator more.
 use Rattle.std.proofs.Common.{◌≡◌, ℕ, zero, suc, ◌+◌, ◌-◌, ◌<◌, ◌≤◌, List, [], ◌∷◌, ◌++◌, length, map, take, drop, Some, refl, sym, ◌∙◌, ap, arith, inl, inr, ◌⊎◌, slice_set, subst, get_or}
 use Rattle.std.specs.List.{slice_get}
-use Rattle.std.proofs.lemmas.Option.{same_Some, get_or_from_slice_get, none-some}
+use Rattle.std.proofs.lemmas.Option.{get_or_from_slice_get, none-some}
 use Rattle.std.proofs.lemmas.List.{length-map}
-use Rattle.std.proofs.lemmas.Bool.{cases_lt}
 use Rattle.std.proofs.lemmas.Bool.Decides.{eqb_tells}
 use Rattle.b67_model_text.specs.declared.deck.Switch as text
 use Rattle.b67_lemmas.specs.Lists.{Has}
 use Rattle.b67_lemmas.proofs.Places.{at_mapped, came_back, map-slice_set, mapped_at}
 use Rattle.b67_model.specs.Common.{Task, SessionJob, number_of, Who, Switch, Session, NumberedFrom}
 use Rattle.b67_model.specs.Keyed.{change_keyed}
-use Rattle.b67_layout.specs.Common.{Placement, TaskRow, JobCounts, TaskShows, JobShows, JobsShow, TablesShow}
+use Rattle.b67_layout.specs.Common.{Placement, TaskRow, JobCounts, TaskShows, JobsShow, TablesShow}
 use Rattle.b67_layout.specs.Rows as rows
 use Rattle.b67_task_tables.specs.declared.tables.JobRow.{JobRow}
 use Rattle.b67_task_tables.specs.declared.tables.Tasks.{Tasks}
@@ -20,14 +19,7 @@ use Rattle.b67_task_switch.specs.Counted.{choice_of, counted_more, row_more, cou
 
 -- one switch more is past
 pub past_grown : (xs : List text.Switch) (from made n : ℕ) (d : text.Switch) → from < length xs → (get_or xs from d).count < made → n ≤ from + 1 → Past from made (map switch_of xs) → Past n made (map switch_of xs)
-past_grown xs from made n d inside low few past = λ i w lt e. elim (cases_lt i from) [
-  | inl low ↦ past i w low e
-  | inr high ↦
-      let is : i ≡ from = omega (arith, high, lt, few) in
-      let (x, at, same) = mapped_at switch_of xs i w e in
-      let there_is : slice_get xs from ≡ Some x = ap (slice_get xs) (sym is) ∙ at in
-      omega (arith, low, ap (λ (v : text.Switch). v.count) (get_or_from_slice_get xs from x d there_is), ap (λ (v : Switch). v.count) same)
-]
+past_grown xs from made n d inside low few past = grind (arith, mapped_at, get_or_from_slice_get)
 
 -- the members once one of them has made one operator more: the others, and that one
 pub has_counted : (more n : ℕ) (jobs : List SessionJob) (m : SessionJob) → Has (change_keyed number_of n (counted_more more) jobs) m → (y : SessionJob) × Has jobs y × ((y ≡ m) ⊎ (counted_more more y ≡ m))
@@ -42,13 +34,7 @@ has_counted more n (y ∷ jobs) m h = elim (eqb_tells (number_of y) n) [
 
 pub has_counted_of : (more n : ℕ) (jobs : List SessionJob) (m : SessionJob) → Has jobs m → Has (change_keyed number_of n (counted_more more) jobs) m ⊎ Has (change_keyed number_of n (counted_more more) jobs) (counted_more more m)
 has_counted_of more n [] m h = absurd h
-has_counted_of more n (y ∷ jobs) m h = elim (eqb_tells (number_of y) n) [
-  | inl t ↦ rw t.0 (elim h [ inl e ↦ inr (inl (ap (counted_more more) e)) | inr k ↦ inl (inr k) ])
-  | inr t ↦ rw t.0 (elim h [
-    | inl e ↦ inl (inl e)
-    | inr k ↦ elim (has_counted_of more n jobs m k) [ inl l ↦ inl (inr l) | inr r ↦ inr (inr r) ]
-  ])
-]
+has_counted_of more n (y ∷ jobs) m h = grind (arith, has_counted_of more n jobs m)
 
 -- a row shows a task's state, whatever its job has made
 pub task_counted : (more : ℕ) (plan : Placement) (m : SessionJob) (t : Task) (row : TaskRow) → TaskShows plan m t row → TaskShows plan (counted_more more m) t row
@@ -62,24 +48,8 @@ pub jobs_counted : (add : ℕ) (plan : Placement) (k i n : ℕ) (jobs : List Ses
 jobs_counted add plan k i n [] [] r e d h at = absurd (none-some r at)
 jobs_counted add plan k i n [] (q ∷ job_rows) r e d h at = absurd h
 jobs_counted add plan k i n (m ∷ more) [] r e d h at = absurd h
-jobs_counted add plan k zero n (m ∷ more) (q ∷ job_rows) r e d h at = elim (eqb_tells (number_of m) n) [
-  | inl t ↦ let same : q ≡ r = same_Some q r at in
-      let shows : JobShows plan (counted_more add m) (row_counted add q) = record {
-        dictionary = h.0.dictionary;
-        segments = h.0.segments;
-        rows = h.0.rows;
-        limit = h.0.limit;
-        made = omega (arith, h.0.made);
-        next_task = h.0.next_task;
-        numbers = h.0.numbers;
-      } in
-      rw t.0 (subst (λ (z : rows.JobRow). JobShows plan (counted_more add m) (row_counted add z)) same shows, h.1)
-  | inr t ↦ absurd (t.1 (omega (arith, d.0, e)))
-]
-jobs_counted add plan k (suc i) n (m ∷ more) (q ∷ job_rows) r e d h at = elim (eqb_tells (number_of m) n) [
-  | inl t ↦ absurd (omega (arith, t.1, d.0, e))
-  | inr t ↦ rw t.0 (h.0, jobs_counted add plan (k + 1) i n more job_rows r (omega (arith, e)) d.1 h.1 at)
-]
+jobs_counted add plan k zero n (m ∷ more) (q ∷ job_rows) r e d h at = grind arith
+jobs_counted add plan k (suc i) n (m ∷ more) (q ∷ job_rows) r e d h at = grind (arith, jobs_counted add plan (k + 1) i n more job_rows r)
 
 -- so many operators more of a task, which is then the last one
 abbrev pub counted_to : ℕ → ℕ → Who → Session → Session
@@ -121,8 +91,7 @@ module _ (more turn : ℕ) (who : Who) (plan : Placement) (s : Session) (task_ro
 
 pub jobs_after : (more : ℕ) (xs lent new : List JobRow) (n : ℕ) (r : JobRow) → lent ≡ xs → (slice_get lent n ≡ Some r → new ≡ slice_set lent n (row_more more r)) → length new ≡ length lent → slice_get xs n ≡ Some r
     → take (length xs) (new ++ drop (length new) xs) ≡ slice_set xs n (row_more more r)
-jobs_after more xs lent new n r same changed len at =
-    came_back xs new (len ∙ ap length same) ∙ changed (ap (λ (l : List JobRow). slice_get l n) same ∙ at) ∙ ap (λ (l : List JobRow). slice_set l n (row_more more r)) same
+jobs_after more xs lent new n r same changed len at = grind (arith, came_back)
 
 pub count_shows : (tasks : Tasks) (chosen : Chosen) (room : CountsHaveRoom tasks chosen) (lent new : List JobRow) (switches : List text.Switch) (next : ℕ) → lent ≡ tasks.jobs → switches ≡ tasks.switches
     → (slice_get lent (chosen.job - 1) ≡ Some room.job → new ≡ slice_set lent (chosen.job - 1) (counted_row room.job)) → length new ≡ length lent

@@ -1,5 +1,5 @@
 -- The last task goes on with its turn.
-use Rattle.std.proofs.Common.{◌≡◌, ℕ, ◌+◌, ◌-◌, ◌<◌, ◌≤◌, Bool, true, false, List, length, map, Option, Some, None, refl, sym, ◌∙◌, ap, arith, inl, inr, subst, get_or}
+use Rattle.std.proofs.Common.{◌≡◌, ℕ, ◌+◌, ◌-◌, ◌<◌, ◌≤◌, Bool, true, List, length, map, Option, Some, None, sym, ◌∙◌, ap, arith, inl, inr, subst, get_or}
 use Rattle.std.specs.Prelude.{◌&&◌, ◌||◌, nat_lt}
 use Rattle.std.specs.List.{slice_get, list_any}
 use Rattle.std.proofs.lemmas.Option.{same_Some, slice_get_within}
@@ -9,7 +9,7 @@ use Rattle.b67_lemmas.specs.Lists.{Has}
 use Rattle.b67_lemmas.proofs.Members.{all_in, any_some, find_none, has_flat, has_get, keyed_has, keyed_falls}
 use Rattle.b67_lemmas.proofs.Places.{at_mapped, has_at, mapped_at}
 use Rattle.b67_model.specs.Keyed.{keyed}
-use Rattle.b67_model.specs.Common.{number_of, Condition, Ready, Awaits, WaitsAt, Task, Job, SessionJob, Who, Switch, Session, is_same, ready, ready_of, switched, choice, IsSegment, JobInOrder, SwitchesRise, IsInOrderButPlaces}
+use Rattle.b67_model.specs.Common.{number_of, Condition, Ready, Task, Job, SessionJob, Who, Switch, Session, is_same, ready, ready_of, switched, choice, IsSegment, JobInOrder, SwitchesRise, IsInOrderButPlaces}
 use Rattle.b67_model.specs.Schedule.{goes_on}
 use Rattle.b67_model.specs.Endings as model
 use Rattle.b67_law_order.proofs.Numbered.{keyed_member, numbered_low}
@@ -17,7 +17,6 @@ use Rattle.b67_layout.specs.Common.{Placement, RunningRow, shown}
 use Rattle.b67_layout.specs.Rows as rows
 use Rattle.b67_layout.proofs.LiveTasks.{job_at}
 use Rattle.b67_task_tables.specs.declared.tables.TaskState.{TaskState}
-use Rattle.b67_task_tables.specs.declared.tables.TaskState.TheVariants as code
 use Rattle.b67_task_tables.specs.declared.tables.JobRow.{JobRow}
 use Rattle.b67_task_tables.specs.declared.tables.Tasks.{Tasks}
 use Rattle.b67_task_tables.specs.Tables.{state_of, task_row, job_row, switch_of, TasksShow}
@@ -61,34 +60,16 @@ leave_switch xs lent d s next made room same shown counted rise past inside is s
 
 -- in the quantum, where no switch is left
 pub leave_quantum : (xs : List text.Switch) (s : Session) (next made room : ℕ) → map switch_of xs ≡ s.switches → made ≡ s.made → Past next made (map switch_of xs) → length (map switch_of xs) ≤ next → s.turn + room ≤ s.quantum → RulesLeave s room
-leave_quantum xs s next made room shown counted past all few = record {
-  switches = λ w k.
-      let there : Has (map switch_of xs) w = subst (λ (l : List Switch). Has l w) (sym shown) k in
-      let (j, at_w) = has_at (map switch_of xs) w there in
-      inl (omega (arith, counted, past j w (omega (arith, all, slice_get_within (map switch_of xs) j w at_w)) at_w));
-  on = inr few;
-}
+leave_quantum xs s next made room shown counted past all few = grind (arith, has_at, slice_get_within)
 
 pub leave_fewer : (s : Session) (room fewer : ℕ) → fewer ≤ room → RulesLeave s room → RulesLeave s fewer
-leave_fewer s room fewer few h = record {
-  switches = λ w k. elim (h.switches w k) [ inl low ↦ inl low | inr up ↦ inr (omega (arith, few, up)) ];
-  on = elim h.on [
-    | inl x ↦ let (w, k, up) = x in inl (w, k, omega (arith, few, up))
-    | inr x ↦ inr (omega (arith, few, x))
-  ];
-}
+leave_fewer s room fewer few h = grind arith
 
 -- ---- the last task
 
 -- a state that is ready in a row is the task's
 ready_is : (plan : Placement) (j : ℕ) (job : Job) (t : Task) (state : TaskState) (c : Condition) → is_ready_state state ≡ true → state_of state ≡ shown plan j job t c → c ≡ Ready
-ready_is plan j job t state Ready r e = refl
-ready_is plan j job t code.Ready (Awaits n) r e = absurd cc
-ready_is plan j job t (code.Awaits k) (Awaits n) r e = absurd cc
-ready_is plan j job t (code.WaitsAt mark offset) (Awaits n) r e = absurd cc
-ready_is plan j job t code.Ready (WaitsAt f o) r e = absurd cc
-ready_is plan j job t (code.Awaits k) (WaitsAt f o) r e = absurd cc
-ready_is plan j job t (code.WaitsAt mark offset) (WaitsAt f o) r e = absurd cc
+ready_is plan j job t state c r e = grind arith
 
 module _ (plan : Placement) (s : Session) (o : IsInOrderButPlaces s) (tasks : Tasks) (shows : TasksShow plan s tasks) where
   abbrev last : Who
@@ -123,8 +104,7 @@ module _ (plan : Placement) (s : Session) (o : IsInOrderButPlaces s) (tasks : Ta
 -- ---- the choice
 
 or_true : (b : Bool) → (b || true) ≡ true
-or_true true = refl
-or_true false = refl
+or_true b = grind arith
 
 ready_so : (t : Task) → t.condition ≡ Ready → model.is_ready t ≡ true
 ready_so t e = ap (λ (c : Condition). model.is_ready (record t { condition = c })) e

@@ -1,5 +1,5 @@
 -- The registers of a waiting task come into use.
-use Rattle.std.proofs.Common.{◌≡◌, ℕ, ◌+◌, ◌-◌, ◌*◌, ◌<◌, List, refl, sym, ◌∙◌, ap, arith, false, ◌==◌, Bool, subst}
+use Rattle.std.proofs.Common.{◌≡◌, ℕ, ◌+◌, ◌-◌, ◌*◌, ◌<◌, List, refl, sym, ◌∙◌, ap, arith, ◌==◌, Bool, subst}
 use Rattle.std.specs.Prelude.{if◌then◌else◌}
 use Rattle.std.proofs.lemmas.Bool.{ne_eqb, eq-eqb}
 use Rattle.b67_word.specs.Tagged.{Tagged}
@@ -32,13 +32,7 @@ module _ (x : Storage) (core : List Tagged) (r : Regs) (marks : List ℕ) (plan 
   used = omega (arith, q.slot, slot_below plan s.jobs m t h.fits.rows has_m has_t)
 
   pub waits_on : WaitsOn (machine_view plan s.jobs) turn.slot waiting_stack
-  waits_on =
-      let other : (turn.slot == plan.running) ≡ false = ne_eqb turn.slot plan.running (λ e. omega (arith, e, none, used, h.fits.few)) in
-      record {
-        used = used;
-        is = slot_here plan s.jobs m t h.fits.rows h.fits.few q.member q.task turn.slot q.slot
-            ∙ ap (λ (b : Bool). if b then Running (stack_of_task plan m.constants.number m.progress.job turn.slot t) else Waiting (stack_of_task plan m.constants.number m.progress.job turn.slot t)) other;
-      }
+  waits_on = grind (arith, used, slot_here)
 
   runs_now : slot_at (with_running plan turn.slot) s.jobs turn.slot ≡ Running waiting_stack
   runs_now =

@@ -1,11 +1,10 @@
 -- The count of an operator, with what the operator makes of its job, is the session's step.
-use Rattle.std.proofs.Common.{◌≡◌, ℕ, ◌+◌, List, [], ◌∷◌, length, Some, refl, sym, ◌∙◌, ap, inl, inr, subst}
-use Rattle.std.proofs.lemmas.Bool.Decides.{eqb_tells}
+use Rattle.std.proofs.Common.{◌≡◌, ℕ, ◌+◌, List, [], ◌∷◌, Some, refl, sym, ◌∙◌, ap, inl, inr, subst, arith}
 use Rattle.b67_lemmas.specs.Lists.{Has}
 use Rattle.b67_lemmas.proofs.Members.{keyed_has}
 use Rattle.b67_model.specs.Keyed.{keyed, change_keyed}
 use Rattle.b67_model.specs.Common.{Task, JobConstants, Job, JobProgress, SessionJob, JobMoment, number_of, with_moment, Session, Choice, NumberedFrom}
-use Rattle.b67_layout.specs.Common.{Placement, slot_of, TaskRow, JobRow, JobCounts, shown, parent_slot, critical_disp, TaskShows, JobShows, JobsShow, TablesShow, with_job}
+use Rattle.b67_layout.specs.Common.{Placement, TaskRow, JobRow, JobCounts, TaskShows, JobShows, JobsShow, TablesShow, with_job}
 use Rattle.b67_task_switch.specs.Counted.{counted_member, counted}
 
 -- members of which tables show the same
@@ -44,27 +43,10 @@ module _ (plan : Placement) (a b : SessionJob) (w : SameShown a b) where
   job = sym w.job
 
   task_same : (t : Task) (row : TaskRow) → TaskShows plan a t row → TaskShows plan b t row
-  task_same t row h = record {
-    job = h.job ∙ number;
-    number = h.number;
-    slot = h.slot ∙ ap (λ (n : ℕ). slot_of plan n t.number) number;
-    parent = h.parent ∙ ap (λ (n : ℕ). parent_slot plan n t.parents) number;
-    critical = h.critical ∙ ap (λ (n : ℕ). critical_disp plan n a.progress.job t.critical t.parents) number ∙ ap (λ (j : Job). critical_disp plan b.constants.number j t.critical t.parents) job;
-    state = h.state ∙ ap (λ (n : ℕ). shown plan n a.progress.job t t.condition) number ∙ ap (λ (j : Job). shown plan b.constants.number j t t.condition) job;
-    segment = h.segment;
-    place = h.place;
-  }
+  task_same t row h = grind arith
 
   job_same : (row : JobRow) → JobShows plan a row → JobShows plan b row
-  job_same row h = record {
-    dictionary = h.dictionary ∙ ap plan.dictionary number;
-    segments = h.segments ∙ ap (λ (z : JobConstants). length z.segments) (sym w.constants);
-    rows = h.rows ∙ ap (λ (z : JobConstants). length z.dictionary.cells) (sym w.constants);
-    limit = h.limit ∙ ap (λ (z : JobConstants). z.limit) (sym w.constants);
-    made = h.made ∙ sym w.made;
-    next_task = h.next_task ∙ ap (λ (j : Job). j.next_task) job;
-    numbers = h.numbers ∙ ap (λ (j : Job). j.numbers) job;
-  }
+  job_same row h = grind arith
 
 jobs_same : (plan : Placement) (xs ys : List SessionJob) (job_rows : List JobRow) → SameMembers xs ys → JobsShow plan xs job_rows → JobsShow plan ys job_rows
 jobs_same plan [] [] job_rows w h = h
@@ -102,19 +84,13 @@ tables_same plan s jobs peak rows job_rows c w shows = record {
 
 pub numbered_change : (k n : ℕ) (progress : JobProgress) (jobs : List SessionJob) → NumberedFrom k jobs → NumberedFrom k (change_keyed number_of n (λ (y : SessionJob). record y { progress = progress }) jobs)
 numbered_change k n progress [] d = d
-numbered_change k n progress (y ∷ more) d = elim (eqb_tells (number_of y) n) [
-  | inl t ↦ rw t.0 (d.0, d.1)
-  | inr t ↦ rw t.0 (d.0, numbered_change (k + 1) n progress more d.1)
-]
+numbered_change k n progress (y ∷ more) d = grind (arith, numbered_change (k + 1) n progress more d.1)
 
 -- the course before the count, and the one after the step
 changed_same : (n : ℕ) (before after : JobProgress) (jobs : List SessionJob) → after.job ≡ before.job → after.made ≡ before.made + 1
     → SameMembers (change_keyed number_of n counted_member (change_keyed number_of n (λ (y : SessionJob). record y { progress = before }) jobs)) (change_keyed number_of n (λ (y : SessionJob). record y { progress = after }) jobs)
 changed_same n before after [] e f = tt
-changed_same n before after (y ∷ more) e f = elim (eqb_tells (number_of y) n) [
-  | inl t ↦ rw (t.0, t.0) (record { constants = refl; job = e; made = f }, same_self more)
-  | inr t ↦ rw (t.0, t.0) (record { constants = refl; job = refl; made = refl }, changed_same n before after more e f)
-]
+changed_same n before after (y ∷ more) e f = grind (arith, same_self, changed_same n before after more e f)
 
 module _ (s : Session) (m : SessionJob) (job : Job) where
   pub numbered_with_job : NumberedFrom 1 s.jobs → NumberedFrom 1 (with_job s m job).jobs

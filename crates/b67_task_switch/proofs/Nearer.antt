@@ -1,13 +1,13 @@
 -- The first ready task behind another, among more and more rows.
 use Rattle.std.proofs.Common.{◌≡◌, ℕ, ◌+◌, ◌-◌, ◌^◌, ◌≤◌, ◌<◌, ◌⊎◌, true, false, List, length, Some, None, refl, sym, ◌∙◌, ap, arith, inl, inr, subst, get_or}
 use Rattle.std.specs.List.{slice_get}
-use Rattle.std.proofs.lemmas.Option.{same_Some, get_or_from_slice_get, slice_get_within}
+use Rattle.std.proofs.lemmas.Option.{get_or_from_slice_get, slice_get_within}
 use Rattle.std.proofs.lemmas.Bool.{cases_lt, true≢false}
-use Rattle.b67_model.specs.Schedule.{Who, is_same}
+use Rattle.b67_model.specs.Schedule.{Who}
 use Rattle.b67_task_tables.specs.declared.tables.TheConstants.{NO_ROW}
 use Rattle.b67_task_tables.specs.declared.tables.TaskRow.{TaskRow}
 use Rattle.b67_task_switch.specs.Chosen.{who_of, is_ready_state, is_ready_row_of, is_sooner, IsReadyAt, IsNextAt, NextRow, IsDistance}
-use Rattle.b67_task_switch.proofs.Orders.{is_self, never_sooner, no_sooner, not_sooner}
+use Rattle.b67_task_switch.proofs.Orders.{never_sooner, no_sooner, not_sooner}
 use Rattle.b67_lemmas.proofs.Places.{get_within}
 
 -- the nearest ready task among the first n rows, with its distance
@@ -28,9 +28,7 @@ seen xs i d h = let (x, e) = get_within xs i h in e ∙ ap Some (sym (get_or_fro
 
 module _ (rows : List TaskRow) (k : ℕ) (row : TaskRow) (e : slice_get rows k ≡ Some row) where
   same_row : (w : Who) (a : IsReadyAt rows k w) → (is_ready_state row.state ≡ true) × (who_of row ≡ w)
-  same_row w a =
-      let same : a.row ≡ row = same_Some a.row row (sym a.at ∙ e) in
-      (ap (λ (r : TaskRow). is_ready_state r.state) (sym same) ∙ a.ready, ap who_of (sym same) ∙ a.is)
+  same_row w a = grind arith
 
   ready_here : is_ready_state row.state ≡ true → IsReadyAt rows k (who_of row)
   ready_here t = record { row = row; at = e; ready = t; is = refl }
@@ -94,21 +92,11 @@ module _ (rows : List TaskRow) (k : ℕ) (row : TaskRow) (e : slice_get rows k �
 
   -- the row at k is not that of a ready task of this name
   pub not_here : (who : Who) → is_ready_row_of who row ≡ false → ((j : ℕ) → j < k → IsReadyAt rows j who → ⊥) → (j : ℕ) → j < k + 1 → IsReadyAt rows j who → ⊥
-  not_here who q none j lt a = elim (cases_lt j k) [
-    | inl low ↦ none j low a
-    | inr high ↦
-        let is : j ≡ k = omega (arith, high, lt) in
-        let (ready, same) = same_row who (subst (λ (n : ℕ). IsReadyAt rows n who) is a) in
-        let b : is_same (who_of row) who ≡ false = rw ready at q in
-        let c : is_same who who ≡ false = subst (λ (v : Who). is_same v who ≡ false) same b in
-        true≢false (sym (is_self who) ∙ c)
-  ]
+  not_here who q none j lt a = grind arith
 
 -- the row that is answered
 pub no_row : (rows : List TaskRow) (last : Who) (far best : ℕ) → length rows ≤ 255 → best ≡ NO_ROW → Nearest (length rows) rows last far best → NextRow (length rows) rows last None
-no_row rows last far best few is (inl (none, most, h)) = h
-no_row rows last far best few is (inr f) = absurd (omega (arith, few, is, slice_get_within rows best f.next.at.row f.next.at.at))
+no_row rows last far best few is h = grind (arith, slice_get_within)
 
 pub one_row : (rows : List TaskRow) (last : Who) (far best : ℕ) → (best ≡ NO_ROW → ⊥) → Nearest (length rows) rows last far best → NextRow (length rows) rows last (Some best)
-one_row rows last far best is (inl (none, most, h)) = absurd (is none)
-one_row rows last far best is (inr f) = f.next
+one_row rows last far best is h = grind arith

@@ -6,15 +6,14 @@ use Rattle.std.proofs.lemmas.Bool.{cases_Bool, true≢false}
 use Rattle.b67_lemmas.specs.Lists.{Has, Falls}
 use Rattle.b67_lemmas.proofs.Members.{all_in, falls_low, has_append_cases, has_filter, has_filter_in, has_flat, has_get, has_map, has_map_back, has_reverse, has_reverse_back, reverse_cons}
 use Rattle.b67_lemmas.proofs.Places.{at_mapped, has_at, mapped_at}
-use Rattle.b67_model.specs.Common.{Condition, Ready, Awaits, WaitsAt, Task, Job, SessionJob, Who, Session, is_before, ready_of, ready, JobInOrder, IsSegment, NumberedFrom, IsInOrderButPlaces}
+use Rattle.b67_model.specs.Common.{Condition, Task, Job, SessionJob, Who, Session, is_before, ready_of, ready, JobInOrder, IsSegment, NumberedFrom, IsInOrderButPlaces}
 use Rattle.b67_model.specs.Endings as model
 use Rattle.b67_layout.specs.Common.{Placement, shown, TablesShow}
 use Rattle.b67_layout.specs.Rows as rows
 use Rattle.b67_task_tables.specs.declared.tables.TaskState.{TaskState}
-use Rattle.b67_task_tables.specs.declared.tables.TaskState.TheVariants as code
 use Rattle.b67_task_tables.specs.declared.tables.TaskRow.{TaskRow}
 use Rattle.b67_task_tables.specs.Tables.{state_of, task_row}
-use Rattle.b67_task_switch.specs.Chosen.{who_of, is_ready_state, IsReadyAt}
+use Rattle.b67_task_switch.specs.Chosen.{is_ready_state, IsReadyAt}
 use Rattle.b67_task_switch.proofs.Orders.{before_job, before_task}
 use Rattle.b67_law_order.proofs.Numbered.{numbered_low}
 
@@ -25,8 +24,7 @@ Rises (w ∷ more) = ((v : Who) → Has more v → is_before w v ≡ true) × Ri
 
 rises_append : (xs ys : List Who) → Rises xs → Rises ys → ((x y : Who) → Has xs x → Has ys y → is_before x y ≡ true) → Rises (xs ++ ys)
 rises_append [] ys hx hy apart = hy
-rises_append (x ∷ xs) ys hx hy apart =
-    (λ v k. elim (has_append_cases xs ys v k) [ inl l ↦ hx.0 v l | inr r ↦ apart x v (inl refl) r ], rises_append xs ys hx.1 hy (λ a b ka kb. apart a b (inr ka) kb))
+rises_append (x ∷ xs) ys hx hy apart = grind (arith, has_append_cases, rises_append xs ys hx.1 hy)
 
 abbrev pub named : ℕ → Task → Who
 named n t = record { job = n; task = t.number }
@@ -35,10 +33,7 @@ abbrev pub ready_tasks : ℕ → List Task → List Who
 ready_tasks n ts = map (named n) (filter model.is_ready (reverse ts))
 
 pub among_tasks : (n : ℕ) (ts : List Task) (w : Who) → Has (ready_tasks n ts) w → (t : Task) × Has ts t × (model.is_ready t ≡ true) × (named n t ≡ w)
-among_tasks n ts w h =
-    let source = has_map_back (named n) (filter model.is_ready (reverse ts)) w h in
-    let (k, r) = has_filter model.is_ready (reverse ts) source.item source.among in
-    (source.item, has_reverse_back ts source.item k, r, source.is)
+among_tasks n ts w h = grind (arith, has_map_back, has_filter, has_reverse_back)
 
 pub of_tasks : (n : ℕ) (ts : List Task) (t : Task) → Has ts t → model.is_ready t ≡ true → Has (ready_tasks n ts) (named n t)
 of_tasks n ts t k r = has_map (named n) (filter model.is_ready (reverse ts)) t (has_filter_in model.is_ready (reverse ts) t (has_reverse ts t k) r)
@@ -63,10 +58,7 @@ tasks_rise n bound (t ∷ ts) f =
 
 pub among_members : (jobs : List SessionJob) (w : Who) → Has (flat_map ready_of jobs) w → (m : SessionJob) × Has jobs m × Has (ready_of m) w
 among_members [] w h = absurd h
-among_members (m ∷ more) w h = elim (has_append_cases (ready_of m) (flat_map ready_of more) w h) [
-  | inl l ↦ (m, inl refl, l)
-  | inr r ↦ let (y, k, q) = among_members more w r in (y, inr k, q)
-]
+among_members (m ∷ more) w h = grind (arith, has_append_cases, among_members more w)
 
 members_rise : (n : ℕ) (jobs : List SessionJob) → NumberedFrom n jobs → ((m : SessionJob) → Has jobs m → Falls m.progress.job.next_task (map (λ (t : Task). t.number) m.progress.job.tasks)) → Rises (flat_map ready_of jobs)
 members_rise n [] d f = tt
@@ -79,22 +71,10 @@ members_rise n (m ∷ more) d f = rises_append (ready_of m) (flat_map ready_of m
 
 -- a state in a row, and a task's
 ready_condition : (plan : Placement) (j : ℕ) (job : Job) (t : Task) (state : TaskState) (c : Condition) → is_ready_state state ≡ true → state_of state ≡ shown plan j job t c → model.is_ready (record t { condition = c }) ≡ true
-ready_condition plan j job t state Ready r e = refl
-ready_condition plan j job t code.Ready (Awaits n) r e = cc
-ready_condition plan j job t (code.Awaits k) (Awaits n) r e = absurd (true≢false (sym r))
-ready_condition plan j job t (code.WaitsAt mark offset) (Awaits n) r e = absurd (true≢false (sym r))
-ready_condition plan j job t code.Ready (WaitsAt f o) r e = cc
-ready_condition plan j job t (code.Awaits k) (WaitsAt f o) r e = absurd (true≢false (sym r))
-ready_condition plan j job t (code.WaitsAt mark offset) (WaitsAt f o) r e = absurd (true≢false (sym r))
+ready_condition plan j job t state c r e = grind arith
 
 ready_state : (plan : Placement) (j : ℕ) (job : Job) (t : Task) (state : TaskState) (c : Condition) → model.is_ready (record t { condition = c }) ≡ true → state_of state ≡ shown plan j job t c → is_ready_state state ≡ true
-ready_state plan j job t code.Ready c r e = refl
-ready_state plan j job t (code.Awaits k) Ready r e = cc
-ready_state plan j job t (code.Awaits k) (Awaits n) r e = r
-ready_state plan j job t (code.Awaits k) (WaitsAt f o) r e = r
-ready_state plan j job t (code.WaitsAt mark offset) Ready r e = cc
-ready_state plan j job t (code.WaitsAt mark offset) (Awaits n) r e = r
-ready_state plan j job t (code.WaitsAt mark offset) (WaitsAt f o) r e = r
+ready_state plan j job t state c r e = grind arith
 
 abbrev the_name : ℕ → ℕ → Who
 the_name n t = record { job = n; task = t }
@@ -123,6 +103,4 @@ module _ (plan : Placement) (s : Session) (o : IsInOrderButPlaces s) where
         let (y, iny, sh) = shows.each m t inm int in
         let (i, at_y) = has_at (map task_row task_rows) y iny in
         let (row, at, same) = mapped_at task_row task_rows i y at_y in
-        let state : state_of row.state ≡ shown plan m.constants.number m.progress.job t t.condition = ap (λ (z : rows.TaskRow). z.state) same ∙ sh.state in
-        let is : who_of row ≡ named m.constants.number t = one_name row.job row.number m.constants.number t.number (ap (λ (z : rows.TaskRow). z.job) same ∙ sh.job) (ap (λ (z : rows.TaskRow). z.number) same ∙ sh.number) in
-        (i, record { row = row; at = at; ready = ready_state plan m.constants.number m.progress.job t row.state t.condition r state; is = is ∙ e })
+        grind arith

@@ -1,14 +1,13 @@
 -- The view of a session under the plan in which another task's registers are in use.
-use Rattle.std.proofs.Common.{◌≡◌, ◌≢◌, ℕ, ◌+◌, ◌<◌, ◌≤◌, List, [], ◌∷◌, ◌++◌, map, Option, Some, None, refl, sym, ◌∙◌, ap, arith, false, ◌==◌, ⊎_elim}
+use Rattle.std.proofs.Common.{◌≡◌, ◌≢◌, ℕ, ◌+◌, ◌<◌, ◌≤◌, List, [], ◌∷◌, ◌++◌, Option, Some, None, refl, sym, ◌∙◌, ap, arith, false, ◌==◌, ⊎_elim}
 use Rattle.std.specs.Prelude.{if◌then◌else◌, flat_map}
 use Rattle.std.proofs.lemmas.Bool.{cases_eq, eqb-true}
 use Rattle.b67_area.specs.declared.Kind.TheVariants as kind
-use Rattle.b67_model.specs.Words as Words
-use Rattle.b67_model.specs.Common.{Word, Operand, Name, Ref, Row, Element, Original, Proc, Intrinsic, Frame, Segment, Task, Job, SessionJob, number_of, from_frame, frames_of_task, critical_of}
+use Rattle.b67_model.specs.Common.{Word, Frame, Segment, Task, Job, SessionJob, number_of}
 use Rattle.b67_model.specs.Keyed.{keyed}
-use Rattle.b67_stack.specs.Common.{Shape, StackPlace, Activation, PagedObject, Slot, Running, Waiting, with_slot}
+use Rattle.b67_stack.specs.Common.{StackPlace, PagedObject, Slot, Running, Waiting, with_slot}
 use Rattle.b67_stack.proofs.Slots.{slot-same, slot-other}
-use Rattle.b67_layout.specs.Common.{Placement, Slotted, slot_of, spot_in, outer_spots, spots, shape, head, activations, stack_of_task, slot_with, slot_in, slot_by, slot_at, code_objects, array_object, objects_of, machine_view, RowsFit}
+use Rattle.b67_layout.specs.Common.{Placement, Slotted, slot_of, outer_spots, spots, shape, activations, stack_of_task, slot_with, slot_in, slot_by, slot_at, code_objects, objects_of, machine_view, RowsFit}
 use Rattle.b67_layout.proofs.Rows.{row_of}
 use Rattle.b67_task_switch.specs.Turns.{with_running}
 use Rattle.b67_lemmas.proofs.Members.{found-has, keyed_has}
@@ -16,40 +15,21 @@ use Rattle.b67_lemmas.proofs.Members.{found-has, keyed_has}
 module _ (plan : Placement) (k : ℕ) where
   outer_spots-replan : (j : ℕ) (job : Job) (parents : List ℕ) (c id : ℕ) → outer_spots (with_running plan k) j job c parents id ≡ outer_spots plan j job c parents id
   outer_spots-replan j job [] c id = refl
-  outer_spots-replan j job (parent ∷ more) c id =
-      let t = keyed (λ (u : Task). u.number) parent job.tasks in
-      let outer : outer_spots (with_running plan k) j job (critical_of t) more ≡ outer_spots plan j job (critical_of t) more = λ i x. outer_spots-replan j job more (critical_of t) x i in
-      ap (λ (o : ℕ → StackPlace). spot_in (slot_of plan j parent) o (from_frame c (frames_of_task t)) id) outer
+  outer_spots-replan j job (parent ∷ more) c id = grind arith
 
   -- spots of frames don't depend on which registers are in use
   pub spots-replan : (j : ℕ) (job : Job) (t : Task) (id : ℕ) → spots (with_running plan k) j job t id ≡ spots plan j job t id
-  spots-replan j job t id =
-      let outer : outer_spots (with_running plan k) j job t.critical t.parents ≡ outer_spots plan j job t.critical t.parents = λ i x. outer_spots-replan j job t.parents t.critical x i in
-      ap (λ (o : ℕ → StackPlace). spot_in (slot_of plan j t.number) o t.frames id) outer
+  spots-replan j job t id = grind arith
 
   shape-replan : (j : ℕ) (job : Job) (spot : ℕ → StackPlace) (w : Word) → shape (with_running plan k) j job spot w ≡ shape plan j job spot w
-  shape-replan j job spot (Operand bits) = refl
-  shape-replan j job spot (Name c) = refl
-  shape-replan j job spot (Ref f o) = refl
-  shape-replan j job spot (Row b) = refl
-  shape-replan j job spot (Element b x) = refl
-  shape-replan j job spot (Original b) = refl
-  shape-replan j job spot (Proc s l p) = refl
-  shape-replan j job spot (Intrinsic x) = refl
-  shape-replan j job spot (Words.Segment x) = refl
+  shape-replan j job spot w = grind arith
 
   activations-replan : (j : ℕ) (job : Job) (q : ℕ) (outer : ℕ → StackPlace) (fs : List Frame) → activations (with_running plan k) j job q outer fs ≡ activations plan j job q outer fs
   activations-replan j job q outer [] = refl
-  activations-replan j job q outer (f ∷ below) =
-      let same : shape (with_running plan k) j job (spot_in q outer (f ∷ below)) ≡ shape plan j job (spot_in q outer (f ∷ below)) = λ i w. shape-replan j job (spot_in q outer (f ∷ below)) w i in
-      let A : (Word → Shape) → Activation = λ g. record { head = head (spot_in q outer below) f.standing; cells = map g f.cells } in
-      ap (λ (g : Word → Shape). A g ∷ activations (with_running plan k) j job q outer below) same
-      ∙ ap (λ (under : List Activation). A (shape plan j job (spot_in q outer (f ∷ below))) ∷ under) (activations-replan j job q outer below)
+  activations-replan j job q outer (f ∷ below) = grind arith
 
   pub stack-replan : (j : ℕ) (job : Job) (q : ℕ) (t : Task) → stack_of_task (with_running plan k) j job q t ≡ stack_of_task plan j job q t
-  stack-replan j job q t =
-      let outer : outer_spots (with_running plan k) j job t.critical t.parents ≡ outer_spots plan j job t.critical t.parents = λ i x. outer_spots-replan j job t.parents t.critical x i in
-      activations-replan j job q (outer_spots (with_running plan k) j job t.critical t.parents) t.frames ∙ ap (λ (o : ℕ → StackPlace). activations plan j job q o t.frames) outer
+  stack-replan j job q t = grind arith
 
   code_objects-replan : (j n : ℕ) (segments : List Segment) → code_objects (with_running plan k) j n segments ≡ code_objects plan j n segments
   code_objects-replan j n [] = refl
@@ -57,23 +37,18 @@ module _ (plan : Placement) (k : ℕ) where
 
   pub objects-replan : (jobs : List SessionJob) → flat_map (objects_of (with_running plan k)) jobs ≡ flat_map (objects_of plan) jobs
   objects-replan [] = refl
-  objects-replan (m ∷ more) =
-      ap (λ (ts : List PagedObject). (ts ++ map (array_object plan m.constants.number) m.progress.job.arrays) ++ flat_map (objects_of (with_running plan k)) more) (code_objects-replan m.constants.number 1 m.constants.segments)
-      ∙ ap (λ (ts : List PagedObject). objects_of plan m ++ ts) (objects-replan more)
+  objects-replan (m ∷ more) = grind arith
 
   -- the slot of a task whose registers are neither in use nor were
   module _ (jobs : List SessionJob) (q : ℕ) (now : (q == k) ≡ false) (before : (q == plan.running) ≡ false) where
     slot_with-replan : (j : ℕ) (job : Job) (o : Option Task) → slot_with (with_running plan k) q j job o ≡ slot_with plan q j job o
-    slot_with-replan j job None = refl
-    slot_with-replan j job (Some t) = rw (now, before) (ap Waiting (stack-replan j job q t))
+    slot_with-replan j job o = grind arith
 
     slot_in-replan : (j task : ℕ) (o : Option SessionJob) → slot_in (with_running plan k) q j task o ≡ slot_in plan q j task o
-    slot_in-replan j task None = refl
-    slot_in-replan j task (Some m) = slot_with-replan j m.progress.job (keyed (λ (u : Task). u.number) task m.progress.job.tasks)
+    slot_in-replan j task o = grind arith
 
     pub slot_by-replan : (o : Option Slotted) → slot_by (with_running plan k) jobs q o ≡ slot_by plan jobs q o
-    slot_by-replan None = refl
-    slot_by-replan (Some r) = slot_in-replan r.job r.task (keyed number_of r.job jobs)
+    slot_by-replan o = grind arith
 
 pub fit_replan : (plan : Placement) (k : ℕ) (jobs : List SessionJob) → RowsFit plan jobs → RowsFit (with_running plan k) jobs
 fit_replan plan k jobs f = record { live = f.live; slotted = f.slotted; below = f.below; differ = f.differ; tasks_differ = f.tasks_differ }
@@ -117,6 +92,4 @@ module _ (plan : Placement) (jobs : List SessionJob) (m : SessionJob) (t : Task)
       (λ (e : k ≡ q). ap (slot_at (with_running plan a) jobs) e ∙ is ∙ sym (slot-same (machine_view plan jobs) q slot) ∙ ap (with_slot (machine_view plan jobs) q slot).slots (sym e))
       (λ (e : k ≡ q → ⊥). others_stay a now before k e ∙ sym (slot-other (machine_view plan jobs) q slot k e))
       (cases_eq k q) in
-      let same : slot_at (with_running plan a) jobs ≡ (with_slot (machine_view plan jobs) q slot).slots = λ i k. each k i in
-      ap (λ (f : ℕ → Slot). record { stacks = plan.stacks; size = plan.size; peak = plan.peak; slots = f; objects = flat_map (objects_of (with_running plan a)) jobs }) same
-      ∙ ap (λ (ts : List PagedObject). record { stacks = plan.stacks; size = plan.size; peak = plan.peak; slots = (with_slot (machine_view plan jobs) q slot).slots; objects = ts }) (objects-replan plan a jobs)
+      grind (arith, objects-replan)

@@ -1,9 +1,8 @@
 -- Switches whose counts rise: the one of a count, and whether one is left.
-use Rattle.std.proofs.Common.{◌≡◌, ℕ, zero, suc, ◌+◌, ◌-◌, ◌^◌, ◌<◌, ◌≤◌, ◌&&◌, ◌==◌, Bool, true, false, List, [], ◌∷◌, length, Some, None, refl, sym, ◌∙◌, ap, arith, inl, inr, subst, ltb, eqb, map, get_or}
+use Rattle.std.proofs.Common.{◌≡◌, ℕ, zero, suc, ◌+◌, ◌-◌, ◌^◌, ◌<◌, ◌≤◌, ◌&&◌, ◌==◌, Bool, true, false, List, [], ◌∷◌, length, Some, None, sym, ◌∙◌, ap, arith, inl, inr, subst, ltb, map, get_or}
 use Rattle.std.specs.List.{slice_get, list_any}
 use Rattle.std.proofs.lemmas.Option.{same_Some, none-some, slice_get_within, get_or_from_slice_get}
-use Rattle.std.proofs.lemmas.Bool.{cases_lt, cases_Bool, true≢false, lt-ltb, le-ltb, eq-eqb, ltb-true}
-use Rattle.std.proofs.lemmas.Bool.Decides.{eqb_tells}
+use Rattle.std.proofs.lemmas.Bool.{cases_lt, cases_Bool, true≢false, lt-ltb, le-ltb, ltb-true}
 use Rattle.std.proofs.lemmas.List.{length-map}
 use Rattle.b67_model_text.specs.declared.deck.Switch as text
 use Rattle.b67_lemmas.specs.Lists.{Has}
@@ -14,11 +13,9 @@ use Rattle.b67_task_switch.specs.Counted.{Past, IsStillDue}
 use Rattle.b67_task_switch.specs.Chosen.{SwitchesTo}
 use Rattle.b67_task_tables.specs.Tables.{switch_of}
 use Rattle.b67_task_switch.proofs.Nearer.{seen}
-use Rattle.b67_task_switch.proofs.Orders.{same_is, is_self}
 
 rise_rest : (a : Switch) (more : List Switch) → SwitchesRise (a ∷ more) → SwitchesRise more
-rise_rest a [] h = h
-rise_rest a (b ∷ more) h = h.1
+rise_rest a more h = grind arith
 
 rise_low : (a : Switch) (more : List Switch) (w : Switch) → SwitchesRise (a ∷ more) → Has more w → a.count < w.count
 rise_low a [] w h k = absurd k
@@ -46,18 +43,7 @@ module _ (xs : List Switch) (i made : ℕ) (past : Past i made xs) where
 
   -- or none is, where its count is higher, or all are past
   pub none_named : (w : Switch) → SwitchesRise xs → slice_get xs i ≡ Some w → made < w.count → (v : Switch) → Has xs v → v.count ≡ made → ⊥
-  none_named w rise at high v k e =
-      let (j, at_v) = has_at xs v k in
-      elim (cases_lt j i) [
-        | inl low ↦ absurd (omega (arith, e, past j v low at_v))
-        | inr up ↦ elim (cases_lt i j) [
-          | inl lt ↦ absurd (omega (arith, e, high, rise_at xs i j w v rise lt at at_v))
-          | inr le ↦
-              let is : j ≡ i = omega (arith, up, le) in
-              let same : v ≡ w = same_Some v w (sym at_v ∙ ap (slice_get xs) is ∙ at) in
-              absurd (omega (arith, e, high, ap (λ (z : Switch). z.count) same))
-        ]
-      ]
+  none_named w rise at high v k e = grind (arith, has_at, rise_at)
 
   pub all_past : length xs ≤ i → (v : Switch) → Has xs v → v.count ≡ made → ⊥
   all_past le v k e = let (j, at_v) = has_at xs v k in absurd (omega (arith, e, past j v (omega (arith, le, slice_get_within xs j v at_v)) at_v))
@@ -91,27 +77,16 @@ abbrev pub is_named : ℕ → List Switch → Who → Bool
 is_named made xs who = list_any (λ w. (w.count == made) && is_same w.to who) xs
 
 of_count : (w : Switch) (made : ℕ) (who : Who) → ((w.count == made) && is_same w.to who) ≡ true → (w.count ≡ made) × (w.to ≡ who)
-of_count w made who t = elim (eqb_tells w.count made) [
-  | inl e ↦ (e.1, same_is w.to who (rw e.0 at t))
-  | inr e ↦ let q : false ≡ true = rw e.0 at t in absurd (true≢false (sym q))
-]
+of_count w made who t = grind arith
 
 pub nobody_named : (made : ℕ) (xs : List Switch) (who : Who) → SwitchesTo made xs None → is_named made xs who ≡ false
-nobody_named made xs who none = elim (cases_Bool (is_named made xs who)) [
-  | inl t ↦ let (w, k, q) = any_has (λ w. (w.count == made) && is_same w.to who) xs t in absurd (none w k (of_count w made who q).0)
-  | inr t ↦ t
-]
+nobody_named made xs who none = grind (arith, any_has)
 
 pub is_named_one : (made : ℕ) (xs : List Switch) (who : Who) → SwitchesTo made xs (Some who) → is_named made xs who ≡ true
-is_named_one made xs who k =
-    any_some (λ w. (w.count == made) && is_same w.to who) xs (record { count = made; to = who }) k
-    (let e : eqb made made ≡ true = eq-eqb made made refl in rw e (is_self who))
+is_named_one made xs who k = grind (arith, any_some)
 
 pub named_one : (made : ℕ) (xs : List Switch) (who v : Who) → SwitchesRise xs → SwitchesTo made xs (Some who) → is_named made xs v ≡ true → v ≡ who
-named_one made xs who v rise k t =
-    let (w, kw, q) = any_has (λ w. (w.count == made) && is_same w.to v) xs t in
-    let (count, to) = of_count w made v q in
-    sym to ∙ ap (λ (z : Switch). z.to) (rise_once xs w (record { count = made; to = who }) rise kw k count)
+named_one made xs who v rise k t = grind (arith, any_has, rise_once)
 
 -- the next switch is left, where the one before it was left before this operator
 pub next_left : (xs : List text.Switch) (from before made : ℕ) → SwitchesRise (map switch_of xs) → from < length xs → made ≤ before + 1 → IsStillDue from before (map switch_of xs) → IsStillDue (from + 1) made (map switch_of xs)
@@ -120,9 +95,7 @@ next_left xs from before made rise inside more left = λ w at.
     omega (arith, more, left v e, rise_at (map switch_of xs) from (from + 1) v w rise (omega arith) e at)
 
 pub still_left : (xs : List text.Switch) (from made : ℕ) (d : text.Switch) → (from < length xs → made ≤ (get_or xs from d).count) → IsStillDue from made (map switch_of xs)
-still_left xs from made d high = λ w at.
-    let (x, e, same) = mapped_at switch_of xs from w at in
-    omega (arith, high (slice_get_within xs from x e), ap (λ (v : text.Switch). v.count) (get_or_from_slice_get xs from x d e), ap (λ (v : Switch). v.count) same)
+still_left xs from made d high = grind (arith, mapped_at, slice_get_within, get_or_from_slice_get)
 
 pub lent_left : (lent xs : List text.Switch) (from next made : ℕ) → lent ≡ xs
     → ((before : ℕ) → length lent < 2 ^ 32 → SwitchesRise (map switch_of lent) → made ≤ before + 1 → IsStillDue from before (map switch_of lent) → IsStillDue next made (map switch_of lent))

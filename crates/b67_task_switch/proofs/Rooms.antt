@@ -1,13 +1,11 @@
 -- When no task is chosen, and that one operator more of a chosen task fits the counts.
-use Rattle.std.proofs.Common.{◌≡◌, ℕ, ◌-◌, ◌≤◌, ◌↔◌, Bool, true, false, not, List, [], ◌∷◌, ◌++◌, map, filter, Option, Some, None, refl, sym, ◌∙◌, ap, arith, inl, inr, subst}
+use Rattle.std.proofs.Common.{◌≡◌, ℕ, ◌-◌, ◌≤◌, ◌↔◌, Bool, List, [], ◌∷◌, ◌++◌, map, Option, Some, None, refl, sym, ◌∙◌, ap, arith}
 use Rattle.std.specs.Prelude.{IfSome}
 use Rattle.std.specs.List.{slice_get}
 use Rattle.std.proofs.lemmas.List.{length-map}
 use Rattle.std.proofs.lemmas.Option.{none-some}
-use Rattle.std.proofs.lemmas.Bool.{cases_Bool}
-use Rattle.b67_lemmas.specs.Lists.{Has}
 use Rattle.b67_lemmas.proofs.Places.{mapped_at}
-use Rattle.b67_model.specs.Common.{IsInOrderButPlaces, Who, Session, Choice, is_before, ready, switched, first, next_after, afresh, choice_by, choice}
+use Rattle.b67_model.specs.Common.{IsInOrderButPlaces, Who, Session, Choice, ready, switched, first, next_after, afresh, choice_by, choice}
 use Rattle.b67_model.specs.Schedule.{goes_on}
 use Rattle.b67_layout.specs.Placement.{Placement}
 use Rattle.b67_layout.specs.Rows as rows
@@ -29,32 +27,23 @@ first_cons (x ∷ xs) ys w e = none-some x (sym e)
 
 nobody_next : (last : Who) (xs : List Who) → cyclic last xs ≡ None → xs ≡ []
 nobody_next last [] e = refl
-nobody_next last (x ∷ xs) e = elim (cases_Bool (is_before last x)) [
-  | inl t ↦ let none : Some x ≡ None = rw t at e in absurd (none-some x (sym none))
-  | inr t ↦ absurd (first_cons (filter (is_before last) xs) (filter (λ who. not (is_before last who)) xs) x (rw t at e))
-]
+nobody_next last (x ∷ xs) e = grind (arith, first_cons)
 
 nobody_afresh : (o : Option Who) → afresh o ≡ None → o ≡ None
-nobody_afresh None e = refl
-nobody_afresh (Some w) e = absurd (none-some (record { who = w; turn = 0 }) (sym e))
+nobody_afresh o e = grind arith
 
 no_choice_by : (s : Session) (o : Option Who) (b : Bool) → choice_by s o b ≡ None → next_after s ≡ None
-no_choice_by s (Some w) b e = absurd (none-some (record { who = w; turn = 0 }) (sym e))
-no_choice_by s None true e = absurd (none-some (record { who = s.last; turn = s.turn }) (sym e))
-no_choice_by s None false e = nobody_afresh (next_after s) e
+no_choice_by s o b e = grind arith
 
 pub none_ready : (s : Session) → choice s ≡ None → ready s ≡ []
 none_ready s e = nobody_next s.last (ready s) (no_choice_by s (switched s) (goes_on s) e)
 
 -- how many operators of its turn a chosen task has made
 afresh_turn : (o : Option Who) (c : Choice) → afresh o ≡ Some c → c.turn ≡ 0
-afresh_turn None c e = absurd (none-some c e)
-afresh_turn (Some w) c e = let same : record { who = w; turn = 0 } ≡ c = cc in sym (ap (λ (d : Choice). d.turn) same)
+afresh_turn o c e = grind arith
 
 turn_by : (s : Session) (o : Option Who) (b : Bool) (c : Choice) → choice_by s o b ≡ Some c → c.turn ≤ s.turn
-turn_by s (Some w) b c e = omega (arith, afresh_turn (Some w) c e)
-turn_by s None true c e = let same : record { who = s.last; turn = s.turn } ≡ c = cc in omega (arith, ap (λ (d : Choice). d.turn) same)
-turn_by s None false c e = omega (arith, afresh_turn (next_after s) c e)
+turn_by s o b c e = grind arith
 
 module _ (plan : Placement) (s : Session) (o : IsInOrderButPlaces s) (tasks : Tasks) (shows : TasksShow plan s tasks) where
   pub room_of : (c : Chosen) → IsReadyAt tasks.rows.items c.row (choice_of c).who → choice s ≡ Some (choice_of c) → CountsHaveRoom tasks c
@@ -77,14 +66,10 @@ module _ (plan : Placement) (s : Session) (o : IsInOrderButPlaces s) (tasks : Ta
       }
 
   pub room_if : (result : Option Chosen) → Chooses tasks.rows.items result (choice s) → IfSome result (CountsHaveRoom tasks)
-  room_if None h = tt
-  room_if (Some c) h = room_of c h.0 h.1
+  room_if result h = grind (arith, room_of)
 
   chosen_some : (c : Chosen) → Chooses tasks.rows.items (Some c) (choice s) → ready s ≡ [] → ⊥
-  chosen_some c h e =
-      let k = row_ready plan s o tasks.rows.items (map job_row tasks.jobs) (counts_of tasks) shows c.row (choice_of c).who h.0 in
-      subst (λ (l : List Who). Has l (choice_of c).who) e k
+  chosen_some c h e = grind arith
 
   pub none_if : (result : Option Chosen) → Chooses tasks.rows.items result (choice s) → (result ≡ None) ↔ (ready s ≡ [])
-  none_if None h = (λ e. none_ready s h, λ e. refl)
-  none_if (Some c) h = (λ e. absurd (none-some c (sym e)), λ e. absurd (chosen_some c h e))
+  none_if result h = grind (arith, none_ready)

@@ -25,8 +25,7 @@ runs_of x core r marks plan s h ne = h.live (λ e. ne (h.none e))
 
 -- no task runs where no registers are in use
 pub none_runs : (x : Storage) (core : List Tagged) (r : Regs) (marks : List ℕ) (plan : Placement) (s : Session) → SessionHolds x core r marks plan s → (y : SessionJob) (u : Task) → IsRunning (with_running plan 255) s.jobs y u → ⊥
-none_runs x core r marks plan s h y u q =
-    omega (arith, q.slot, slot_below plan s.jobs y u h.fits.rows (keyed_has number_of y.constants.number s.jobs y q.member).0 (keyed_has (λ (v : Task). v.number) u.number y.progress.job.tasks u q.task).0, h.fits.few)
+none_runs x core r marks plan s h y u q = grind (arith, slot_below, keyed_has)
 
 module _ (x : Storage) (core : List Tagged) (r : Regs) (marks : List ℕ) (plan : Placement) (s : Session) (m : SessionJob) (t : Task)
     (h : SessionHolds x core r marks plan s) (runs : IsRunning plan s.jobs m t) where

@@ -7,7 +7,7 @@ use Rattle.b67_area.proofs.Climbs.{area_at-low}
 use Rattle.b67_area.proofs.Separation.{IsDirectory-same, controls_above}
 use Rattle.b67_ctl.specs.declared.registers.Regs.{Regs}
 use Rattle.b67_model.specs.Common.{Task, SessionJob, Session}
-use Rattle.b67_stack.specs.Common.{Fits, LieDownward, Activation, stack_words, words, MachineView, Slot, Free, Running, Waiting, stack_of, slot_base, SlotFits, IsLaidOut, with_slot, NoOriginalAboveTop, Storage, RepresentsSlot, StacksLie, RepresentsObjects, RepresentsRegs, Represents, info_of}
+use Rattle.b67_stack.specs.Common.{Fits, LieDownward, Activation, stack_words, words, MachineView, Slot, stack_of, slot_base, SlotFits, IsLaidOut, with_slot, NoOriginalAboveTop, Storage, RepresentsSlot, StacksLie, RepresentsObjects, RepresentsRegs, Represents, info_of}
 use Rattle.b67_stack.proofs.Bases.{base-apart}
 use Rattle.b67_stack.proofs.Heights.{words-length}
 use Rattle.b67_stack.proofs.Lies.{Lie-same}
@@ -16,7 +16,6 @@ use Rattle.b67_layout.specs.Common.{Placement, slot_of, machine_view, Dictionari
 use Rattle.b67_layout.proofs.Rows.{slot_below}
 use Rattle.b67_layout.proofs.Sessions.{dictionary_below}
 use Rattle.b67_task_switch.specs.Turns.{with_running}
-use Rattle.b67_task_switch.proofs.Replans.{fit_replan}
 
 -- slot k is another with the same stack, and no word but its base word has changed
 pub record Turned (x : Storage) (core new : List Tagged) (r r' : Regs) (p : MachineView) (k : ℕ) (slot : Slot) : Type 0 where
@@ -30,19 +29,13 @@ pub record Turned (x : Storage) (core new : List Tagged) (r r' : Regs) (p : Mach
   pub stands : RepresentsSlot new r' p k slot
 
 turned_other : (core new : List Tagged) (r r' : Regs) (p p' : MachineView) (j : ℕ) (s : Slot) → p'.stacks ≡ p.stacks → p'.size ≡ p.size → r.slot ≢ j → r'.slot ≢ j → slice_get new (slot_base p j) ≡ slice_get core (slot_base p j) → RepresentsSlot core r p j s → RepresentsSlot new r' p' j s
-turned_other core new r r' p p' j Free es ez n n' same t = rw (es, ez) (n', same ∙ t.1)
-turned_other core new r r' p p' j (Running stack) es ez n n' same t = absurd (n t.slot)
-turned_other core new r r' p p' j (Waiting stack) es ez n n' same t = rw (es, ez) (n', same ∙ t.1)
+turned_other core new r r' p h j s es ez n n' same t = grind arith
 
 turned_here : (new : List Tagged) (r' : Regs) (p : MachineView) (k : ℕ) (slot s : Slot) → RepresentsSlot new r' p k s → RepresentsSlot new r' (with_slot p k slot) k s
-turned_here new r' p k slot Free t = t
-turned_here new r' p k slot (Running stack) t = record { slot = t.slot; first = t.first; last = t.last; top = t.top; mark = t.mark; level = t.level }
-turned_here new r' p k slot (Waiting stack) t = t
+turned_here new r' p k slot s t = grind arith
 
 fits_same : (p : MachineView) (k : ℕ) (slot : Slot) (j : ℕ) (y : Slot) → SlotFits p j y → SlotFits (with_slot p k slot) j y
-fits_same p k slot j Free f = f
-fits_same p k slot j (Running q) f = f
-fits_same p k slot j (Waiting q) f = f
+fits_same p k slot j y f = grind arith
 
 module _ (x : Storage) (core new : List Tagged) (r r' : Regs) (p : MachineView) (k : ℕ) (slot : Slot) (c : Turned x core new r r' p k slot) (room : 0 < p.size) (s : Represents x core r p) where
   abbrev p' : MachineView
@@ -124,19 +117,11 @@ follow-replan plan k at [] d = d
 follow-replan plan k at (m ∷ more) d = (d.0, follow-replan plan k (at + (2 + length m.constants.dictionary.cells)) more d.1)
 
 vector_word-replan : (plan : Placement) (k j : ℕ) (parents : List ℕ) → vector_word (with_running plan k) j parents ≡ vector_word plan j parents
-vector_word-replan plan k j [] = refl
-vector_word-replan plan k j (parent ∷ more) = refl
+vector_word-replan plan k j parents = grind arith
 
 module _ (x : Storage) (core new : List Tagged) (r r' : Regs) (marks : List ℕ) (plan : Placement) (s : Session) (k : ℕ) (h : SessionHolds x core r marks plan s) where
   plan_fits : PlanFits (with_running plan k) s
-  plan_fits = record {
-    rows = fit_replan plan k s.jobs h.fits.rows;
-    peak = h.fits.peak;
-    few = h.fits.few;
-    sizes = h.fits.sizes;
-    dictionaries = follow-replan plan k 160 s.jobs h.fits.dictionaries;
-    row_homes = h.fits.row_homes;
-  }
+  plan_fits = grind arith
 
   pub SessionHolds-turned : ((i : ℕ) → i < plan.stacks → slice_get new i ≡ slice_get core i)
       → Represents x new r' (machine_view (with_running plan k) s.jobs) → NoOriginalAboveTop (machine_view (with_running plan k) s.jobs)

@@ -9,50 +9,34 @@ use Rattle.b67_ctl.specs.declared.registers.Regs.{Regs}
 use Rattle.b67_lemmas.specs.Lists.{Has}
 use Rattle.b67_lemmas.proofs.Members.{has_get}
 use Rattle.b67_lemmas.proofs.Places.{has_at, same_mapped}
-use Rattle.b67_model.specs.Common.{Condition, Ready, Awaits, WaitsAt, Task, Job, SessionJob, Session}
-use Rattle.b67_layout.specs.Common.{IsInOrderButCounts, Placement, slot_of, address_of, WaitsAtCell, TaskRow, JobRow, JobCounts, shown, parent_slot, critical_disp, TaskShows, JobsShow, RunningRow, Differ, TablesShow, RowsFit, IsRunning, SessionHolds}
+use Rattle.b67_model.specs.Common.{Condition, Task, Job, SessionJob, Session}
+use Rattle.b67_layout.specs.Common.{IsInOrderButCounts, Placement, slot_of, TaskRow, JobRow, JobCounts, shown, parent_slot, critical_disp, TaskShows, JobsShow, RunningRow, Differ, TablesShow, RowsFit, IsRunning, SessionHolds}
 use Rattle.b67_stack.specs.Represents.{Storage}
-use Rattle.b67_stack.specs.Stacks.{StackPlace}
 use Rattle.b67_layout.proofs.Common.{slot_below, differ_at, live_in_order}
 use Rattle.b67_task_switch.specs.Turns.{with_running}
-use Rattle.b67_task_switch.proofs.Replans.{spots-replan}
 use Rattle.b67_law_order.proofs.Numbered.{keyed_member}
 
 -- a row of a task, whatever registers are in use
 module _ (plan : Placement) (k : ℕ) where
   parent_slot-replan : (j : ℕ) (parents : List ℕ) → parent_slot (with_running plan k) j parents ≡ parent_slot plan j parents
-  parent_slot-replan j [] = refl
-  parent_slot-replan j (p ∷ more) = refl
+  parent_slot-replan j parents = grind arith
 
   critical-replan : (j : ℕ) (job : Job) (critical : ℕ) (parents : List ℕ) → critical_disp (with_running plan k) j job critical parents ≡ critical_disp plan j job critical parents
-  critical-replan j job critical [] = refl
-  critical-replan j job critical (p ∷ more) = refl
+  critical-replan j job critical parents = grind arith
 
   shown-replan : (j : ℕ) (job : Job) (t : Task) (c : Condition) → shown (with_running plan k) j job t c ≡ shown plan j job t c
-  shown-replan j job t Ready = refl
-  shown-replan j job t (Awaits n) = refl
-  shown-replan j job t (WaitsAt frame offset) = ap (λ (w : StackPlace). WaitsAtCell (address_of plan w) offset) (spots-replan plan k j job t frame)
+  shown-replan j job t c = grind arith
 
   -- a row that is another but for segment and place
   pub TaskShows-replan : (m : SessionJob) (t : Task) (old row : TaskRow) → TaskShows plan m t old → row.job ≡ old.job → row.number ≡ old.number → row.slot ≡ old.slot → row.parent ≡ old.parent → row.critical ≡ old.critical → row.state ≡ old.state
       → (row.slot ≢ k → row.segment ≡ t.segment + 1) → (row.slot ≢ k → row.place ≡ t.place) → TaskShows (with_running plan k) m t row
-  TaskShows-replan m t old row h ej en es ep ec et segment place = record {
-    job = ej ∙ h.job;
-    number = en ∙ h.number;
-    slot = es ∙ h.slot;
-    parent = ep ∙ h.parent ∙ sym (parent_slot-replan m.constants.number t.parents);
-    critical = ec ∙ h.critical ∙ sym (critical-replan m.constants.number m.progress.job t.critical t.parents);
-    state = et ∙ h.state ∙ sym (shown-replan m.constants.number m.progress.job t t.condition);
-    segment = segment;
-    place = place;
-  }
+  TaskShows-replan m t old row h ej en es ep ec et segment place = grind arith
 
   pub JobsShow-replan : (jobs : List SessionJob) (rows : List JobRow) → JobsShow plan jobs rows → JobsShow (with_running plan k) jobs rows
   JobsShow-replan [] [] h = h
   JobsShow-replan [] (r ∷ rows) h = absurd h
   JobsShow-replan (m ∷ more) [] h = absurd h
-  JobsShow-replan (m ∷ more) (r ∷ rows) h =
-      (record { dictionary = h.0.dictionary; segments = h.0.segments; rows = h.0.rows; limit = h.0.limit; made = h.0.made; next_task = h.0.next_task; numbers = h.0.numbers }, JobsShow-replan more rows h.1)
+  JobsShow-replan (m ∷ more) (r ∷ rows) h = grind (arith, JobsShow-replan more rows h.1)
 
 module _ (x : Storage) (core : List Tagged) (r : Regs) (marks : List ℕ) (plan : Placement) (s : Session) (o : IsInOrderButCounts s) (h : SessionHolds x core r marks plan s)
     (rows : List TaskRow) (job_rows : List JobRow) (c : JobCounts) (shows : TablesShow plan s rows job_rows c) (few : length rows ≤ 120) where
@@ -73,9 +57,7 @@ module _ (x : Storage) (core : List Tagged) (r : Regs) (marks : List ℕ) (plan 
         TaskShows-replan plan 255 m t row noted w refl refl refl refl refl refl (λ ne. stands.segment) (λ ne. stands.place)
 
     other_shows : (k : ℕ) (y : TaskRow) (m : SessionJob) (t : Task) → k ≢ c.running → slice_get rows k ≡ Some y → TaskShows plan m t y → TaskShows (with_running plan 255) m t y
-    other_shows k y m t ne at_k w =
-        let apart : y.slot ≢ plan.running = λ e. ne (differ_at (λ (z : TaskRow). z.slot) rows k c.running y row shows.once at_k at (e ∙ sym in_use)) in
-        TaskShows-replan plan 255 m t y y w refl refl refl refl refl refl (λ z. w.segment apart) (λ z. w.place apart)
+    other_shows k y m t ne at_k w = grind (arith, differ_at)
 
     abbrev pub new_rows : List TaskRow
     new_rows = slice_set rows c.running noted
@@ -116,17 +98,13 @@ module _ (x : Storage) (core : List Tagged) (r : Regs) (marks : List ℕ) (plan 
 
   -- no registers are in use where the tables say so
   pub rests : c.running ≡ 255 → plan.running ≡ 255
-  rests e =
-      let none : slice_get rows c.running ≡ None = ap (slice_get rows) e ∙ slice_get_past rows 255 (omega (arith, few)) in
-      let P : Option TaskRow → Type 0 = λ y. RunningRow plan y c.running in (subst P none shows.counts.running).1
+  rests e = grind arith
 
 module _ (plan : Placement) (s : Session) (fit : RowsFit plan s.jobs) (small : plan.peak ≤ 120) (idle : plan.running ≡ 255)
     (rows : List TaskRow) (job_rows : List JobRow) (c : JobCounts) (shows : TablesShow plan s rows job_rows c) where
   -- every row says where its task goes on
   pub goes_on : (m : SessionJob) (t : Task) (y : TaskRow) → Has s.jobs m → Has m.progress.job.tasks t → TaskShows plan m t y → (y.segment ≡ t.segment + 1) × (y.place ≡ t.place)
-  goes_on m t y inm int w =
-      let apart : y.slot ≢ plan.running = λ e. omega (arith, e, idle, w.slot, slot_below plan s.jobs m t fit inm int) in
-      (w.segment apart, w.place apart)
+  goes_on m t y inm int w = grind (arith, slot_below)
 
   again : (k : ℕ) (m : SessionJob) (t : Task) (y : TaskRow) → Has s.jobs m → Has m.progress.job.tasks t → TaskShows plan m t y → TaskShows (with_running plan k) m t y
   again k m t y inm int w =

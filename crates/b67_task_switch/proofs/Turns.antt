@@ -1,5 +1,5 @@
 -- The turn that a row tells, and the tables of the machine.
-use Rattle.std.proofs.Common.{◌≡◌, ◌≢◌, ℕ, ◌+◌, ◌-◌, ◌<◌, ◌≤◌, ◌^◌, List, length, map, Option, Some, None, refl, sym, ◌∙◌, ap, arith, slice_set, subst, get_or}
+use Rattle.std.proofs.Common.{◌≡◌, ◌≢◌, ℕ, ◌+◌, ◌-◌, ◌<◌, ◌≤◌, ◌^◌, List, length, map, Option, Some, refl, sym, ◌∙◌, ap, arith, slice_set, subst, get_or}
 use Rattle.std.specs.List.{slice_get, refill}
 use Rattle.std.proofs.lemmas.List.{length-map}
 use Rattle.std.proofs.lemmas.Option.{same_Some, get_or_from_slice_get, slice_get_within}
@@ -39,43 +39,20 @@ turn_known tasks plan s q i r at =
     let (j, there_is, same) = mapped_at job_row tasks.jobs (m.constants.number - 1) b.row b.at in
     let in_order = all_in (λ (y : SessionJob). JobInOrderButCounts (IsSegment y.constants) y.constants y.progress) s.jobs m q.ordered.jobs inm in
     let on = goes_on plan s q.fits (omega (arith, q.few)) q.none (map task_row tasks.rows.items) (map job_row tasks.jobs) (counts_of tasks) q.shows m t (task_row r) inm int w in
-    let segments : j.segments ≡ length m.constants.segments = ap (λ (y : rows.JobRow). y.segments) same ∙ b.shows.segments in
-    let entries : j.segments + j.rows ≡ length m.constants.dictionary.cells = ap (λ (y : rows.JobRow). y.segments + y.rows) same ∙ b.shows.rows in
-    record {
-      member = m;
-      task = t;
-      job = j;
-      from_one = omega (arith, numbered_low 1 s.jobs m q.ordered.numbered inm, w.job);
-      at = ap (λ (n : ℕ). slice_get tasks.jobs (n - 1)) w.job ∙ there_is;
-      fits = omega (arith, entries, in_order.unchanging.entries);
-      turn = record {
-        member = keyed_member 1 s.jobs m q.ordered.numbered inm;
-        task = live_in_order s m t q.ordered inm int;
-        slot = w.slot;
-        dict = ap (λ (y : rows.JobRow). y.dictionary) same ∙ b.shows.dictionary;
-        entries = entries;
-        segment = on.0;
-        place = on.1;
-      };
-    }
+    grind (arith, numbered_low, keyed_member, live_in_order)
 
 -- the row of the running task
 pub running_row : (plan : Placement) (o : Option rows.TaskRow) (n : ℕ) → RunningRow plan o n → n ≢ 255 → (row : rows.TaskRow) × (o ≡ Some row)
-running_row plan None n h ne = absurd (ne h.0)
-running_row plan (Some row) n h ne = (row, refl)
+running_row plan o n h ne = grind arith
 
 pub running_in : (tasks : Tasks) (plan : Placement) (s : Session) → TasksShow plan s tasks → tasks.running ≢ 255 → (r : TaskRow) × (slice_get tasks.rows.items tasks.running ≡ Some r)
-running_in tasks plan s shows ne =
-    let (row, at) = running_row plan (slice_get (map task_row tasks.rows.items) tasks.running) tasks.running shows.counts.running ne in
-    let (r, there_is, same) = mapped_at task_row tasks.rows.items tasks.running row at in
-    (r, there_is)
+running_in tasks plan s shows ne = grind (arith, mapped_at)
 
 -- what is noted through the lent slice
 pub noted_is : (tasks : Tasks) (r : TaskRow) → slice_get tasks.rows.items tasks.running ≡ Some r → (regs : Regs) (new lent : List TaskRow) → lent ≡ tasks.rows.items
     → (slice_get lent tasks.running ≡ Some r → new ≡ slice_set lent tasks.running (record r { segment = regs.segment; place = regs.place }))
     → new ≡ slice_set tasks.rows.items tasks.running (record r { segment = regs.segment; place = regs.place })
-noted_is tasks r at regs new lent same f =
-    f (ap (λ (l : List TaskRow). slice_get l tasks.running) same ∙ at) ∙ ap (λ (l : List TaskRow). slice_set l tasks.running (record r { segment = regs.segment; place = regs.place })) same
+noted_is tasks r at regs new lent same f = grind arith
 
 module _ (tasks : Tasks) (r : TaskRow) (at : slice_get tasks.rows.items tasks.running ≡ Some r) (regs : Regs) (new : List TaskRow)
     (is : new ≡ slice_set tasks.rows.items tasks.running (record r { segment = regs.segment; place = regs.place })) (len : length new ≡ length tasks.rows.items) where
@@ -118,10 +95,7 @@ module _ (tasks : Tasks) (plan : Placement) (s : Session) (r : TaskRow) (k : Tur
     seen_fits = omega (arith, k.fits, ap (λ (z : JobRow). z.segments + z.rows) job_is)
 
     pub seen_turn : (m : SessionJob) × (t : Task) × IsTurnOf plan s.jobs m t (record { slot = v.slot; dict = j.dict; entries = j.segments + j.rows; segment = v.segment; place = v.place })
-    seen_turn =
-        let made : JobRow → TaskRow → Turn = λ y z. record { slot = z.slot; dict = y.dict; entries = y.segments + y.rows; segment = z.segment; place = z.place } in
-        let e : made k.job r ≡ made j v = sym (ap (λ (y : JobRow). made y v) job_is ∙ ap (made k.job) is) in
-        (k.member, k.task, subst (λ (n : Turn). IsTurnOf plan s.jobs k.member k.task n) e k.turn)
+    seen_turn = grind (arith, job_is)
 
 -- a row's slot is as it was
 pub slot_same : (old new : List TaskRow) (i : ℕ) (r q : TaskRow) → map (λ (z : TaskRow). z.slot) new ≡ map (λ (z : TaskRow). z.slot) old → slice_get old i ≡ Some r → slice_get new i ≡ Some q → q.slot ≡ r.slot

@@ -1,10 +1,10 @@
 -- Top of stack words, and where they stand.
-use Rattle.std.proofs.Common.{◌≡◌, ℕ, ◌+◌, ◌-◌, ◌<◌, ◌≤◌, ◌^◌, List, length, Some, refl, arith, subst}
+use Rattle.std.proofs.Common.{◌≡◌, ℕ, ◌+◌, ◌-◌, ◌<◌, ◌≤◌, ◌^◌, List, length, Some, arith, subst}
 use Rattle.std.specs.List.{slice_get}
 use Rattle.b67_word.specs.Tagged.{Tagged}
 use Rattle.b67_ctl.specs.declared.registers.Regs.{Regs}
 use Rattle.b67_ctl.specs.Layout.{toscw_word, IsToscw}
-use Rattle.b67_stack.specs.Common.{Activation, IsStack, stack_words, mark_place, words, toscw_of, MachineView, Slot, slot_base, RunsOn, SlotFits, CopiesName, Storage, RepresentsSlot, Represents}
+use Rattle.b67_stack.specs.Common.{Activation, IsStack, words, toscw_of, MachineView, Slot, slot_base, RunsOn, SlotFits, CopiesName, Storage, RepresentsSlot, Represents}
 use Rattle.b67_stack.proofs.Bases.{base-apart}
 use Rattle.b67_stack.proofs.Tops.{level-small, mark_high}
 use Rattle.b67_stack.proofs.Slots.{running_slot, running_fits}
@@ -25,11 +25,7 @@ module _ (x : Storage) (core : List Tagged) (r : Regs) (p : MachineView) (s : Re
         record { s = omega (arith, g.top, g.first, w.s); level = omega (arith, g.level, w.level); f = omega (arith, g.mark, g.first, w.f) }
 
     pub running_word : toscw_word (record { s = r.s - r.bosr; level = r.level; f = r.f - r.bosr }) ≡ toscw_word (toscw_of stack)
-    running_word =
-        let g = running_slot x core r p r.slot stack s u in
-        let a : r.s - r.bosr ≡ stack_words stack = omega (arith, g.top, g.first) in
-        let b : r.f - r.bosr ≡ mark_place stack = omega (arith, g.mark, g.first) in
-        rw (a, b, g.level) refl
+    running_word = grind arith
 
     pub running_inside : r.bosr < length core
     running_inside = omega (arith, (running_slot x core r p r.slot stack s u).first, base_inside r.slot u.used (omega (arith, (running_fits x core r p r.slot stack s u).0.fits)), (running_fits x core r p r.slot stack s u).0.fits)

@@ -1,4 +1,4 @@
-use Rattle.std.proofs.Common.{map, sym, ◌∙◌}
+use Rattle.std.proofs.Common.{map, sym, ◌∙◌, arith}
 use Rattle.b67_task_tables.specs.Tables.{job_row, counts_of}
 use Rattle.b67_task_switch.specs.Chosen.{who_is}
 use Rattle.b67_task_switch.proofs.Choices.{last_is, goes_on_at, lent_ready, ready_inside}
@@ -12,6 +12,4 @@ returns-then-lasts-clause-row c = λ plan s o shows.
     (lent_ready c.as_slice.result.now tasks.rows.items (who_is c.last_of.result) c.ready_row_near.result c.as_slice.ensures.value c.ready_row_near.ensures)
 
 pub returns-then-lasts-clause-inside : goal.returns-then-lasts-clause-inside
-returns-then-lasts-clause-inside c =
-    let tasks = c.args.tasks.now in
-    ready_inside tasks.rows.items (who_is c.last_of.result) c.ready_row_near.result (lent_ready c.as_slice.result.now tasks.rows.items (who_is c.last_of.result) c.ready_row_near.result c.as_slice.ensures.value c.ready_row_near.ensures)
+returns-then-lasts-clause-inside c = grind (arith, ready_inside)

@@ -12,7 +12,4 @@ returns-clause-row c = λ plan s o shows.
     (lent_next c.as_slice.result.now tasks.rows.items (who_is c.last_of.result) c.next_row_near.result c.as_slice.ensures.value c.next_row_near.ensures)
 
 pub returns-clause-inside : goal.returns-clause-inside
-returns-clause-inside c =
-    let tasks = c.args.tasks.now in
-    next_inside (length tasks.rows.items) tasks.rows.items (who_is c.last_of.result) c.next_row_near.result
-    (lent_next c.as_slice.result.now tasks.rows.items (who_is c.last_of.result) c.next_row_near.result c.as_slice.ensures.value c.next_row_near.ensures)
+returns-clause-inside c = grind (arith, next_inside)

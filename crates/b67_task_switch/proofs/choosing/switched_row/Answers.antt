@@ -1,4 +1,4 @@
-use Rattle.std.proofs.Common.{Some, None, map}
+use Rattle.std.proofs.Common.{Some, None, map, arith}
 use Rattle.b67_task_tables.specs.Tables.{job_row, counts_of}
 use Rattle.b67_task_switch.specs.Chosen.{who_is}
 use Rattle.b67_task_switch.proofs.Choices.{rises_there, switched_at, switched_none, lent_named, lent_ready, ready_inside}
@@ -13,9 +13,7 @@ returns-in-Some-clause-row c = λ plan s o shows.
     (lent_ready c.as_slice-in-Some.result.now tasks.rows.items (who_is c.in-Some.who) c.ready_row.result c.as_slice-in-Some.ensures.value c.ready_row.ensures)
 
 pub returns-in-Some-clause-inside : goal.returns-in-Some-clause-inside
-returns-in-Some-clause-inside c =
-    let tasks = c.args.tasks.now in
-    ready_inside tasks.rows.items (who_is c.in-Some.who) c.ready_row.result (lent_ready c.as_slice-in-Some.result.now tasks.rows.items (who_is c.in-Some.who) c.ready_row.result c.as_slice-in-Some.ensures.value c.ready_row.ensures)
+returns-in-Some-clause-inside c = grind (arith, ready_inside)
 
 pub returns-in-None-clause-row : goal.returns-in-None-clause-row
 returns-in-None-clause-row c = λ plan s o shows.

@@ -1,11 +1,9 @@
 use Rattle.std.proofs.Common.{◌≡◌, ◌+◌, sym, ◌∙◌, arith}
-use Rattle.std.proofs.lemmas.Option.{same_Some, none-some}
+use Rattle.std.proofs.lemmas.Option.{none-some}
 use Rattle.b67_task_switch.proofs.room.before_halt.Goals as goal
 
 pub returns-in-Some-clause-halt : goal.returns-in-Some-clause-halt
-returns-in-Some-clause-halt c = λ j low at.
-    let is : c.in-Some.count ≡ c.args.made + j = same_Some c.in-Some.count (c.args.made + j) (sym c.in-Some.is ∙ at) in
-    absurd (omega (arith, low, is, c.min.ensures, c.saturating_sub.ensures))
+returns-in-Some-clause-halt c = grind arith
 
 pub returns-in-None-clause-halt : goal.returns-in-None-clause-halt
 returns-in-None-clause-halt c = λ j low at. absurd (none-some (c.args.made + j) (sym c.in-None.is ∙ at))
