@@ -16,7 +16,7 @@ const [SHEETS, NAME, MOST_SHEETS, FORGET] = ['b67-sheets', 'b67-name', 20, 'Forg
 
 // What must hold for a task of writing, in words; of one of finding, the ways to go there.
 export function wantedText({kind, how = ANY_WAY, lines, refused, refusal, leastCore, resumed, halts, has, lacks}) {
-  const parts = [...(kind === 'find' ? [how] : []), ...(lines ? [`Run must print ${lines.join(', ')}${halts ? ', and then HALTED' : ''}, and the same in a core of another size.`] : []),
+  const parts = [...(kind === 'find' ? [how] : []), ...(lines ? [`Run must print ${lines.join(', ')}${halts ? ', and then HALTED' : ''}, and the same in a core of another size, which the page tries by itself.`] : []),
     ...(refused ? [`Check must refuse it${refusal ? `: ${refusal}` : ''}.`] : []), ...(leastCore ? ['Run must succeed in that core.'] : []), ...(resumed ? [`Resume must print ${resumed.join(', ')}.`] : [])];
   for (const [texts, verb] of [[has, 'must have'], [lacks, 'may not have']]) if (Array.isArray(texts) && texts.length) parts.push(`The deck ${verb}: ${texts.join(', ')}.`);
   return parts.join(' ');

@@ -36,6 +36,8 @@ function operand(it) {
   if (top?.kind === 'ARRAY') return {said: `${name} takes ${heldBy(top)} itself, not a copy of it.`, fits: [/array's original/]};
   const wrong = taken.filter(cell => cell.kind !== 'NUM'), arithmetic = !/^(INDX|NXLV|STOD|STON|LOAD|STFF|RETN)$/.test(name);
   if (!wrong.length || !arithmetic) return {said: `${name} takes ${wordsText(taken)}, in record ${record.number}.`, fits: arithmetic ? null : [/isn't of the kind/, /^A reference where/], cells: taken};
+  const [called] = record.cells;
+  if (record.level < 0 && wrong.includes(called)) return {said: `${name} takes ${listed(taken.map(heldBy))}. But ${heldBy(called)} says what is to be called: perhaps an argument is missing.`, fits: [], cells: [called]};
   return {said: `${name} takes ${listed(taken.map(heldBy))}. It wants numbers, and ${listed(wrong.map(heldBy))} ${wrong.length > 1 ? 'are none' : 'is none'}.`,
     fits: wrong.some(cell => cell.kind === 'NAME') ? [/NAMC for VALC/] : null, cells: wrong};
 }

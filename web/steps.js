@@ -137,19 +137,25 @@ export class Steps {
     }
   }
 
-  // Goes to what a search finds; where there is nothing the page says so, and stays.
+  // Goes to what a search finds. A search waits for what was wished before it and goes on from there, so no press of a key is lost; another
+  // wish, or Stop, drops those that wait.
   find(kind, way) {
-    return this.page.guard(async () => {
-      const {session, view} = this, from = session.state.count;
-      if (kind === 'stopped' && !session.stops.size) throw new Error('No breakpoint is set: click a card, or press b.');
-      if (kind === 'store' && !view.followed) throw new Error('Nothing is followed yet: click a cell or the name of an array, or press v until it is marked; n then goes to the next store.');
-      const mine = ++this.turn;
-      const data = {kind, from, way, what: kind === 'store' ? view.followed : [...session.stops], end: session.end};
-      const state = await this.seeks('find', data, from, thingsOf(session.state, view.followed)[kind]);
-      if (mine !== this.turn || session !== this.session) return;
-      if (!state) throw new Error(nothingFound(kind, way, session.state, view.followed));
-      await this.showState(keepState(session, session.core, state));
+    const {turn} = this;
+    return this.page.guard(() => {
+      this.finding = Promise.resolve(this.finding).catch(() => {}).then(() => this.going).then(() => (turn === this.turn ? this.finds(kind, way) : null));
+      return this.finding;
     });
+  }
+  // Where there is nothing the page says so, and stays.
+  async finds(kind, way) {
+    const {session, view, turn} = this, from = session.state.count;
+    if (kind === 'stopped' && !session.stops.size) throw new Error('No breakpoint is set: click a card, or press b.');
+    if (kind === 'store' && !view.followed) throw new Error('Nothing is followed yet: click a cell or the name of an array, or press v until it is marked; n then goes to the next store.');
+    const data = {kind, from, way, what: kind === 'store' ? view.followed : [...session.stops], end: session.end};
+    const state = await this.seeks('find', data, from, thingsOf(session.state, view.followed)[kind]);
+    if (turn !== this.turn || session !== this.session) return;
+    if (!state) throw new Error(nothingFound(kind, way, session.state, view.followed));
+    await this.showState(keepState(session, session.core, state));
   }
 
   // Asks for what a search finds from a count. If it is stopped on its way, the error says how far it came, where there isn't what `none` says,

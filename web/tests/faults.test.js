@@ -27,6 +27,7 @@ const FAULTS = [
   ['STACK OVERFLOW', 'MPCW F / MKST / NAMC 2,2 / ENTR / EXIT / SEGMENT F 3 / MKST / NAMC 2,2 / ENTR / EXIT', 0, /in \d\d records/, /^A recursion that misses its end/, '?STACK 99\n'],
   ['INVALID OPERAND', 'NAMC 2,2 / ONE / ADD / EXIT', 6, /the couple 2,2 is none\.$/, /^A reference where a number is wanted \(NAMC for VALC\)/],
   ['INVALID OPERAND', 'MKST / NAMC 0,9 / ONE / ONE / ENTR / EXIT', 8, /^PRINT wants 1 argument, and its record has 2 words: 1 and 1\.$/, /^An intrinsic with the wrong number of arguments/],
+  ['INVALID OPERAND', 'MKST / NAMC 0,9 / LT8 6 / MULT / ENTR / EXIT', 7, /^MULT takes the couple 0,9 of PRINT and 6\. But the couple 0,9 of PRINT says what is to be called: perhaps an argument is missing\.$/, ''],
   ['INVALID OPERAND', 'ONE / ENTR / EXIT', 5, /entered already: no MKST/, /^ENTR without its MKST\.$/],
   ['INVALID OPERAND', 'MKST / LT8 7 / ENTR / EXIT', 6, /is to lead to a procedure: it is 7\.$/, /^ENTR of what is no procedure/],
   ['INVALID OPERAND', 'MKST / NAMC 0,8 / LT8 9 / ENTR / DUPL / EXIT', 8, /^DUPL takes an array of 9 itself/, /^DLET, EXCH, DUPL or RETN of an array's original/],
