@@ -22,9 +22,6 @@ rejoin [] ss = ss
 rejoin (Area a ∷ ds) ss = unzip ds (Area a ∷ ss)
 rejoin (Hole n ∷ ds) ss = unzip ds (join n ss)
 
-rejoin-area : (ds ss : List Span) (a : Info) → rejoin ds (Area a ∷ ss) ≡ unzip ds (Area a ∷ ss)
-rejoin-area ds ss a = grind arith
-
 pub rejoin-alone : (ds ss : List Span) → NoHole ds → rejoin ds ss ≡ unzip ds ss
 rejoin-alone ds ss h = grind arith
 

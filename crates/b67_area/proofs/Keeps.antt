@@ -86,9 +86,6 @@ module _ (core : List Tagged) (low : ℕ) (ss : List Span) (address : ℕ) (a : 
     pub keeps_outside : (k : ℕ) → k ≢ address + a.words → slice_get new k ≡ slice_get core k
     keeps_outside k h = same k (λ q. h (omega (arith, there.at)))
 
-hole_kind : (n x : ℕ) → n < 2 ^ 20 → x < 2 ^ 20 → bits_at (link_word (hole_high n) x) 46 2 ≡ 3
-hole_kind n x h g = omega arith
-
 area_kind : (a : Info) → a.words < 2 ^ 20 → a.owner < 2 ^ 20 → bits_at (head_word a) 46 2 ≢ 3
 area_kind a w o = grind arith
 

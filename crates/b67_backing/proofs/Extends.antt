@@ -83,9 +83,6 @@ module _ {D : Type 0} (tell : D → Option (List (List ℕ))) (t t' : Table) (st
   unfolding n
   long = omega (arith, order)
 
-  is_longer : chain_of x (extended x (sectors_more have want) st).chains ≡ chain_of x st.chains ++ take (sectors_more have want) st.free
-  is_longer = cond-true (first (chain_of x st.chains ++ take (sectors_more have want) st.free) == x) _ _ (eq-eqb (first (chain_of x st.chains ++ take (sectors_more have want) st.free)) x (begins t st x c.shelf has (take (sectors_more have want) st.free)))
-
   prolongs : sectors_more have want ≤ length st.free → (all after : List (List ℕ)) → Stores (take (sectors_more have want) st.free) [] all after → Prolongs (chain_of x st.chains) (chain_of x st.chains ++ take (sectors_more have want) st.free) have want all after
   unfolding n
   prolongs room all after w = record {

@@ -4,7 +4,7 @@ use Rattle.std.proofs.lemmas.Option.{slice_get_within, same_Some}
 use Rattle.std.proofs.Math.ListN.{length-set}
 use Rattle.b67_core.proofs.Writes.{slice_get-set_same}
 use Rattle.b67_backing.specs.Shelf.{Table, Shelf, IsShelf, Linked, AreChains, one, times, uses, first, last, chain_of, others, given}
-use Rattle.b67_backing.proofs.Links.{times-cons, times-append, times-last, link_first, linked_end, Linked-set, Linked-append, AreChains-set, AreChains-others, uses-split, Chain, chain_there, rest}
+use Rattle.b67_backing.proofs.Links.{times-append, times-last, link_first, linked_end, Linked-set, Linked-append, AreChains-set, AreChains-others, uses-split, Chain, chain_there, rest}
 
 -- the links after a chain of these sectors was given back, where f was the first free one
 abbrev pub give_links : List ℕ → ℕ → ℕ → List ℕ → List ℕ
@@ -30,9 +30,6 @@ module _ (links : List ℕ) (x : ℕ) (st : Shelf) (free : ℕ) (s : IsShelf (re
 
   end_once : times end st.free + uses end st.chains ≡ 1
   end_once = s.once end (omega (arith, end_pos)) end_in
-
-  zero_chain : (0 ≢ x) × (times 0 (rest (chain_of x st.chains)) ≡ 0)
-  zero_chain = times-cons 0 x (rest (chain_of x st.chains)) (omega (arith, s.zero, parts 0))
 
   first_links : List ℕ
   first_links = slice_set links end (first st.free)

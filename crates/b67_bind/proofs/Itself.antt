@@ -142,9 +142,6 @@ literal-proc : (e : Entry) (n : ℕ) → literal_of e ≡ Some n → (bits : ℕ
 literal-proc (Break place why) n is = absurd (none-some n is)
 literal-proc (At place o) n is = grind arith
 
-same-bits : (bits : ℕ) → 2 ≤ bits % 2 ^ 14 → bits / 2 ^ 14 * 2 ^ 14 + (bits % 2 ^ 14 - 1 + 1) ≡ bits
-same-bits bits low = omega arith
-
 rebound-same : (file : Codefile) (i : ℕ) (s : Segment) (e : Entry) (bits : ℕ) → IsGood file → slice_get file.segments i ≡ Some s → Has (entries_in s) e → proc_in e ≡ Some bits → rebound (same_pairs 1 file.segments) bits ≡ bits
 rebound-same file i s e bits good at m is = grind (arith, own-pair)
 

@@ -74,15 +74,6 @@ record Ends (code : List ℕ) (end : ℕ) (o op : Op) (next : Place) : Type 0 wh
   within : end ≤ 6 * length code
   again : (other : List ℕ) (p : Op) → length other ≡ length code → ends_at other end p ≡ Ok (p, next)
 
-done_same : (x y : Op × Place) → ◌≡◌ {A = Reading} (Ok x) (Ok y) → x ≡ y
-done_same x y e = cc
-
-done_op : (a b : Op) (p q : Place) → ◌≡◌ {A = Reading} (Ok (a, p)) (Ok (b, q)) → a ≡ b
-done_op a b p q e = ap (λ (x : Op × Place). x.0) (done_same (a, p) (b, q) e)
-
-done_next : (a b : Op) (p q : Place) → ◌≡◌ {A = Reading} (Ok (a, p)) (Ok (b, q)) → p ≡ q
-done_next a b p q e = ap (λ (x : Op × Place). x.1) (done_same (a, p) (b, q) e)
-
 ends-again : (code : List ℕ) (end : ℕ) (o p : Op) (next : Place) → ends_at code end o ≡ Ok (p, next) → Ends code end o p next
 ends-again code end o p next e = grind arith
 
@@ -119,10 +110,6 @@ reads-again f code other n (Some (OneMore make)) p next h len e agree = grind (a
 reads-again f code other n (Some (TwoMore make)) p next h len e agree = grind (arith, syllable-same)
 reads-again f code other n (Some (Literal make)) p next (inl h) len e agree = grind (arith, index-same)
 reads-again f code other n (Some (Literal make)) p next (inr h) len e agree = literal-again f code other n make p next len h e agree
-
--- an MPCW's literal stands before the place behind it
-no_literal : (o p : Op) (n k : ℕ) → proc_bits o ≡ None → p ≡ o → literal_in n p ≡ Some k → ⊥
-no_literal o p n k none is l = none-some k (sym (ap (λ (x : Option ℕ). option_map (λ (bits : ℕ). n / 6 + 1) x) (ap proc_bits is ∙ none)) ∙ l)
 
 reads-literal : (code : List ℕ) (n k : ℕ) (form : Option Form) (p : Op) (next : Place) → AnyMakes form → reads code n form ≡ Ok (p, next) → literal_in n p ≡ Some k → k < next.word
 reads-literal code n k form p next h e l = grind arith
@@ -239,9 +226,6 @@ listing-changed f code =
     ap (λ (n : ℕ). entries_from (6 * n) other origin (operator_at other origin)) len ∙ relisted f (6 * length code) code other origin (operator_at code origin) refl len (λ k low. refl)
 
 -- ---- the PCW of an MPCW is the word behind it
-
-makes_some : (o p : Op) (bits : ℕ) → proc_bits o ≡ None → p ≡ o → proc_bits p ≡ Some bits → ⊥
-makes_some o p bits none is e = none-some bits (sym (ap proc_bits is ∙ none) ∙ e)
 
 reads-word : (code : List ℕ) (n bits : ℕ) (form : Option Form) (p : Op) (next : Place) → AnyMakes form → reads code n form ≡ Ok (p, next) → proc_bits p ≡ Some bits → slice_get code (n / 6 + 1) ≡ Some bits
 reads-word code n bits form p next h e b = grind (arith, slice_get-get_or)

@@ -41,10 +41,6 @@ all-right : (xs ys : List (ℕ × Bool)) → AllFalse (xs ++ ys) → AllFalse ys
 all-right [] ys h = h
 all-right (x ∷ xs) ys h = all-right xs ys h.1
 
-all-both : (xs ys : List (ℕ × Bool)) → AllFalse xs → AllFalse ys → AllFalse (xs ++ ys)
-all-both [] ys h k = k
-all-both (x ∷ xs) ys h k = (h.0, all-both xs ys h.1 k)
-
 pub append-none : {A : Type 0} (xs ys : List A) → xs ++ ys ≡ [] → (xs ≡ []) × (ys ≡ [])
 append-none [] ys e = (refl, e)
 append-none (x ∷ xs) ys e = absurd (nothing x (xs ++ ys) e)

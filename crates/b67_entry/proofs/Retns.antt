@@ -1,9 +1,8 @@
 -- What RETN answers by the case of the top frame and of its word.
-use Rattle.std.proofs.Common.{◌≡◌, ℕ, ◌+◌, ◌≤◌, List, [], ◌∷◌, Option, Some, None, Ok, Err, refl, ◌∙◌, ap, arith, Bool, false, ◌⊎◌}
+use Rattle.std.proofs.Common.{◌≡◌, ℕ, ◌+◌, ◌≤◌, List, [], ◌∷◌, Option, Some, None, Ok, Err, ◌∙◌, ap, arith, Bool, false, ◌⊎◌}
 use Rattle.b67_word.specs.declared.couples.Place.{Place}
-use Rattle.b67_word.specs.declared.faults.Fault.{Fault}
-use Rattle.b67_word.specs.declared.faults.Fault.TheVariants.{MarkPending, StackUnderflow}
-use Rattle.b67_model.specs.Common.{Answer, ◌>>=◌, Word, Standing, Return, Frame, Task, OperatorContext, SessionJob, height, top, with_top_cells, with_task, Goes, top_of, is_critical, without_arrays_of, pushes, returnable, returned, leaves, retn_word, retn}
+use Rattle.b67_word.specs.declared.faults.Fault.TheVariants.{StackUnderflow}
+use Rattle.b67_model.specs.Common.{◌>>=◌, Word, Standing, Return, Frame, Task, OperatorContext, SessionJob, height, top, with_top_cells, with_task, Goes, top_of, is_critical, without_arrays_of, pushes, returnable, returned, leaves, retn_word, retn}
 use Rattle.b67_model.specs.State as State
 use Rattle.b67_layout.specs.Meets.{here}
 use Rattle.b67_layout_records.proofs.Leaves.{task_at}
@@ -24,9 +23,6 @@ module _ (m : SessionJob) (t : Task) (q : Place) where
   cells_on : (f : Frame) (below : List Frame) (cells : List Word) → t.frames ≡ f ∷ below → f.cells ≡ cells → (top t.frames).cells ≡ cells
   cells_on f below cells e is = ap (λ (fs : List Frame). (top fs).cells) e ∙ is
 
-  pub retn_pending : (f : Frame) (below : List Frame) → t.frames ≡ f ∷ below → f.standing ≡ State.Marked → retn (here m t q) ≡ Err MarkPending
-  retn_pending f below e is = by_top State.Marked f.cells (on f below State.Marked e is) (cells_on f below f.cells e refl)
-
   module _ (f : Frame) (below : List Frame) (level environment : ℕ) (back : Option Return) (e : t.frames ≡ f ∷ below) (is : f.standing ≡ State.Entered level environment back) where
     pub retn_empty : f.cells ≡ [] → retn (here m t q) ≡ Err StackUnderflow
     retn_empty none = by_top (State.Entered level environment back) [] (on f below (State.Entered level environment back) e is) (cells_on f below [] e none)
@@ -34,9 +30,6 @@ module _ (m : SessionJob) (t : Task) (q : Place) where
     module _ (v : Word) (rest : List Word) (cells : f.cells ≡ v ∷ rest) where
       with_word : retn (here m t q) ≡ (returnable m.progress.job (top t.frames).identity v >>= λ u. leaves (here m t q) (State.Entered level environment back) (λ after value. returned after u value))
       with_word = by_top (State.Entered level environment back) (v ∷ rest) (on f below (State.Entered level environment back) e is) (cells_on f below (v ∷ rest) e cells)
-
-      pub retn_refused : (fault : Fault) → returnable m.progress.job (top t.frames).identity v ≡ Err fault → retn (here m t q) ≡ Err fault
-      retn_refused fault no_word = with_word ∙ ap (λ (r : Answer Word). r >>= λ u. leaves (here m t q) (State.Entered level environment back) (λ after value. returned after u value)) no_word
 
       -- it is left with that word
       pub retn_passed : returnable m.progress.job (top t.frames).identity v ≡ Ok v → retn (here m t q) ≡ leaves (here m t q) (top_of (here m t q)).standing (λ after value. returned after v value)

@@ -1,10 +1,9 @@
 -- How the running task's top frame stands, and what the mark at F says of it.
 use Rattle.std.proofs.Common.{◌≡◌, ◌≢◌, ℕ, ◌+◌, List, [], ◌∷◌, length, Option, Some, None, refl, ◌∙◌, ap, arith, true, false, subst}
-use Rattle.b67_ctl.specs.declared.marks.Mscw.{Mscw}
 use Rattle.b67_model.specs.State as State
 use Rattle.b67_model.specs.Common.{Standing, Return, Frame, Task, JobConstants, Job, level_of_frame, running, IsSegment, ReturnsInOrder, StackInOrder, TaskInOrder}
 use Rattle.b67_stack.specs.Common.{Shape, StackPlace, Head, Marked, Entered, Activation, head_size, top_size, mark_of, top_mark}
-use Rattle.b67_layout.specs.Common.{Placement, spot_in, head, activations}
+use Rattle.b67_layout.specs.Common.{Placement, head, activations}
 
 -- marked, or entered as the bottom one, or entered over others with a return to these
 pub data TopCase (constants : JobConstants) (t : Task) : Type 0 where
@@ -27,8 +26,6 @@ pub top_case : (constants : JobConstants) (job : Job) (t : Task) → TaskInOrder
 top_case constants job t o = by_frames constants job t t.frames refl o
 
 module _ (plan : Placement) (j : ℕ) (job : Job) (k i : ℕ) (outer : ℕ → StackPlace) where
-  abbrev mark_on : List Frame → Mscw
-  mark_on fs = top_mark i (activations plan j job k outer fs)
 
   marked_by : (s : Standing) (spot : ℕ → StackPlace) (below : List Activation) → s ≡ State.Marked → (mark_of i (head spot s) below).entered ≡ false
   marked_by s spot below e = ap (λ (z : Standing). (mark_of i (head spot z) below).entered) e
@@ -39,14 +36,6 @@ module _ (plan : Placement) (j : ℕ) (job : Job) (k i : ℕ) (outer : ℕ → S
   size_some : (h : Head) (cells : List Shape) → head_size h + length cells ≢ 0
   size_some h cells e = grind arith
 
-  -- the mark of each
-  pub mark_pending : (fs : List Frame) (f : Frame) (below : List Frame) → fs ≡ f ∷ below → f.standing ≡ State.Marked → (top_mark i (activations plan j job k outer fs)).entered ≡ false
-  mark_pending fs f below e is = ap (λ (gs : List Frame). (mark_on gs).entered) e ∙ marked_by f.standing (spot_in k outer below) (activations plan j job k outer below) is
-
   pub mark_last : (fs : List Frame) (f : Frame) (level environment : ℕ) → fs ≡ f ∷ [] → f.standing ≡ State.Entered level environment None
       → ((top_mark i (activations plan j job k outer fs)).entered ≡ true) × ((top_mark i (activations plan j job k outer fs)).back ≡ 0)
   mark_last fs f level environment e is = grind arith
-
-  pub mark_inner : (fs : List Frame) (f next : Frame) (more : List Frame) (level environment : ℕ) (back : Return) → fs ≡ f ∷ next ∷ more → f.standing ≡ State.Entered level environment (Some back)
-      → ((top_mark i (activations plan j job k outer fs)).entered ≡ true) × ((top_mark i (activations plan j job k outer fs)).back ≢ 0)
-  mark_inner fs f next more level environment back e is = grind arith

@@ -28,9 +28,6 @@ pub record AtProcedure (e : Answer Chase.End) : Type 0 where
   pub place : Place
   pub is : e ≡ Ok (AtProc frame segment level place)
 
-at_by : (e : Chase.End) → is_procedure_end e ≡ true → AtProcedure (Ok e)
-at_by e is = grind arith
-
 pub at_procedure : (e : Answer Chase.End) → enters_at e ≡ true → AtProcedure e
 at_procedure e is = grind arith
 

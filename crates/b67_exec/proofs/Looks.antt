@@ -7,7 +7,7 @@ use Rattle.std.proofs.lemmas.Option.{same_Some, none-some}
 use Rattle.std.proofs.lemmas.List.{reverse-append}
 use Rattle.b67_word.specs.declared.couples.Place.{Place}
 use Rattle.b67_word.specs.declared.faults.Fault.TheVariants.{InvalidAddress}
-use Rattle.b67_model.specs.Common.{Answer, Word, Frame, Task, Job, SessionJob, top, with_top_cells, with_task, all_frames, frame, no_frame, level_of_frame, cell, cell_of, known_of, from_frame, outer_reach, reach_of, Session}
+use Rattle.b67_model.specs.Common.{Answer, Word, Frame, Task, Job, SessionJob, top, with_top_cells, with_task, all_frames, frame, no_frame, level_of_frame, cell, cell_of, known_of, outer_reach, reach_of, Session}
 use Rattle.b67_model.specs.Keyed.{keyed, change_keyed}
 use Rattle.b67_lemmas.specs.Lists.{Has}
 use Rattle.b67_lemmas.proofs.Members.{has_get, has_reverse_back, change_found, change_other, keyed_has}
@@ -18,9 +18,6 @@ use Rattle.b67_layout.proofs.Common.{OnTop, task_with, spots-with, fresh}
 use Rattle.b67_layout.proofs.Others.{outer_spots-after}
 use Rattle.b67_law_order.proofs.Chases.{ok_some}
 use Rattle.b67_law_order.proofs.Looks.{known_cells}
-
-known-from : (n : ℕ) (fs : List Frame) (cs : List Word) → map known_of (from_frame n (with_top_cells fs cs)) ≡ map known_of (from_frame n fs)
-known-from n fs cs = grind arith
 
 -- a list of frames of which one list of a task has other cells on top
 abbrev pub Seen : List Frame → List Word → Option Frame → Option Frame → Type 0

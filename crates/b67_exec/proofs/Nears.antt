@@ -97,9 +97,6 @@ module _ (m : SessionJob) (t : Task) (job : Job) (printed : List Line) (touched 
 
 -- ---- descriptors
 
-bit_low : (b : Bool) → flag_bit b ≤ 1
-bit_low b = grind arith
-
 same_bit : (a b : Bool) → flag_bit a ≡ flag_bit b → a ≡ b
 same_bit a b e = grind arith
 
@@ -210,9 +207,6 @@ code_stays code near = grind arith
 
 pub straight_stays : (op : Op) → is_straight op ≡ true → is_leaving op ≡ false
 straight_stays op near = grind arith
-
-code_calls : (code : Code) → is_quick code ≡ true → (h : OperatorContext) → called (Plain code) h ≡ None
-code_calls code near h = grind arith
 
 pub straight_calls : (op : Op) → is_straight op ≡ true → (h : OperatorContext) → called op h ≡ None
 straight_calls op near h = grind arith

@@ -20,10 +20,6 @@ fits_by op o = grind arith
 pub read_fits : (constants : JobConstants) (t : Task) (op : Op) (next : Place) → SettingInOrder constants → ◌≡◌ {A = Reading} (Ok (op, next)) (reading_of constants t) → ParametersHaveBits op × IsPlace next
 read_fits constants t op next g is = grind (arith, reading_fits)
 
--- what making the operator that was read answers
-abbrev ByReading : Storage → Placement → Session → SessionJob → Task → Step → Cpu → Cpu → Reading → Type 0
-ByReading x plan s m t answered old new reading = CallsOrMeets x plan s m answered old new (called_by_reading m t reading) (step_by m.constants m.progress.job t reading)
-
 pub operator_read : (x : Storage) (plan : Placement) (s : Session) (m : SessionJob) (t : Task) (answered : Step) (old new : Cpu) (at : ℕ) (reading : Reading) → code_area x plan m t ≡ Some at → reading ≡ reading_of m.constants t
     → CallsOrMeets x plan s m answered old new (called_by_reading m t reading) (step_by m.constants m.progress.job t reading) → OperatorMeets x plan s m t answered old new
 unfolding step

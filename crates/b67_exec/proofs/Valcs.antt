@@ -14,7 +14,7 @@ use Rattle.b67_stack.specs.Represents.{Storage}
 use Rattle.b67_layout.specs.Common.{IsInOrderButCounts, Placement, IsRunning, RepresentsSession, RunsSome, ForEach, here, Meets, cells}
 use Rattle.b67_refer.specs.declared.ends.End.{End}
 use Rattle.b67_refer.specs.declared.ends.End.TheVariants as end
-use Rattle.b67_refer.specs.RunningContext.{RunningContext, IsShown}
+use Rattle.b67_refer.specs.RunningContext.{RunningContext}
 use Rattle.b67_refer.specs.Cells.{StandsFor}
 use Rattle.b67_refer.specs.Ends.{EndMeets}
 use Rattle.b67_entry.specs.Procedures.{ReachesProc}
@@ -24,10 +24,6 @@ use Rattle.b67_fetch.specs.Fetches.{IsEnd, SomeEnd, EntersOrMeets, is_procedure_
 use Rattle.b67_fetch.proofs.Values.{here_scene, here_shown, followed_stands, couple_followed, finds_end, some_end, valc_row}
 use Rattle.b67_exec.proofs.Entered.{reaches, valc_enters, met_at}
 use Rattle.b67_exec.specs.Far.{RowAnswers}
-
--- what following the word answered
-abbrev pub Chased : Cpu → Tagged → Result End Fault → Type 0
-Chased cpu w found = (a : RunningContext cpu.core cpu.regs) (q : Place) → IsShown a cpu.display → (at owner : ℕ) (v : Word) → StandsFor a at owner w v → EndMeets a q found (follow (here a.member a.task q) v)
 
 -- what entering the procedure of a cell answers
 abbrev pub EntersAt : Cpu → ℕ → Place → Step → Cpu → Type 0

@@ -6,7 +6,7 @@ use Rattle.std.proofs.lemmas.Bool.Decides.{nat_tests}
 use Rattle.b67_word.specs.declared.couples.Place.{Place}
 use Rattle.b67_ctl.specs.declared.descriptors.SegDesc.{SegDesc}
 use Rattle.b67_model.specs.declared.operators.Op.{Op}
-use Rattle.b67_model.specs.Common.{Form, branch, form_of, count_at, ends_at, reads, operator_at, code_of, reading_of, syllable}
+use Rattle.b67_model.specs.Common.{Form, branch, form_of, count_at, reads, operator_at, code_of, reading_of, syllable}
 use Rattle.b67_stack.specs.declared.Cpu.{Cpu}
 use Rattle.b67_stack.specs.declared.Step.{Step}
 use Rattle.b67_layout.specs.Common.{ForEach}
@@ -43,9 +43,6 @@ whole_not old new made why is m = grind arith
 -- a branch may be
 pub whole_branch : (always wanted : Bool) (form : Option Form) → form ≡ Some (branch (branch_op always wanted)) → BeginsWhole form
 whole_branch always wanted form is = grind arith
-
-ends_whole : (code : List ℕ) (end : ℕ) (op : Op) → is_read_whole op ≡ true → ReadsWhole (ends_at code end op)
-ends_whole code end op is = grind arith
 
 reads_whole : (code : List ℕ) (n : ℕ) (form : Option Form) → BeginsWhole form → ReadsWhole (reads code n form)
 reads_whole code n form is = grind arith

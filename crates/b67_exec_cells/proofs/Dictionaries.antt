@@ -8,7 +8,6 @@ use Rattle.std.proofs.lemmas.List.{length-reverse}
 use Rattle.b67_word.specs.Common.{Tagged, word, bit}
 use Rattle.b67_word.specs.declared.couples.Place.{Place}
 use Rattle.b67_area.specs.declared.Kind.{Kind}
-use Rattle.b67_ctl.specs.Layout.{pcw_word}
 use Rattle.b67_lemmas.specs.Lists.{Has}
 use Rattle.b67_lemmas.proofs.Members.{all_in, has_get, has_reverse_back, keyed_has}
 use Rattle.b67_lemmas.proofs.Places.{get_within}
@@ -29,12 +28,6 @@ original_at n (s ∷ ss) (v ∷ ws) (suc i) w d e low = original_at (n + 1) ss w
 
 array_tag : (plan : Placement) (j : ℕ) (a : Array) (b : Bool) (h : Location) → a.writable ≡ b → (home_word (array_object plan j a) h).tag ≡ 5
 array_tag plan j a b h e = grind arith
-
-and_is : (a b c : Bool) → a ≡ true → b ≡ c → (a && b) ≡ c
-and_is a b c ea eb = rw ea eb
-
-and_none : (a b c : Bool) → (a && b) ≡ false → (b ≡ false → c ≡ false) → (a && c) ≡ false
-and_none a b c e f = grind arith
 
 module _ (x : Storage) (cpu : Cpu) (plan : Placement) (s : Session) (m : SessionJob) (t : Task) (ordered : IsInOrderButCounts s) (h : RepresentsSession x cpu plan s) (runs : IsRunning plan s.jobs m t) where
   has_m : Has s.jobs m
@@ -104,11 +97,6 @@ module _ (x : Storage) (cpu : Cpu) (plan : Placement) (s : Session) (m : Session
       let high = leb-true (bits % 2 ^ 14) (cpu.regs.entries + 1) two.1 in
       let e = entry (bits % 2 ^ 14) (omega (arith, low)) (omega (arith, high, o.entries)) in
       grind (arith, slice_get_within)
-
--- the word of a procedure is its bits
-procedure_word : (bits : ℕ) → bits < 2 ^ 36 → bit 19 bits ≡ 0 → 1 < bits % 2 ^ 14
-    → word 7 bits ≡ pcw_word (record { place = record { word = (bits / 2 ^ 20) % 2 ^ 13; syllable = (bits / 2 ^ 33) % 2 ^ 3 }; level = (bits / 2 ^ 14) % 2 ^ 5; segment = bits % 2 ^ 14 - 1 + 1 })
-procedure_word bits small clear low = ap (word 7) (omega arith)
 
 pub procedure_fits : (x : Storage) (plan : Placement) (m : SessionJob) (t : Task) (q : Place) (bits at : ℕ) → is_proc (here m t q) bits ≡ true → (bits < 2 ^ 36) × IsWordOf x plan m t (proc_of bits) at (word 7 bits)
 procedure_fits x plan m t q bits at is = grind arith

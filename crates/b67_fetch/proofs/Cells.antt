@@ -39,9 +39,6 @@ is_top id fs = (top fs).identity == id
 put_with : (id i : ℕ) (w : Word) (fs : List Frame) (cs : List Word) → put_frames id i w (with_top_cells fs cs) ≡ with_top_cells (put_frames id i w fs) (stored (is_top id fs) i w cs)
 put_with id h e fs cs = grind arith
 
-put_nothing : (b : Bool) (i : ℕ) (w : Word) → [] ≡ stored b i w []
-put_nothing b h e = grind arith
-
 put_top : (id i : ℕ) (w : Word) (fs : List Frame) → (top (put_frames id i w fs)).cells ≡ stored (is_top id fs) i w (top fs).cells
 put_top id h e fs = grind arith
 
@@ -63,9 +60,6 @@ two true i bits x y rest plain = record {
   plain = (choice_plain (i == length (y ∷ rest)) (Operand bits) x refl plain.0, (choice_plain (i == length rest) (Operand bits) y refl plain.1.0, tt));
 }
 two false i bits x y rest plain = record { first = x; second = y; is = refl; plain = plain }
-
-same_choice : (b : Bool) (w : Word) → (if b then w else w) ≡ w
-same_choice b h = grind arith
 
 kept_value : (b : Bool) (i : ℕ) (w : Word) (rest : List Word) → stored b i w (w ∷ rest) ≡ w ∷ stored b i w rest
 kept_value b h e rest = grind arith

@@ -1,12 +1,12 @@
 -- The element that two words give.
-use Rattle.std.proofs.Common.{◌≡◌, ◌≢◌, ℕ, ◌-◌, ◌<◌, ℤ, pos, List, [], ◌∷◌, ◌++◌, map, length, Result, Ok, Err, refl, sym, ◌∙◌, ap, arith, false, subst, inl, inr}
-use Rattle.std.specs.Prelude.{neg_ℤ, ◌/◌, ◌%◌, ◌^◌, ◌==◌, ◌&&◌, if◌then◌else◌}
+use Rattle.std.proofs.Common.{◌≡◌, ◌≢◌, ℕ, ◌-◌, ◌<◌, List, [], ◌∷◌, ◌++◌, map, length, Result, Ok, Err, refl, sym, ◌∙◌, ap, arith, false, subst, inl, inr}
+use Rattle.std.specs.Prelude.{◌/◌, ◌%◌, ◌^◌, ◌==◌, ◌&&◌, if◌then◌else◌}
 use Rattle.std.specs.List.{AllByRecursion}
 use Rattle.std.proofs.lemmas.Bool.Decides.{nat_tests}
 use Rattle.b67_word.specs.Tagged.{Tagged, word}
 use Rattle.b67_word.specs.declared.couples.Place.{Place}
 use Rattle.b67_word.specs.declared.faults.Fault.{Fault}
-use Rattle.b67_word.specs.declared.faults.Fault.TheVariants.{StackUnderflow, Exponent}
+use Rattle.b67_word.specs.declared.faults.Fault.TheVariants.{StackUnderflow}
 use Rattle.b67_arith.specs.OnWords.{operand_bits}
 use Rattle.b67_model.specs.Common.{Answer, ◌>>=◌, Word, operand, number, array, array_of, index_below, indexed, in_order, is_original, Array, Frame, Task, SessionJob, top, Session, Done, Starts, IsSegment, Known, known_of, outer_of, FramesInOrder, WordInOrder}
 use Rattle.b67_layout.specs.Common.{IsInOrderButCounts, Placement, IsRunning, RepresentsSession, here, Meets, RunsSome, IsWordOf, cells}
@@ -46,13 +46,6 @@ index_ok len n bits k e = grind (arith, nat_tests)
 
 index_err : (len n bits : ℕ) (f : Fault) → Err f ≡ index_in len bits → (number bits >>= λ z. index_below len z >>= pair n) ≡ Err f
 index_err len n bits f e = grind arith
-
--- a natural number below the length is its index
-whole_small : (bits x y z w : ℕ) → x ≡ 0 → y ≡ 0 → z ≡ 0 → w ≡ bits → ◌≡◌ {A = Answer ℤ} (if (x == 0) && (y == 0) then Ok (if z == 0 then pos w else neg_ℤ (pos w)) else Err Exponent) (Ok (pos bits))
-whole_small bits x y z w a b c d = rw a (rw b (rw c (rw d refl)))
-
-number_small : (bits : ℕ) → bits < 2 ^ 39 → number bits ≡ Ok (pos bits)
-number_small bits low = grind arith
 
 pub index_natural : (len bits : ℕ) → bits < 2 ^ 39 → bits < len → Ok bits ≡ index_in len bits
 index_natural len bits low below = grind arith
@@ -98,10 +91,6 @@ module _ (plan : Placement) (m : SessionJob) (t : Task) (q : Place) where
         by : (ao : Answer ℕ) → FindsArray plan m (Ok original) ao → FindsItem plan m (Err fault) (row (Ok index.bits) ao)
         by (Err g) f = absurd f
         by (Ok n) f = subst (FindsItem plan m (Err fault)) (sym (index_err (length (array m.progress.job n).numbers) n index.bits fault (e ∙ ap (λ (l : ℕ). index_in l index.bits) (length_is n f.0 f.1)))) refl
-
-  -- words that give an element are no originals
-  array_plain : (v : Word) (a : ℕ) → array_of (here m t q) v ≡ Ok a → is_original v ≡ false
-  array_plain v a e = grind arith
 
   indexed_plain : (v i : Word) (p : ℕ × ℕ) → indexed (here m t q) v i ≡ Ok p → (is_original v ≡ false) × (is_original i ≡ false)
   indexed_plain v i p e = grind arith

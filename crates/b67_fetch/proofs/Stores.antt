@@ -6,7 +6,7 @@ use Rattle.b67_word.specs.Tagged.{Tagged, word}
 use Rattle.b67_word.specs.declared.couples.Place.{Place}
 use Rattle.b67_word.specs.declared.faults.Fault.{Fault}
 use Rattle.b67_word.specs.declared.faults.Fault.TheVariants.{InvalidOperand, MemoryProtect, StackOverflow}
-use Rattle.b67_model.specs.Common.{Answer, ◌>>=◌, array, no_array, with_element, in_order, AtCell, AtElement, AtArray, AtProc, AtIntrinsic, follow, Word, Operand, operand, Frame, Array, Task, SessionJob, height, with_top_cells, with_task, Session, Done, Goes, cells_of, with_cells, store_at}
+use Rattle.b67_model.specs.Common.{Answer, ◌>>=◌, array, no_array, with_element, in_order, AtCell, AtElement, AtArray, AtProc, AtIntrinsic, follow, Word, Operand, operand, Array, Task, SessionJob, height, with_top_cells, with_task, Session, Done, Goes, cells_of, with_cells, store_at}
 use Rattle.b67_model.specs.Keyed.{keyed}
 use Rattle.b67_model.specs.Chase as Chase
 use Rattle.b67_layout.specs.Common.{IsInOrderButCounts, Placement, IsRunning, RepresentsSession, here, IsMade, Meets, cells}
@@ -150,10 +150,6 @@ module _ (x : Storage) (old : Cpu) (plan : Placement) (s : Session) (m : Session
       → ((n : ℕ) → original ≡ plan.home m.constants.number n → HasElement m.progress.job n index → ElementAt x plan m n original index (Ok at)) → at < length old.core
   element_inside original index at y e places = let n = named original index y e in element_in n.number index original at n.element (places n.number n.home n.element)
 
-  -- the height of the stack with fewer cells
-  height_drop : (fs : List Frame) (w : Word) (cs : List Word) → height (with_top_cells fs cs) ≤ height (with_top_cells fs (w ∷ cs))
-  height_drop fs w cs = grind arith
-
   module _ (b c : Word) (rest : List Word) (is : cells t ≡ b ∷ c ∷ rest) (enough : old.regs.f + 2 ≤ old.regs.s) (bits : ℕ) where
     fits_kept : nat_le (height (with_top_cells t.frames (Operand bits ∷ rest))) m.constants.stack_size ≡ true
     fits_kept = let g = room x old plan s m t o h runs in let low = g.last in fitting x old plan s m t o h runs 2 (old.regs.s - 2 + 1) (b ∷ c ∷ []) rest (Operand bits) is refl enough refl (omega (arith, low, enough))
@@ -177,9 +173,6 @@ module _ (x : Storage) (old : Cpu) (plan : Placement) (s : Session) (m : Session
 
     answered : (n i : ℕ) → (array m.progress.job n).writable ≡ true → store_at (here m t q) rest (if keeps then Operand bits ∷ rest else rest) bits (AtElement n i) ≡ Answered keeps n i
     answered n i w = rw w (rw (fits keeps) refl)
-
-    refused_element : (n i : ℕ) → (array m.progress.job n).writable ≡ false → store_at (here m t q) rest (if keeps then Operand bits ∷ rest else rest) bits (AtElement n i) ≡ Err MemoryProtect
-    refused_element n i w = rw w refl
 
     element_made : (n index original at : ℕ) (e : HasElement m.progress.job n index) → ElementAt x plan m n original index (Ok at) → NoOriginals (b ∷ c ∷ [])
         → IsMade x plan s m old (stored old at (word 0 bits) keeps q) (store_at (here m t q) rest (kept bits rest) bits (AtElement n index))

@@ -185,9 +185,6 @@ pub followed_plain : (x : Storage) (m : SessionJob) (t : Task) (q : Place) (w : 
 followed_plain x m t q w e is = grind arith
 
 module _ (x : Storage) (plan : Placement) (s : Session) (m : SessionJob) (t : Task) (q : Place) (old : Cpu) where
-  -- VALC by its end
-  valc_by : (r : Step) (new : Cpu) (e : Chase.End) → EntersOrMeets x plan s m r old new (is_procedure_end e) (value_at_end (here m t q) (cells t) e) → EntersOrMeets x plan s m r old new (is_procedure_end e) (evaluates (here m t q) e)
-  valc_by r new e i = grind arith
 
   -- what a fault of following makes
   pub refused : (row : Chase.End → Answer Done) (fault : Fault) (e : Answer Chase.End) → FindsEnd plan m old.core (Err fault) e → EntersOrMeets x plan s m (step.Fault fault) old old (enters_at e) (e >>= row)
@@ -197,11 +194,6 @@ module _ (x : Storage) (plan : Placement) (s : Session) (m : SessionJob) (t : Ta
       → ((f : Chase.End) → IsEnd plan m old.core found f → EntersOrMeets x plan s m r old new (is_procedure_end f) (value_at_end (here m t q) (cells t) f))
       → EntersOrMeets x plan s m r old new (enters_at e) (e >>= λ f. evaluates (here m t q) f)
   valc_row r new found e is value = grind arith
-
-  -- LOAD by its end
-  load_by : (rest : List Word) (r : Step) (new : Cpu) (found : End) (e : Chase.End) → IsEnd plan m old.core found e → ((o : ℕ) → found ≢ end.Array o)
-      → EntersOrMeets x plan s m r old new (is_procedure_end e) (value_at_end (here m t q) rest e) → EntersOrMeets x plan s m r old new (is_procedure_end e) (rows.load_at (here m t q) rest e)
-  load_by rest r new found e is other i = grind arith
 
   pub load_row : (rest : List Word) (r : Step) (new : Cpu) (found : End) (e : Answer Chase.End) → FindsEnd plan m old.core (Ok found) e → ((o : ℕ) → found ≢ end.Array o)
       → ((f : Chase.End) → e ≡ Ok f → IsEnd plan m old.core found f → EntersOrMeets x plan s m r old new (is_procedure_end f) (value_at_end (here m t q) rest f))

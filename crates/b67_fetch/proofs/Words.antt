@@ -92,10 +92,6 @@ module _ (x : Storage) (plan : Placement) (s : Session) (m : SessionJob) (t : Ta
       let k : Has (cells t) w = subst (λ (ws : List Word). Has ws w) (sym g.is) (has_first g.first g.second g.rest) in
       record { at = g.two.at; owner = (top t.frames).identity; is = g.two.to.is; ordered = words_of t.frames (running_in_order plan s m t o runs).1.frames w k }
 
--- what is followed is no original
-plain_end : (h : OperatorContext) (w : Word) (e : End) → follow h w ≡ Ok e → is_original w ≡ false
-plain_end h w e y = grind arith
-
 plain_operand : (w : Word) (bits : ℕ) → w ≡ Operand bits → is_original w ≡ false
 plain_operand w bits e = ap is_original e
 

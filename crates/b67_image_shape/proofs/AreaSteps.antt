@@ -181,9 +181,6 @@ Fails core kinds w housed = (low : ℕ) → WalkedAreas core kinds low w housed 
 pub hole_goes_on : (core : List Tagged) (kinds : List ℕ) (w n : Walk) (housed : List Bool) → length core < 2 ^ 20 → w.at < length core → bits_at (word_seen_at core w.at) 46 2 ≡ 3 → HoleStands core w × (n ≡ past_hole core w) → JobGoesOn core kinds w n housed housed
 hole_goes_on core kinds w n housed small inside b (s, e) low k = subst (λ (v : Walk). WalkedAreas core kinds low v housed) (sym e) (walk_hole core kinds low w housed small k inside b s)
 
-pub hole_higher : (core : List Tagged) (w n : Walk) → HoleStands core w × (n ≡ past_hole core w) → w.at < n.at
-hole_higher core w n (s, e) = let some = s.some in let at : n.at ≡ w.at + hole_words core w = ap (λ (v : Walk). v.at) e in omega (arith, some, at)
-
 pub hole_fails : (core : List Tagged) (kinds : List ℕ) (w : Walk) (housed : List Bool) → length core < 2 ^ 20 → w.at < length core → bits_at (word_seen_at core w.at) 46 2 ≡ 3 → (HoleStands core w → ⊥) → Fails core kinds w housed
 hole_fails core kinds w housed small inside b never low k = no_walk_hole core kinds low w housed small k inside b never
 

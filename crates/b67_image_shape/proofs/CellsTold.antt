@@ -114,9 +114,6 @@ module _ (core : List Tagged) (P : Starts) (plan : Placement) (j : ℕ) (job : J
 
   -- ---- copies stand above their originals
 
-  plain_copy : (w : Tagged) (b0 b1 b7 : Bool) (name : ℕ) → is_copy_of name (plain_by w frame b0 b1 b7) ≡ false
-  plain_copy w b0 b1 b7 name = grind arith
-
   plain_none : (w : Tagged) (b0 b1 b7 : Bool) (below : List Word) → NoCopyUnder (plain_by w frame b0 b1 b7) below
   plain_none w b0 b1 b7 below = grind arith
 
@@ -125,9 +122,6 @@ module _ (core : List Tagged) (P : Starts) (plan : Placement) (j : ℕ) (job : J
 
   copy_itself : (index : Option ℕ) (name : ℕ) → is_copy_of name (copy_by index name) ≡ true
   copy_itself index name = grind arith
-
-  copy_home : (index : Option ℕ) (c : Shapes.Copied) (name home : ℕ) → shape plan j job spot (copy_by index name) ≡ Copy c home → plan.home j name ≡ home
-  copy_home index c name home e = grind arith
 
   copy_names : (index : Option ℕ) (other name : ℕ) → is_copy_of name (copy_by index other) ≡ true → other ≡ name
   copy_names index other name e = grind arith
@@ -198,12 +192,6 @@ module _ (core : List Tagged) (P : Starts) (plan : Placement) (j : ℕ) (job : J
 module _ (core : List Tagged) (base slot : ℕ) (frame : StackPlace → ℕ) where
   abbrev Levels : ℕ → ℕ → ℕ → List Activation → Type 0
   Levels n f s acts = (x : Seen) → Has (seen_in slot acts) x → is_entered_head x.1 ≡ true → level_of_standing (standing_of frame x.1) ≡ bits_at (word_seen_at core (base + x.0.disp)) 14 5
-
-  level_here : (f s : ℕ) (e : Bool) → is_entered_head (activation_by core f s (mscw_in (word_seen_at core f)) e).head ≡ true → level_of_standing (standing_of frame (activation_by core f s (mscw_in (word_seen_at core f)) e).head) ≡ bits_at (word_seen_at core f) 14 5
-  level_here f s e t = grind arith
-
-  levels_top : (f s : ℕ) (below : List Activation) → StandsHere core base f s below → (x : Seen) → (record { stack = slot; disp = stack_words below + 1 }, (record_seen core f s).head) ≡ x → is_entered_head x.1 ≡ true → level_of_standing (standing_of frame x.1) ≡ bits_at (word_seen_at core (base + x.0.disp)) 14 5
-  levels_top f s below st x e t = grind arith
 
   levels_bottom : (n f s : ℕ) → s < length core → back_at core f ≡ 0 → StandsHere core base f s [] → f ≡ base + 1 → Levels (suc n) f s (record_seen core f s ∷ [])
   levels_bottom n f s inside back st at x h t = grind arith

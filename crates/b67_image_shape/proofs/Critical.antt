@@ -24,9 +24,6 @@ use Rattle.b67_image_shape.proofs.EachTask.{task_at}
 
 -- ---- the greatest of some rows
 
-max_left : (a b : ℕ) → a ≤ max a b
-max_left a b = omega arith
-
 max_right : (a b : ℕ) → b ≤ max a b
 max_right a b = omega arith
 

@@ -43,10 +43,6 @@ yes p = (λ e. p, λ q. refl)
 pub nothing : {P : Type 0} → (P → ⊥) → Decides false P
 nothing n = (λ e. absurd (let z : ⊥ = cc in z), λ p. absurd (n p))
 
--- if one holds, the other does
-pub if_so : {P Q : Type 0} (x y : Bool) → Decides x P → Decides y Q → Decides (not x || y) (P → Q)
-if_so x y d e = grind arith
-
 pub each : {A : Type 0} (test : A → Bool) (P : A → Type 0) → ((x : A) → Decides (test x) (P x)) → (xs : List A) → Decides (list_all test xs) (AllByRecursion P xs)
 each test P d [] = (λ e. tt, λ h. refl)
 each test P d (x ∷ xs) = both (test x) (list_all test xs) (d x) (each test P d xs)

@@ -41,9 +41,6 @@ zeros : (n : ℕ) → AreZero (replicate n zero)
 zeros zero = tt
 zeros (suc n) = (refl, zeros n)
 
-bits_small : (n : ℕ) → n / 2 ^ 0 % 2 ^ 20 < 2 ^ 20
-bits_small n = omega arith
-
 pub no_zero : (t : Table) (s : Shelf) → IsShelf t s → chain_of 0 s.chains ≡ []
 no_zero t s is = elim (cases_lt (length (chain_of 0 s.chains)) 1) [
   | inl l ↦ nil_from_length (chain_of 0 s.chains) (omega (arith, l))
@@ -288,9 +285,6 @@ module _ (k : Sight) (facts : TableFacts k) (low size : ℕ) (fixed : FixedFacts
       (chain_once : (t u : PagedObject) → Has (view_in k).objects t → Has (view_in k).objects u → 0 < (held_of k t.home).chain → (held_of k t.home).chain ≡ (held_of k u.home).chain → t.home ≡ u.home) where
     abbrev x : Storage
     x = storage_with k low shelf
-
-    small_by : (core : List Tagged) (w : Tagged) (b : Bool) → (location_by core w b).chain < 2 ^ 20
-    small_by core w b = grind arith
 
     small : (home : ℕ) → (held_of k home).chain < 2 ^ 20
     small home = grind arith

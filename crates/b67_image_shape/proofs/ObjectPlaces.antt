@@ -97,9 +97,6 @@ data_there core before (suc n) i lo hi = grind (arith, ⊎_elim, cases_eq, data_
 
 -- ---- words of stacks
 
-original_bits : (held : Locations) (home at : ℕ) (w : Tagged) → Fits held (Original home) at w → is_original_word w ≡ true
-original_bits held home at w f = grind arith
-
 original_word : (held : Locations) (core : List Tagged) (from : ℕ) (xs : List Shape) (home : ℕ) → LieDownward (Fits held) core from xs → Has xs (Original home) → is_original_word (word_seen_at core home) ≡ true
 original_word held core from [] home l h = absurd h
 original_word held core from (a ∷ more) home l (inr h) = original_word held core from more home l.1 h

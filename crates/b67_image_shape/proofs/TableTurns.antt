@@ -78,9 +78,6 @@ past_slots k at slots h far = grind (arith, no_row_mark, in_slots)
 
 -- ---- by the end of what stands in a slot
 
-no_right : (a : Bool) → (a && false) ≡ false
-no_right a = grind arith
-
 in_slot : (k : Sight) (n : ℕ) (r : rows.TaskRow) → row_in_slot k.tasks n ≡ Some r → k.regs.stacks + n * k.regs.stack_size ≡ base_at k r
 in_slot k n r e = let (h, q) = keyed_has (λ (w : rows.TaskRow). w.slot) n k.tasks r e in ap (λ m. k.regs.stacks + m * k.regs.stack_size) (sym q)
 

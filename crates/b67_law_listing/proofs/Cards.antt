@@ -10,19 +10,17 @@ use Rattle.b67_word.specs.declared.couples.Place.{Place}
 use Rattle.b67_model.specs.declared.operators.Op.{Op}
 use Rattle.b67_model.specs.declared.operators.Op.TheVariants.{Mpcw, Plain}
 use Rattle.b67_model.specs.declared.operators.Code.TheVariants.{Nvld}
-use Rattle.b67_model.specs.Common.{place_at, place_of_bits, Entry, origin, listing, target_of}
-use Rattle.b67_model_text.specs.declared.assembly.Branch as branch
+use Rattle.b67_model.specs.Common.{place_at, place_of_bits, Entry, origin, listing}
 use Rattle.b67_model_text.specs.declared.assembly.Branch.TheVariants as branches
 use Rattle.b67_model_text.specs.declared.assembly.Sketch as sketch
 use Rattle.b67_model_text.specs.declared.assembly.Sketch.TheVariants.{Whole, OutOfRange, Couple as Coupled, Row as RowCoupled, Jump, Pcw, PcwAt}
 use Rattle.b67_model_text.specs.declared.assembly.Statement as statement
 use Rattle.b67_model_text.specs.declared.assembly.Statement.TheVariants as statements
-use Rattle.b67_model_text.specs.declared.assembly.Named as named
 use Rattle.b67_model_text.specs.declared.assembly.Named.TheVariants as means
 use Rattle.b67_model_text.specs.declared.assembly.Line.{Line}
 use Rattle.b67_model_text.specs.Answers.{Answer}
 use Rattle.b67_model_text.specs.Encoding.{code_words}
-use Rattle.b67_model_text.specs.Asm.{Names, Scope, SegmentContent, is_place, is_first_label, pcw_in, label_in, syllable_bits, pcw_at, branch_to, denoted, after_operator, content_of, meaning, labels, label_at}
+use Rattle.b67_model_text.specs.Asm.{Names, Scope, SegmentContent, is_place, is_first_label, pcw_in, label_in, syllable_bits, pcw_at, denoted, after_operator, content_of, meaning, labels, label_at}
 use Rattle.b67_model_text.specs.Pass.{Added, AddedOperator, syllable_behind, entries_behind, with_added, pass_content}
 use Rattle.b67_model_text.proofs.Contents.{same_Ok, mapped, Adds, headed, labels_behind, label_small}
 use Rattle.b67_model_text.proofs.Pass.{content_is}
@@ -57,21 +55,12 @@ stands_there n o e = grind arith
 stands_at : (labels : List ℕ → Option ℕ) (n : ℕ) (label : Option (List ℕ)) → is_first_label labels n label ≡ true → LabelStandsAt labels label (place_at n)
 stands_at h n label e = grind arith
 
-branch_target : (b : branch.Branch) (n : ℕ) → n ≤ 6 * MOST_SEGMENT → target_of (branch_to b n) ≡ Some (place_at n)
-branch_target b n h = grind arith
-
 place_is : (a b : Place) → a.word ≡ b.word → a.syllable ≡ b.syllable → a ≡ b
 place_is a b w s = λ i. record { word = w i; syllable = s i }
 
 -- the place in a procedure's bits
 first_place : (bits : ℕ) → bits < 2 ^ 19 → place_of_bits (bits / 2 ^ 20) ≡ origin
 first_place bits low = place_is (place_of_bits (bits / 2 ^ 20)) origin (omega (arith, low)) (omega (arith, low))
-
-label_place : (own n bits : ℕ) → own < 2 ^ 19 → n ≤ 6 * MOST_SEGMENT → own + syllable_bits n * 2 ^ 20 ≡ bits → place_of_bits (bits / 2 ^ 20) ≡ place_at n
-label_place own n bits low few is = grind arith
-
-label_in_small : (names : Names) (o : Option named.Named) (label : List ℕ) (n : ℕ) → AllLabelsAreSmall names → label_in names o label ≡ Some n → n ≤ 6 * MOST_SEGMENT
-label_in_small names o label n all e = grind arith
 
 goes_to : (x : Scope) (s : sketch.Sketch) (op : Op) → AreSmall x.names → AllLabelsAreSmall x.names → LabelsAreSmall x.labels → denoted x s ≡ Some op → GoesTo x s op
 goes_to x (Jump b label) op small all own e = grind arith

@@ -1,12 +1,11 @@
 -- The operators that cards denote: their numbers are within their bits.
-use Rattle.std.proofs.Common.{◌≡◌, ℕ, zero, suc, ◌+◌, ◌-◌, ◌*◌, ◌/◌, ◌%◌, ◌^◌, ◌≤◌, ◌<◌, Bool, true, false, refl, subst, arith, cond, Option, Some, None, List, [], ◌∷◌, min}
+use Rattle.std.proofs.Common.{◌≡◌, ℕ, ◌+◌, ◌-◌, ◌*◌, ◌/◌, ◌%◌, ◌^◌, ◌≤◌, ◌<◌, Bool, true, false, refl, subst, arith, cond, Option, Some, None, List, [], ◌∷◌, min}
 use Rattle.std.specs.Prelude.{nat_lt, nat_le, ◌&&◌}
 use Rattle.std.specs.Option.{option_and_then}
-use Rattle.std.specs.List.{AllByRecursion}
 use Rattle.std.proofs.lemmas.Bool.{and_parts, and_from, ltb-true, leb-true, lt-ltb}
 use Rattle.std.proofs.lemmas.Option.{same_Some, none-some}
 use Rattle.b67_word.specs.declared.couples.Couple.{Couple}
-use Rattle.b67_word.specs.Couples.{splits, bits_in, level_bits, fits_split, reversed_bits, couple_bits}
+use Rattle.b67_word.specs.Couples.{fits_split, couple_bits}
 use Rattle.b67_model.specs.declared.operators.Op.{Op}
 use Rattle.b67_model.specs.declared.operators.Op.TheVariants.{Mpcw}
 use Rattle.b67_model_text.specs.declared.assembly.Call as call
@@ -24,23 +23,6 @@ use Rattle.b67_model.specs.declared.limits.TheConstants.{MOST_SEGMENT}
 
 chained : {A B : Type 0} (f : A → Option B) (o : Option A) (b : B) → option_and_then f o ≡ Some b → (a : A) × (o ≡ Some a) × (f a ≡ Some b)
 chained f o b e = grind arith
-
--- couples have 14 bits
-bits_in_small : (rows : List (ℕ × ℕ)) (level : ℕ) → AllByRecursion (λ (row : ℕ × ℕ). row.1 ≤ 5) rows → bits_in rows level ≤ 5
-bits_in_small [] level h = omega arith
-bits_in_small (row ∷ rows) level h = grind (arith, bits_in_small rows level h.1)
-
-split_small : (level : ℕ) → level_bits level ≤ 5
-split_small level = bits_in_small splits level (omega arith, (omega arith, (omega arith, (omega arith, (omega arith, tt)))))
-
-reversed_small : (k level disp : ℕ) → k ≤ 5 → disp < 2 ^ (14 - k) → reversed_bits k level + disp < 2 ^ 14
-reversed_small zero level disp le lt = omega arith
-reversed_small (suc zero) level disp le lt = omega arith
-reversed_small (suc (suc zero)) level disp le lt = omega arith
-reversed_small (suc (suc (suc zero))) level disp le lt = omega arith
-reversed_small (suc (suc (suc (suc zero)))) level disp le lt = omega arith
-reversed_small (suc (suc (suc (suc (suc zero))))) level disp le lt = omega arith
-reversed_small (suc (suc (suc (suc (suc (suc k)))))) level disp le lt = absurd (omega arith)
 
 couple_small : (running : ℕ) (c : Couple) (bits : ℕ) → couple_bits running c ≡ Some bits → bits < 2 ^ 14
 couple_small running c bits e = grind (arith, ltb-true)

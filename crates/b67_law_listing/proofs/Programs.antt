@@ -1,7 +1,6 @@
 -- What is read for a program's cards.
 use Rattle.std.proofs.Common.{◌≡◌, ℕ, zero, suc, ◌+◌, ◌<◌, Bool, true, false, refl, sym, ◌∙◌, subst, arith, cond, Option, Some, None, List, [], ◌∷◌, length, map, take, Result, Ok, Err}
 use Rattle.std.specs.Prelude.{nat_lt, ◌-◌, ⊤, slice_get, unwrap_or}
-use Rattle.std.specs.Option.{option_map, option_and_then}
 use Rattle.std.specs.List.{AllByRecursion, cons_option, list_any}
 use Rattle.std.specs.Str.{bytes_eq}
 use Rattle.std.proofs.lemmas.Bool.{ltb-true}
@@ -22,7 +21,7 @@ use Rattle.b67_model_text.specs.Cards.{words_in_card, name_in, is_empty}
 use Rattle.b67_model_text.specs.Command.{row_of}
 use Rattle.b67_model_text.specs.Deck.{Refusal, of_card}
 use Rattle.b67_model_text.specs.Encoding.{code_words}
-use Rattle.b67_model_text.specs.Statements.{mnemonics, sketch_of, literal_bits, all_bits, num, entry, entry_named, operator, kind_of, is_label, with_label, labelled, says, without_comment, line_with, lines_of}
+use Rattle.b67_model_text.specs.Statements.{mnemonics, sketch_of, literal_bits, all_bits, entry_named, operator, kind_of, is_label, with_label, labelled, says, without_comment, line_with, lines_of}
 use Rattle.b67_model_text.specs.Asm.{Names, names_of, Scope, SegmentContent, content_of, syllable_bits, Part, CodePart, RowPart, meaning, definition, definitions, segments_behind, rows_behind, segment_count, labels, misplaced, is_head, is_code, is_numbers, own, with_cards, cards_of_segments, is_segment_number, is_row_number, segment_part, row_part, program_part, row_words, with_part, program_from, no_strays, assembled}
 use Rattle.b67_model_text.proofs.Answers.{after_both, err-ok}
 use Rattle.b67_model_text.proofs.Contents.{same_Ok, label_small}
@@ -38,23 +37,8 @@ defines (Ok (statements.Segment name level)) = true
 defines (Ok (statements.Row name)) = true
 defines _ = false
 
-num_defines : (o : Option (Option ℕ)) (p : Option (List (Option ℕ))) → defines (or_reason (option_and_then (λ first. option_map (statements.Values first) p) o) 2) ≡ false
-num_defines o p = grind arith
-
-numbers_define : (more : List (List ℕ)) → defines (or_reason (num more) 2) ≡ false
-numbers_define more = grind arith
-
-sketch_defines : (label : Option (List ℕ)) (o : Option sketch.Sketch) → defines (or_reason o 2 >>= λ s. Ok (statements.Operator label s)) ≡ false
-sketch_defines label o = grind arith
-
 mnemonic_defines : (label : Option (List ℕ)) (o : Option Mnemonic) (f : Mnemonic → Option sketch.Sketch) → defines (or_reason o 1 >>= λ m. or_reason (f m) 2 >>= λ s. Ok (statements.Operator label s)) ≡ false
 mnemonic_defines label o f = grind arith
-
-entry_defines : (o : Option (List ℕ)) → defines (or_reason (option_map statements.Entry o) 2) ≡ false
-entry_defines o = grind arith
-
-entries_define : (more : List (List ℕ)) → defines (or_reason (entry more) 2) ≡ false
-entries_define more = grind arith
 
 operator_defines : (label : Option (List ℕ)) (ws : List (List ℕ)) → defines (operator label ws) ≡ false
 operator_defines label [] = refl

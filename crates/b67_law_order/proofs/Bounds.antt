@@ -1,6 +1,5 @@
 -- Operators on numbers and bits keep operands in 48 bits.
-use Rattle.std.proofs.Common.{◌≡◌, ℕ, zero, suc, ◌+◌, ◌-◌, ◌*◌, ◌/◌, ◌%◌, ◌^◌, ◌<◌, ◌≤◌, ℤ, pos, nat_abs, Bool, true, false, cond, eqb, ltb, leb, Ok, Err, refl, sym, ap, subst, inl, inr, arith, ◌&&◌}
-use Rattle.std.proofs.Math.IntN.{neg_ℤ}
+use Rattle.std.proofs.Common.{◌≡◌, ℕ, zero, suc, ◌+◌, ◌-◌, ◌*◌, ◌/◌, ◌%◌, ◌^◌, ◌<◌, ◌≤◌, ℤ, nat_abs, Bool, true, false, cond, eqb, ltb, leb, Ok, Err, refl, sym, ap, subst, inl, inr, arith, ◌&&◌}
 use Rattle.std.specs.Prelude.{int_lt}
 use Rattle.b67_word.specs.declared.faults.Fault.TheVariants.{Exponent}
 use Rattle.std.specs.Int.Bits.{bit_and, bit_or, bit_xor, and_lt}
@@ -45,12 +44,6 @@ same_fits a b x y = post_ok Low (truth (eqb a b)) (truth_low (eqb a b))
 
 pub lnot_fits : Fits1 lnot
 lnot_fits a x = post_ok Low (ones - a) (ones_sub-lt 48 a)
-
-neg_abs : (n : ℕ) → nat_abs (neg_ℤ (pos n)) ≡ n
-neg_abs n = grind arith
-
-neg_neg_abs : (n : ℕ) → nat_abs (neg_ℤ (neg_ℤ (pos n))) ≡ n
-neg_neg_abs n = grind arith
 
 pub chsn_fits : Fits1 chsn
 chsn_fits a x = grind arith

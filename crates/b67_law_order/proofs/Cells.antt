@@ -2,12 +2,12 @@
 use Rattle.std.proofs.Common.{◌≡◌, ℕ, ◌^◌, ◌<◌, Bool, true, false, cond, List, [], ◌∷◌, Some, None, refl, sym, ap, ◌∙◌, subst, arith}
 use Rattle.std.proofs.lemmas.Bool.{true≢false}
 use Rattle.b67_word.specs.declared.couples.Place.{Place}
-use Rattle.b67_model.specs.Common.{Answer, Word, Operand, Name, Ref, Row, Element, Original, Proc, Intrinsic, Task, OperatorContext, level_of_frame, running, array, element, End, AtCell, AtElement, AtArray, AtProc, AtIntrinsic, follow, top_of, cells_of, leaves_cells, back_to, is_original, Starts, CopiesAbove, is_original_of, operand, place_of, cell, Binary, array_of, indexed, in_order, CellRow, on_one, on_two, movable, dlet, exch, dupl, on_cells, branches, branch_if, valc, stff_word, stff, load_at, load, indx, nxlv}
+use Rattle.b67_model.specs.Common.{Answer, Word, Operand, Name, Ref, Row, Element, Original, Proc, Intrinsic, Task, OperatorContext, level_of_frame, running, array, element, End, AtCell, AtElement, AtArray, AtProc, AtIntrinsic, follow, top_of, cells_of, leaves_cells, back_to, is_original, Starts, CopiesAbove, is_original_of, operand, place_of, cell, Binary, indexed, in_order, CellRow, on_one, on_two, dlet, exch, dupl, on_cells, branches, branch_if, valc, stff_word, stff, load_at, load, indx, nxlv}
 use Rattle.b67_model.specs.Words as Words
 use Rattle.b67_law_order.proofs.Looks.{Run, reach}
 use Rattle.b67_law_order.specs.Ends.{IsElement, EndInOrder}
 use Rattle.b67_law_order.proofs.Chases.{follow_in, chase_in, place_in, indexed_in}
-use Rattle.b67_law_order.proofs.Posts.{Post, post_ok, post_err, post_bind, post_any, post_if_is, post_more, post_both, post_any_at}
+use Rattle.b67_law_order.proofs.Posts.{Post, post_ok, post_err, post_bind, post_any, post_more, post_both, post_any_at}
 use Rattle.b67_law_order.proofs.RowSteps.{Keeps, Good, Fit, AllFit, originals, SameOriginals, own_fit, own_copies, plain_above, cells_good, accident_good, element_low, evaluates_good}
 
 -- rows that keep operands in 48 bits
@@ -39,9 +39,6 @@ two_keeps P h f fits e all above = grind arith
 -- a word that may be moved is no original
 pub plain_word : (w : Word) → is_original w ≡ false → (n : ℕ) → is_original_of n w ≡ false
 plain_word w e n = grind arith
-
-pub movable_plain : (w : Word) → Post (λ v. is_original w ≡ false) (movable w)
-movable_plain w = post_if_is (λ v. is_original w ≡ false) (is_original w) _ _ (λ t. post_err (λ v. is_original w ≡ false) _) (λ t. post_ok (λ v. is_original w ≡ false) w t)
 
 -- what a plain word adds to a count
 pub none_of : (w : Word) (below : List Word) (n : ℕ) → is_original w ≡ false → originals n (w ∷ below) ≡ originals n below
@@ -121,9 +118,6 @@ load_good P h [] run at are = post_err (Keeps P h) _
 load_good P h (w ∷ rest) run at are =
     let fit : AllFit P h (w ∷ rest) = subst (AllFit P h) are (own_fit P h run) in
     grind (arith, own_copies, followed, load_at_good)
-
-array_of_plain : (h : OperatorContext) (w : Word) → Post (λ a. is_original w ≡ false) (array_of h w)
-array_of_plain h w = grind arith
 
 indexed_plain : (h : OperatorContext) (r i : Word) → Post (λ at. (is_original r ≡ false) × (is_original i ≡ false)) (indexed h r i)
 indexed_plain h r i = grind arith

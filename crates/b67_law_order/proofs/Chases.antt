@@ -6,7 +6,7 @@ use Rattle.b67_word.specs.declared.couples.Couple.{Couple}
 use Rattle.b67_word.specs.declared.faults.Fault.{Fault}
 use Rattle.b67_word.specs.declared.faults.Fault.TheVariants.{InvalidAddress}
 use Rattle.b67_word.specs.Couples.{couple}
-use Rattle.b67_model.specs.Common.{Answer, no_array, array, array_at, array_of, index_below, indexed, Word, Operand, Name, Ref, Row, Element, Original, Proc, Intrinsic, operand, number, Frame, Standing, Marked, Entered, Array, OperatorContext, frame, level_of_standing, level_of_frame, environment_of, running, running_from, outward, running_level, first_offset, cell_of, cell, named, place_of, End, AtCell, AtElement, AtArray, AtProc, AtIntrinsic, Link, Stops, Leads, element_end, link_at, link_in, link_from, link, chase_on, chase, follow, follow_reference, Starts, Known, known_of, IsEntered, NamesEntered, NamesArray, OwnsArray, WordInOrder, StackInOrder, ReturnsInOrder}
+use Rattle.b67_model.specs.Common.{Answer, no_array, array, array_at, array_of, index_below, indexed, Word, Operand, Name, Ref, Row, Element, Original, Proc, Intrinsic, operand, number, Frame, Standing, Marked, Entered, Array, OperatorContext, frame, level_of_standing, level_of_frame, environment_of, running, running_from, outward, running_level, first_offset, cell_of, cell, named, place_of, End, AtCell, AtElement, AtArray, AtProc, AtIntrinsic, Link, Stops, Leads, element_end, link_at, link_in, link_from, link, chase_on, chase, follow, follow_reference, Starts, Known, known_of, IsEntered, NamesEntered, NamesArray, WordInOrder, StackInOrder, ReturnsInOrder}
 use Rattle.b67_model.specs.Keyed.{keyed}
 use Rattle.b67_lemmas.specs.Lists.{Has}
 use Rattle.b67_lemmas.proofs.Members.{has_append_left, has_get, has_map, has_reverse_back, keyed_falls}
@@ -84,10 +84,6 @@ module _ (P : Starts) (h : OperatorContext) (run : Run P h) where
   place_in (Proc segment level place) g = post_err (PlaceInOrder (reach h)) _
   place_in (Intrinsic number) g = post_err (PlaceInOrder (reach h)) _
   place_in (Words.Segment number) g = post_err (PlaceInOrder (reach h)) _
-
-  -- an original that is seen in an entered frame
-  owned_named : (f array : ℕ) → NamesEntered (reach h) f → OwnsArray h.job.arrays f array → NamesArray h.job.arrays (reach h) array
-  owned_named f array names g = grind arith
 
   -- the index is tested as it is used
   element_in : (a index : ℕ) → NamesArray h.job.arrays (reach h) a → Post (EndInOrder P h) (element_end h a index)

@@ -6,7 +6,7 @@ use Rattle.std.proofs.lemmas.Bool.Decides.{eqb_tells}
 use Rattle.b67_model.specs.Keyed.{keyed}
 use Rattle.b67_lemmas.specs.Lists.{Has}
 use Rattle.b67_lemmas.proofs.Members.{any_has, has_append_cases, has_filter, has_flat_back, has_map_back, has_reverse_back}
-use Rattle.b67_model.specs.Common.{Condition, Ready, Awaits, WaitsAt, Task, SessionJob, is_ready, Who, Session, Choice, is_same, is_before, ready_of, ready, afresh, switched, first, next_after, choice_by, choice, number_of, NumberedFrom}
+use Rattle.b67_model.specs.Common.{Ready, Task, SessionJob, is_ready, Who, Session, Choice, is_same, is_before, ready_of, ready, afresh, switched, first, next_after, choice_by, choice, number_of, NumberedFrom}
 use Rattle.b67_model.specs.Schedule.{goes_on}
 
 find_has : {A : Type 0} (test : A → Bool) (xs : List A) (x : A) → find test xs ≡ Some x → Has xs x
@@ -25,9 +25,6 @@ pub record IsReady (s : Session) (job number : ℕ) : Type 0 where
   pub lives : Has member.progress.job.tasks task
   pub numbered : task.number ≡ number
   pub ready : task.condition ≡ Ready
-
-by_condition : (c : Condition) → elim c [ Ready ↦ true | Awaits n ↦ false | WaitsAt f offset ↦ false ] ≡ true → c ≡ Ready
-by_condition c e = grind arith
 
 of_ready : (s : Session) (who : Who) → Has (ready s) who → IsReady s who.job who.task
 of_ready s who h = grind (arith, has_flat_back, has_map_back, has_filter, has_reverse_back)

@@ -2,7 +2,7 @@
 use Rattle.std.proofs.Common.{◌≡◌, ◌≢◌, ℕ, ◌+◌, ◌^◌, ◌<◌, ◌≤◌, Bool, true, false, not, cond, List, [], ◌∷◌, ◌++◌, map, Option, Some, None, refl, sym, ◌∙◌, subst, arith, ℤ, pos, negsuc, nat_abs, ltb, ◌&&◌}
 use Rattle.std.specs.List.{AllByRecursion}
 use Rattle.b67_model.specs.Keyed.{keyed}
-use Rattle.b67_model.specs.Common.{Word, Operand, Frame, Marked, Condition, Ready, Awaits, WaitsAt, Task, OperatorContext, top, below_top, with_top_cells, height, with_task, level_of_frame, running, array, Line, Waits, top_of, cells_of, with_frames, is_critical, Starts, known_of, outer_of, ConditionInOrder, originals_in, TasksInOrder, Value, Values, answered, answers, print, printrow, row_copy, numbers_of, awaits, await, status_of, status}
+use Rattle.b67_model.specs.Common.{Word, Operand, Frame, Marked, Condition, Ready, Awaits, WaitsAt, Task, OperatorContext, top, below_top, with_top_cells, height, with_task, level_of_frame, running, array, Line, Waits, top_of, cells_of, with_frames, is_critical, Starts, known_of, outer_of, ConditionInOrder, originals_in, TasksInOrder, Value, Values, answered, answers, print, printrow, row_copy, numbers_of, awaits, await, status}
 use Rattle.b67_model.specs.Intrinsics as Intrinsics
 use Rattle.b67_law_order.proofs.Reaches.{Alike}
 use Rattle.b67_law_order.proofs.Looks.{Run, own_order, below_some, running_cells}
@@ -90,9 +90,6 @@ module _ (P : Starts) (h : OperatorContext) (cut : Cut P h) where
 
   pub printrow_good : (arguments : List Word) → Good P h (printrow h arguments)
   printrow_good arguments = grind (arith, answers_none)
-
-  status_low : (n : ℤ) → status_of h.job n < 2 ^ 48
-  status_low n = grind arith
 
   pub status_good : (arguments : List Word) → Good P h (status h arguments)
   status_good arguments = grind (arith, answers_operand)

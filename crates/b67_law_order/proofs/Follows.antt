@@ -4,7 +4,7 @@ use Rattle.std.specs.Prelude.{if◌then◌else◌, nat_le, nat_lt, ok_or}
 use Rattle.b67_word.specs.Couples.{couple}
 use Rattle.b67_word.specs.declared.couples.Couple.{Couple}
 use Rattle.b67_word.specs.declared.faults.Fault.TheVariants.{InvalidAddress, InvalidIndex}
-use Rattle.b67_model.specs.Common.{Answer, Word, Operand, Name, Ref, Row, Element, Original, Proc, Intrinsic, Frame, Array, OperatorContext, no_frame, all_frames, frame, no_array, environment_of, level_of_frame, running, outward, running_level, frame_at, cell_of, cell, named, place_of, End, AtElement, Link, Stops, Leads, element_end, link_at, link_in, link_from, link, chase_on, follow}
+use Rattle.b67_model.specs.Common.{Answer, Word, Operand, Name, Ref, Row, Element, Original, Proc, Intrinsic, Frame, Array, OperatorContext, no_frame, all_frames, frame, no_array, environment_of, level_of_frame, running, outward, running_level, cell_of, cell, named, place_of, End, AtElement, Link, Stops, Leads, element_end, link_in, link_from, link, chase_on, follow}
 use Rattle.b67_model.specs.Keyed.{keyed}
 use Rattle.b67_model.specs.Words as Words
 use Rattle.b67_model.specs.declared.limits.TheConstants.{MOST_LINKS}
@@ -19,9 +19,6 @@ module _ (h k : OperatorContext) (frames : all_frames h ≡ all_frames k) (own :
 
   level_same : running_level h ≡ running_level k
   level_same = ap (λ (fs : List Frame). level_of_frame (running fs)) own
-
-  at_same : (n : ℕ) → frame_at h n ≡ frame_at k n
-  at_same n = outward_same (running_level h - n) (running h.task.frames) ∙ ap (λ (l : ℕ). outward k (l - n) (running h.task.frames)) level_same ∙ ap (λ (fs : List Frame). outward k (running_level k - n) (running fs)) own
 
   named_same : (c : Couple) → named h c ≡ named k c
   named_same c = grind arith
@@ -44,9 +41,6 @@ module _ (h k : OperatorContext) (frames : all_frames h ≡ all_frames k) (own :
   module _ (arrays : h.job.arrays ≡ k.job.arrays) where
     item_same : (a index : ℕ) → element_end h a index ≡ element_end k a index
     item_same a index = grind arith
-
-    at_link_same : (f offset : ℕ) (w : Word) → link_at h f offset w ≡ link_at k f offset w
-    at_link_same f offset w = grind arith
 
     in_same : (f offset : ℕ) (a : Answer Word) → link_in h f offset a ≡ link_in k f offset a
     in_same f offset a = grind arith

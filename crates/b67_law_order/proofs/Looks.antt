@@ -6,7 +6,7 @@ use Rattle.b67_model.specs.Keyed.{keyed}
 use Rattle.b67_lemmas.specs.Lists.{Has, how_many}
 use Rattle.b67_lemmas.proofs.Members.{all_in, falls_above, has_append_cases, has_append_left, has_append_right, has_flat, has_map, has_map_back, keyed_has, keyed_left, keyed_once, keyed_right, none_pass, total_flat, total_zero}
 use Rattle.b67_model.specs.Words as Words
-use Rattle.b67_model.specs.Common.{Word, Operand, Name, Ref, Row, Element, Original, Proc, Intrinsic, Frame, Standing, Marked, Entered, Array, Ready, Task, JobConstants, Job, OperatorContext, mcp, no_frame, all_frames, frame, with_top_cells, top, below_top, level_of_standing, level_of_frame, environment_of, running_from, running, Starts, Known, known_of, from_frame, base, outer_reach, outer_of, reach_of, known_numbers, IsEntered, NamesEntered, NamesArray, OwnsArray, WordInOrder, StandsInOrder, CellsInOrder, FramesInOrder, ParentInOrder, BirthInOrder, TaskInOrder, EntryInOrder, frames_named, SettingInOrder, TasksInOrder, StackInOrder, ReturnsInOrder}
+use Rattle.b67_model.specs.Common.{Word, Operand, Name, Ref, Row, Element, Original, Proc, Intrinsic, Frame, Standing, Marked, Entered, Array, Ready, Task, JobConstants, Job, OperatorContext, mcp, no_frame, all_frames, frame, with_top_cells, top, below_top, level_of_standing, level_of_frame, environment_of, running_from, running, Starts, Known, known_of, from_frame, base, outer_reach, outer_of, reach_of, known_numbers, IsEntered, NamesEntered, NamesArray, OwnsArray, WordInOrder, StandsInOrder, CellsInOrder, FramesInOrder, ParentInOrder, BirthInOrder, TaskInOrder, frames_named, SettingInOrder, TasksInOrder, StackInOrder, ReturnsInOrder}
 use Rattle.b67_model.specs.Environment as Environment
 use Rattle.b67_law_order.proofs.Reaches.{Wider, words_wider, stands_wider, known_number}
 use Rattle.b67_law_order.proofs.Replaced.{numbers_append, birth_same}
@@ -115,12 +115,6 @@ SeenWord P arrays reach owner (Words.Segment number) = Unit {0}
 
 word_seen : (P : Starts) (arrays : List Array) (reach : List Known) (owner : ℕ) (w : Word) → 1 < owner → WordInOrder P arrays reach owner w → SeenWord P arrays reach owner w
 word_seen P arrays h owner w high g = grind arith
-
-entry_seen : (P : Starts) (arrays : List Array) (reach : List Known) (w : Word) → EntryInOrder arrays w → SeenWord P arrays reach 1 w
-entry_seen P arrays h w g = grind arith
-
-mcp_seen : (P : Starts) (arrays : List Array) (reach : List Known) (w : Word) → Has mcp.cells w → SeenWord P arrays reach 0 w
-mcp_seen P arrays reach w h = all_in (SeenWord P arrays reach 0) mcp.cells w (tt, (tt, (tt, (tt, (tt, (tt, (tt, (tt, (tt, (tt, (tt, tt))))))))))) h
 
 -- a frame of a list in order: its words and its environment by the whole list
 line_words : (P : Starts) (arrays : List Array) (outer : List Known) (fs : List Frame) (f : Frame) → FramesInOrder P arrays outer fs → Has fs f →

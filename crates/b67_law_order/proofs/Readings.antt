@@ -1,12 +1,11 @@
 -- What is read of code: the operators' parameters have their bits, and places fit.
 use Rattle.std.proofs.Common.{ℕ, ◌+◌, ◌-◌, ◌*◌, ◌/◌, ◌%◌, ◌^◌, ◌<◌, eqb, ltb, leb, List, [], ◌∷◌, length, Option, Some, None, Ok, Err, inl, inr, arith, ◌&&◌}
-use Rattle.std.specs.List.{AllByRecursion, slice_index}
+use Rattle.std.specs.List.{AllByRecursion}
 use Rattle.std.proofs.lemmas.Bool.{cases_Bool, leb-true, ltb-true}
-use Rattle.std.proofs.Math.Nat.{mod-lt}
 use Rattle.b67_word.specs.declared.couples.Place.{Place}
 use Rattle.b67_model.specs.declared.operators.Op.{Op}
 use Rattle.b67_model.specs.declared.operators.Op.TheVariants.{Valc, Namc, Lt8, Lt16, Lt48, Brun, Brtr, Brfl, Plain}
-use Rattle.b67_model.specs.Operators.{Form, Alone, OneMore, TwoMore, Literal, operators, form_in, form_of, syllable, count_at, Reading, ends_at, reads, operator_at}
+use Rattle.b67_model.specs.Operators.{Form, Alone, OneMore, TwoMore, Literal, operators, form_in, form_of, syllable, count_at, Reading, reads, operator_at}
 use Rattle.b67_law_order.proofs.RowSteps.{number_low}
 
 -- a place that fits the fields of a control word
@@ -55,12 +54,6 @@ form_fits first = elim (cases_Bool (ltb first 64)) [
 abbrev pub ReadFits : Reading → Type 0
 ReadFits (Ok read) = OpBits read.0 × PlaceFits read.1
 ReadFits (Err why) = Unit {0}
-
-syllable_low : (code : List ℕ) (n : ℕ) → syllable code n < 256
-syllable_low code n = mod-lt (slice_index code (n / 6) / 256 ^ (5 - n % 6)) (omega arith)
-
-ends_fit : (code : List ℕ) (end : ℕ) (op : Op) → length code < 2 ^ 13 → OpBits op → ReadFits (ends_at code end op)
-ends_fit code end op short bits = grind arith
 
 reads_fit : (code : List ℕ) (n : ℕ) (form : Option Form) → length code < 2 ^ 13 → AllByRecursion (λ (w : ℕ). w < 2 ^ 48) code → SomeFits form → ReadFits (reads code n form)
 reads_fit code n form short words fits = grind (arith, number_low)

@@ -2,7 +2,7 @@
 use Rattle.std.proofs.Common.{◌≡◌, ◌≢◌, ℕ, Bool, true, false, not, eqb, List, [], ◌∷◌, ◌++◌, map, Option, Some, None, Ok, refl, sym, ap, ◌∙◌, subst, inl, inr, arith}
 use Rattle.std.proofs.lemmas.Bool.Decides.{eqb_tells}
 use Rattle.std.proofs.lemmas.Bool.{true≢false}
-use Rattle.b67_model.specs.Common.{Answer, Word, Operand, Name, Ref, Row, Element, Original, Proc, Intrinsic, Frame, Standing, Marked, Entered, Return, Array, Task, Job, OperatorContext, with_task, level_of_frame, running, array, element, owner_of, End, AtCell, AtElement, AtArray, AtProc, AtIntrinsic, follow, Line, Done, Goes, Leaves, Waits, top_of, cells_of, result, with_cells, is_critical, accident, evaluates, left, leaves, exit, returnable, returned, retn_word, retn, Starts, Known, known_of, IsEntered, NamesEntered, NamesArray, ReturnsInOrder, is_original_of, TasksInOrder}
+use Rattle.b67_model.specs.Common.{Answer, Word, Operand, Name, Ref, Row, Element, Original, Proc, Intrinsic, Frame, Standing, Marked, Entered, Return, Array, Task, Job, OperatorContext, with_task, array, element, owner_of, End, AtCell, AtElement, AtArray, AtProc, AtIntrinsic, follow, Line, Done, Goes, Leaves, Waits, top_of, cells_of, result, with_cells, is_critical, evaluates, left, leaves, exit, returnable, returned, retn_word, retn, Starts, Known, known_of, IsEntered, NamesEntered, NamesArray, is_original_of, TasksInOrder}
 use Rattle.b67_lemmas.specs.Lists.{Has}
 use Rattle.b67_lemmas.proofs.Members.{change_twice, has_filter_in}
 use Rattle.b67_model.specs.Words as Words
@@ -23,9 +23,6 @@ NoWait (Waits condition) = ⊥
 
 result_no_wait : (k : OperatorContext) (job : Job) (task : Task) (printed : List Line) (touched : Option ℕ) → Post NoWait (result k job task printed touched)
 result_no_wait k job task printed touched = post_then NoWait _ _ (post_ok NoWait _ tt)
-
-accident_no_wait : (k : OperatorContext) (cells : List Word) (back : Return) (end : End) → Post NoWait (accident k cells back end)
-accident_no_wait k cells back end = grind arith
 
 evaluates_no_wait : (k : OperatorContext) (end : End) → Post NoWait (evaluates k end)
 evaluates_no_wait k end = grind arith
@@ -52,9 +49,6 @@ keeps_from P h k done same g = grind arith
 returned_before : (P : Starts) (h k : OperatorContext) (w : Word) (value : Bool) → k.constants ≡ h.constants → Run P k → Moves P k w → Good P h (returned k w value)
 returned_before P h k w value same run m = post_more (λ d. Keeps P k d × NoWait d) (Keeps P h) (returned k w value) (λ d g. keeps_from P h k d same g)
     (post_both (Keeps P k) NoWait (returned k w value) (returned_good P k w value run m) (returned_no_wait k w value))
-
-returns_some : (P : Starts) (s : Standing) (fs : List Frame) (level environment : ℕ) (back : Return) → ReturnsInOrder P s fs → s ≡ Entered level environment (Some back) → (fs ≢ []) × P back.segment (level_of_frame (running fs)) back.place
-returns_some P s fs level environment back g e = subst (λ t. ReturnsInOrder P t fs) e g
 
 module _ (P : Starts) (h : OperatorContext) (run : Run P h) where
   pub leaves_good : (standing : Standing) → (top_of h).standing ≡ standing → (go : OperatorContext → Bool → Answer Done) → ((back : Return) → Left P h back → Good P h (go (left h back) back.value)) → Good P h (leaves h standing go)

@@ -33,9 +33,6 @@ few_tasks : (P : JobConstants → Starts) (jobs : List SessionJob) → AllByRecu
 few_tasks P [] a = tt
 few_tasks P (m ∷ jobs) a = (a.0.tasks.few, few_tasks P jobs a.1)
 
-turn_good : (s : Session) (turn : ℕ) → s.turn ≤ s.made → (turn ≡ 0) ⊎ (turn ≡ s.turn) → turn + 1 ≤ s.made + 1
-turn_good s turn le h = grind arith
-
 session_good : (P : JobConstants → Starts) (s : Session) (c : Choice) (m : SessionJob) (made : JobMoment) → SessionInOrder P s → keyed number_of c.who.job s.jobs ≡ Some m →
     (c.turn ≡ 0) ⊎ (c.turn ≡ s.turn) → Made (P m.constants) m.constants m.progress made → SessionInOrder P (with_moment s c m made)
 session_good P s c m made o found turn good =

@@ -1,12 +1,12 @@
 -- What any code words keep.
-use Rattle.std.proofs.Common.{◌≡◌, ℕ, ◌+◌, ◌-◌, ◌/◌, ◌%◌, ◌^◌, ◌<◌, true, eqb, ltb, ◌&&◌, length, Option, Some, None, Ok, refl, subst, arith}
+use Rattle.std.proofs.Common.{◌≡◌, ℕ, ◌+◌, ◌-◌, ◌/◌, ◌%◌, ◌^◌, ◌<◌, eqb, ltb, ◌&&◌, length, Option, Some, None, Ok, refl, subst, arith}
 use Rattle.std.specs.List.{AllByRecursion, slice_get}
 use Rattle.std.proofs.lemmas.Bool.{ltb-true, and_parts}
 use Rattle.b67_model.specs.declared.operators.Op.{Op}
 use Rattle.b67_model.specs.declared.operators.Op.TheVariants.{Valc, Namc, Lt8, Lt16, Lt48, Mpcw, Brun, Brtr, Brfl, Bset, Brst, Isol, Insr, Plain}
 use Rattle.b67_model.specs.State as State
-use Rattle.b67_model.specs.Common.{Task, JobConstants, OperatorContext, code_of, reading_of, is_proc, proc_of, IsSegment, SegmentInOrder, SettingInOrder, TaskInOrder}
-use Rattle.b67_law_order.specs.Parameters.{StartsAt, ParametersFit}
+use Rattle.b67_model.specs.Common.{Task, JobConstants, OperatorContext, code_of, reading_of, IsSegment, SegmentInOrder, SettingInOrder, TaskInOrder}
+use Rattle.b67_law_order.specs.Parameters.{ParametersFit}
 use Rattle.b67_law_order.specs.Laws.{RowsKeepOrderButPlaces}
 use Rattle.b67_law_order.proofs.Readings.{OpBits, ReadFits, operator_fits}
 use Rattle.b67_law_order.proofs.Kept.{here}
@@ -22,10 +22,6 @@ code_fits constants segment g = by (slice_get constants.segments (segment - 1)) 
 
 pub reading_fits : (constants : JobConstants) (task : Task) → SettingInOrder constants → ReadFits (reading_of constants task)
 reading_fits constants task g = let code = code_fits constants task.segment g in operator_fits (code_of constants task.segment) task.place code.0 code.1
-
--- a literal's fields
-pub proc_fits : (h : OperatorContext) (bits : ℕ) → is_proc h bits ≡ true → StartsAt (IsSegment h.constants) (proc_of bits)
-proc_fits h bits test = grind arith
 
 pub parameters_fit : (h : OperatorContext) (level : ℕ) (op : Op) → IsSegment h.constants h.task.segment level h.at → OpBits op → ParametersFit (IsSegment h.constants) h op
 parameters_fit h level op at bits = grind arith

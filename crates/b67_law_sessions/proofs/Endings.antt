@@ -4,7 +4,7 @@ use Rattle.std.specs.List.{list_all}
 use Rattle.b67_word.specs.declared.faults.Fault.{Fault}
 use Rattle.b67_word.specs.declared.faults.Fault.TheVariants.{InvalidOperator}
 use Rattle.b67_word.specs.declared.faults.Ending.{Ending}
-use Rattle.b67_word.specs.declared.faults.Ending.TheVariants.{Ended, Parent, Deadlock, Limit, Faulted}
+use Rattle.b67_word.specs.declared.faults.Ending.TheVariants.{Ended, Parent, Deadlock, Faulted}
 use Rattle.b67_model.specs.Common.{Answer, Task, JobConstants, Job, JobProgress, Done, Goes, Leaves, Waits, step, Settled, is_ready, all_with, ends_task, ends_each_if, settles, stepped, step_of, deepest_first, descendants}
 use Rattle.b67_model.specs.Keyed.{keyed}
 use Rattle.b67_lemmas.specs.Lists.{Has}
@@ -18,9 +18,6 @@ parent_ne e = cc
 
 deadlock_ne : Deadlock ≢ Faulted InvalidOperator
 deadlock_ne e = cc
-
-limit_ne : Limit ≢ Faulted InvalidOperator
-limit_ne e = cc
 
 none_with : (ending : Ending) (numbers : List ℕ) (x : ℕ) → ending ≢ Faulted InvalidOperator → FaultIn (all_with ending numbers) x → ⊥
 none_with ending numbers x ne h = grind (arith, has_map_back)

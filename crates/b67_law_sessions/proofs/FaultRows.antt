@@ -1,14 +1,13 @@
 -- No row but NVLD's faults INVALID OPERATOR, and MPCW's at a literal that the loader refuses.
 use Rattle.std.proofs.Common.{◌≡◌, ◌≢◌, ℕ, zero, suc, ℤ, ◌+ℤ◌, ◌*ℤ◌, neg_ℤ, Bool, true, false, cond, List, [], ◌∷◌, length, Option, None, Ok, Err, refl, inl, arith}
 use Rattle.std.specs.Prelude.{int_div, int_rem}
-use Rattle.std.specs.Option.{ok_or}
 use Rattle.b67_word.specs.declared.couples.Place.{Place}
 use Rattle.b67_word.specs.declared.faults.Fault.{Fault}
 use Rattle.b67_word.specs.declared.faults.Fault.TheVariants.{InvalidOperator, InvalidOperand, InvalidAddress, InvalidIndex, Loop, Exponent, IntegerOverflow, DivideByZero, MemoryProtect, MarkPending, Uplevel, CriticalBlock, StackUnderflow, StackOverflow}
 use Rattle.b67_model.specs.declared.operators.Op.TheVariants.{Valc, Namc, Lt8, Lt16, Lt48, Mpcw, Brun, Brtr, Brfl, Bset, Brst, Isol, Insr, Plain}
 use Rattle.b67_model.specs.declared.operators.Code.{Code}
 use Rattle.b67_model.specs.declared.operators.Code.TheVariants as codes
-use Rattle.b67_model.specs.Common.{Answer, ◌>>=◌, ◌>>◌, needs, Word, Operand, Name, Ref, Row, Element, operand, number, to_operand, Standing, Marked, Entered, Return, Task, Job, OperatorContext, place_of, End, AtCell, AtElement, AtArray, AtProc, AtIntrinsic, Link, Stops, Leads, element_end, link_at, link_in, link_from, link, chase_on, chase, follow, follow_reference, array, array_at, array_of, index_below, indexed, Binary, on_numbers, compared, divided, add, subt, mult, idiv, rdiv, less, greq, grtr, lseq, equl, neql, land, lor, leqv, same, chsn, lnot, bset, brst, isol, insr, Line, Done, top_of, cells_of, result, with_cells, leaves_cells, pushes, accident, evaluates, enters, leaves, exit, returnable, returned, retn_word, answers, array_length, arraydec, print, row_copy, numbers_of, printrow, read, starts, process, awaits, await, status, waits_at, wait, causes, cause, deallocate, resize, intrinsic, CellRow, on_one, on_two, movable, dlet, exch, dupl, on_cells, branches, branch_if, valc, stff_word, stff, load_at, load, indx, nxlv, store_at, store, entr_at, entr_with, entr, plain}
+use Rattle.b67_model.specs.Common.{Answer, ◌>>=◌, ◌>>◌, needs, Word, Operand, Name, Ref, Row, Element, operand, number, to_operand, Standing, Marked, Entered, Task, Job, OperatorContext, place_of, End, AtCell, AtElement, AtArray, AtProc, AtIntrinsic, Link, Stops, Leads, element_end, link_from, link, chase_on, chase, follow, follow_reference, array, array_at, array_of, index_below, indexed, Binary, on_numbers, compared, divided, add, subt, mult, idiv, rdiv, less, greq, grtr, lseq, equl, neql, land, lor, leqv, same, chsn, lnot, bset, brst, isol, insr, Line, Done, top_of, cells_of, result, with_cells, leaves_cells, pushes, evaluates, enters, leaves, exit, returnable, returned, retn_word, answers, array_length, arraydec, print, row_copy, numbers_of, printrow, read, starts, process, awaits, await, status, waits_at, wait, causes, cause, deallocate, resize, intrinsic, CellRow, on_one, on_two, dlet, exch, dupl, on_cells, branches, branch_if, valc, stff, load_at, load, indx, nxlv, store_at, store, entr_at, entr_with, entr, plain}
 use Rattle.b67_model.specs.Words as Words
 use Rattle.b67_model.specs.Words.{whole}
 use Rattle.b67_law_sessions.specs.Faults.{InvalidOperatorIsNvld}
@@ -105,9 +104,6 @@ one_o f each cells = grind arith
 two_o : (f : Binary) → ((x y : ℕ) → Other (f x y)) → (cells : List Word) → Other (on_two f cells)
 two_o f each cells = grind arith
 
-movable_o : (w : Word) → Other (movable w)
-movable_o w = search other
-
 dlet_o : (cells : List Word) → Other (dlet cells)
 dlet_o cells = grind arith
 
@@ -116,9 +112,6 @@ exch_o cells = grind arith
 
 dupl_o : (cells : List Word) → Other (dupl cells)
 dupl_o cells = grind arith
-
-some_o : {A : Type 0} (o : Option A) → Other (ok_or o InvalidAddress)
-some_o o = grind arith
 
 place_o : (h : OperatorContext) (w : Word) → Other (place_of h w)
 place_o h w = grind arith
@@ -129,12 +122,6 @@ LinkOther (Leads w) = Unit {0}
 
 element_o : (h : OperatorContext) (a index : ℕ) → Other (element_end h a index)
 element_o h a index = o_if _ _ _ (o_ok _) (o_err _ index_ne)
-
-at_o : (h : OperatorContext) (f offset : ℕ) (w : Word) → LinkOther (link_at h f offset w)
-at_o h f offset w = grind arith
-
-in_o : (h : OperatorContext) (f offset : ℕ) (a : Answer Word) → Other a → LinkOther (link_in h f offset a)
-in_o h f offset a g = grind arith
 
 from_o : (h : OperatorContext) (a : Answer (ℕ × ℕ)) → Other a → LinkOther (link_from h a)
 from_o h a g = grind arith
@@ -181,9 +168,6 @@ on_cells_o f h g = o_bind (f (cells_of h)) _ g (λ cells. result_o h h.job (with
 
 ruleset steps = (other, result_o, on_cells_o, chase_o, follow_o, reference_o, operand_o, number_o, whole_o, indexed_o)
 
-accident_o : (h : OperatorContext) (cells : List Word) (back : Return) (end : End) → Other (accident h cells back end)
-accident_o h cells back end = grind arith
-
 evaluates_o : (h : OperatorContext) (end : End) → Other (evaluates h end)
 evaluates_o h end = grind arith
 
@@ -211,9 +195,6 @@ exit_o h = leaves_o h (top_of h).standing _ (λ k value. result_o k k.job k.task
 
 branch_o : (wanted : Bool) (h : OperatorContext) (cells : List Word) (target : Place) → Other (branch_if wanted h cells target)
 branch_o wanted h cells target = grind arith
-
-stff_word_o : (h : OperatorContext) (w : Word) → Other (stff_word h w)
-stff_word_o h w = grind arith
 
 stff_o : (h : OperatorContext) (cells : List Word) → Other (stff h cells)
 stff_o h cells = grind arith

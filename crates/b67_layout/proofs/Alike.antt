@@ -93,9 +93,6 @@ module _ (m n : SessionJob) (e : Alike m n) where
   unfolding here_m here_n
   frames_alike t = grind arith
 
-  spots_alike : (plan : Placement) (t : Task) (id : ℕ) → spots plan n.constants.number n.progress.job t id ≡ spots plan m.constants.number m.progress.job t id
-  spots_alike plan t id = grind arith
-
   pub shows_alike : (display : List ℕ) (plan : Placement) (t : Task) → ShowsDisplay display plan m t → ShowsDisplay display plan n t
   unfolding here_m here_n
   shows_alike display plan t h i up = grind arith

@@ -17,7 +17,7 @@ use Rattle.b67_ctl.specs.declared.registers.Regs.{Regs}
 use Rattle.b67_lemmas.specs.Lists.{Has}
 use Rattle.b67_model.specs.Common.{Entered, Ready, Task, Job, SessionJob, frame_at, Program, opened, number_of, Session, IsSegment, SettingInOrder, TaskInOrder, TasksInOrder, frames_in_job}
 use Rattle.b67_stack.specs.declared.Cpu.{Cpu}
-use Rattle.b67_stack.specs.Common.{Location, nowhere, Fits, LieDownward, stack_words, words, PagedObject, object_words, MachineView, stack_of, IsLaidOut, SlotFits, slot_base, CopiesName, Storage, RepresentsSlots, RepresentsSlot, StacksLie, RepresentsObjects, RepresentsObject, Owned, Represents, HoldsIn, info_of}
+use Rattle.b67_stack.specs.Common.{Location, nowhere, Fits, LieDownward, stack_words, words, PagedObject, object_words, MachineView, stack_of, IsLaidOut, SlotFits, slot_base, Storage, RepresentsSlots, RepresentsSlot, StacksLie, RepresentsObjects, RepresentsObject, Owned, Represents, HoldsIn, info_of}
 use Rattle.b67_lemmas.proofs.Members.{keyed_has}
 use Rattle.b67_layout.specs.Common.{Placement, Slotted, slot_of, machine_view, PlanFits, RowsFit, IsRunning, RepresentsDictionary, RepresentsVector, RepresentsCritical, RepresentsTask, vector_word, critical_mark, frame_address, ShowsDisplay, SessionHolds, RepresentsSession, IsInOrderButCounts}
 use Rattle.b67_layout.specs.Families.{RunsChild}
@@ -148,9 +148,6 @@ both x y P h k z e = grind arith
 
 two_slots : (P : ℕ → Type 0) → P 0 → P 1 → (k : ℕ) → k < 2 → P k
 two_slots P h g k small = grind arith
-
-no_copies : (k : ℕ) → k < 2 → CopiesName p.objects (words k (stack_of (p.slots k)))
-no_copies = grind arith
 
 laid : IsLaidOut 291 p
 laid = grind arith

@@ -1,13 +1,13 @@
 -- A step of one task on top of its stack changes the view in that task's slot alone.
-use Rattle.std.proofs.Common.{◌≡◌, ◌≢◌, ℕ, List, [], ◌∷◌, ◌++◌, map, Option, Some, None, refl, sym, ◌∙◌, ap, Bool, true, false, cond, ◌==◌, ⊎_elim, arith}
+use Rattle.std.proofs.Common.{◌≡◌, ◌≢◌, ℕ, List, [], ◌∷◌, ◌++◌, Option, Some, None, refl, sym, ◌∙◌, ap, Bool, true, false, cond, ◌==◌, ⊎_elim, arith}
 use Rattle.std.specs.Prelude.{if◌then◌else◌, flat_map}
 use Rattle.std.proofs.lemmas.Option.{same_Some}
 use Rattle.std.proofs.lemmas.Bool.{cases_eq, cases_Bool, eq-eqb, ne_eqb, eqb-true}
-use Rattle.b67_model.specs.Common.{Array, Task, JobProgress, SessionJob, number_of}
+use Rattle.b67_model.specs.Common.{Task, JobProgress, SessionJob, number_of}
 use Rattle.b67_model.specs.Keyed.{keyed, change_keyed}
 use Rattle.b67_stack.specs.Common.{StackPlace, Activation, PagedObject, Slot, Running, Waiting, MachineView, with_stack}
 use Rattle.b67_stack.proofs.Slots.{slot-same, slot-other}
-use Rattle.b67_layout.specs.Common.{Slotted, Placement, outer_spots, activations, stack_of_task, slot_with, slot_in, slot_by, slot_at, objects_of, array_object, code_objects, machine_view}
+use Rattle.b67_layout.specs.Common.{Slotted, Placement, outer_spots, activations, stack_of_task, slot_with, slot_in, slot_by, slot_at, objects_of, machine_view}
 use Rattle.b67_layout.proofs.Others.{OnTop, task-same, task-other, slot_with-after, outer_spots-after, activations-job}
 use Rattle.b67_lemmas.proofs.Members.{keyed_has}
 
@@ -22,10 +22,6 @@ member-same (x ∷ xs) j c m e = grind (arith, member-same xs j c m)
 pub member-other : (jobs : List SessionJob) (j : ℕ) (c : JobProgress) (i : ℕ) → i ≢ j → keyed number_of i (with_course jobs j c) ≡ keyed number_of i jobs
 member-other [] j c i ne = refl
 member-other (x ∷ xs) j c i ne = grind (arith, member-other xs j c i ne)
-
--- the objects are the same where the arrays are
-objects-of : (plan : Placement) (m : SessionJob) (c : JobProgress) → c.job.arrays ≡ m.progress.job.arrays → objects_of plan (record m { progress = c }) ≡ objects_of plan m
-objects-of plan m c e = ap (λ (xs : List Array). code_objects plan m.constants.number 1 m.constants.segments ++ map (array_object plan m.constants.number) xs) e
 
 pub objects-after : (plan : Placement) (jobs : List SessionJob) (j : ℕ) (c : JobProgress) (m : SessionJob) → keyed number_of j jobs ≡ Some m → c.job.arrays ≡ m.progress.job.arrays → flat_map (objects_of plan) (with_course jobs j c) ≡ flat_map (objects_of plan) jobs
 objects-after plan [] j c m e same = refl

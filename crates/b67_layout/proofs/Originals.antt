@@ -32,9 +32,6 @@ lies_over R core from [] ys c l h = absurd h
 lies_over R core from (a ∷ more) ys c l (inl e) = grind (arith, length-append)
 lies_over R core from (a ∷ more) ys c l (inr h) = grind (arith, lies_over R core from more ys c l.1 h)
 
-pub has_headed : (k : ℕ) (h : Head) (below : List Activation) (under : List Shape) (z : Shape) → Has under z → Has (headed k h below under) z
-has_headed k h below under z o = grind arith
-
 -- the shape of an original is among the words of its stack
 pub original_word : (plan : Placement) (j : ℕ) (job : Job) (k : ℕ) (outer : ℕ → StackPlace) (fs : List Frame) (g : Frame) (a : ℕ) → Has fs g → Has g.cells (Original a) → Has (words k (activations plan j job k outer fs)) (Shapes.Original (plan.home j a))
 original_word plan j job k outer [] g a h w = absurd h

@@ -1,11 +1,11 @@
 -- What other tasks see of a task that changed on top of a frame that none of them depends on.
 use Rattle.std.proofs.Common.{◌≡◌, ◌≢◌, ℕ, List, [], ◌∷◌, map, Option, Some, None, refl, sym, ◌∙◌, ap, cond, ◌==◌, ⊎_elim, arith}
 use Rattle.std.specs.Prelude.{if◌then◌else◌}
-use Rattle.std.proofs.lemmas.Bool.{cases_eq, cases_Bool, ne_eqb}
+use Rattle.std.proofs.lemmas.Bool.{cases_eq, ne_eqb}
 use Rattle.b67_lemmas.specs.Lists.{Has}
 use Rattle.b67_lemmas.proofs.Members.{change_found, change_other, keyed_has}
 use Rattle.b67_model.specs.Words as Words
-use Rattle.b67_model.specs.Common.{Word, Operand, Name, Ref, Row, Element, Original, Proc, Intrinsic, Frame, Array, Task, Job, height, from_frame, frames_of_task, critical_of}
+use Rattle.b67_model.specs.Common.{Operand, Name, Ref, Row, Element, Original, Proc, Intrinsic, Frame, Array, Task, Job, height, from_frame, frames_of_task, critical_of}
 use Rattle.b67_model.specs.Keyed.{keyed, change_keyed}
 use Rattle.b67_stack.specs.Common.{Shape, StackPlace, Activation, Slot, Running, Waiting}
 use Rattle.b67_layout.specs.Common.{Placement, slot_of, spot_in, outer_spots, shape, head, activations, slot_with}
@@ -64,8 +64,6 @@ module _ (plan : Placement) (j : ℕ) (job job' : Job) (t t' : Task) (n : ℕ) (
 
 -- a shape reads nothing of a job but its arrays
 module _ (plan : Placement) (j : ℕ) (job job' : Job) (e : job'.arrays ≡ job.arrays) where
-  pub shape-job : (spot : ℕ → StackPlace) (w : Word) → shape plan j job' spot w ≡ shape plan j job spot w
-  shape-job spot w = grind arith
 
   pub activations-job : (k : ℕ) (outer : ℕ → StackPlace) (fs : List Frame) → activations plan j job' k outer fs ≡ activations plan j job k outer fs
   activations-job k outer [] = refl
@@ -76,10 +74,6 @@ pub slot_with-after : (plan : Placement) (j : ℕ) (job job' : Job) (t t' : Task
 slot_with-after plan j job job' t t' n top k u ne =
     let outer : outer_spots plan j job' u.critical u.parents ≡ outer_spots plan j job u.critical u.parents = λ i id. outer_spots-after plan j job job' t t' n top u.parents u.critical ne id i in
     grind (arith, activations-job)
-
--- other cells on the top frame, and a mark on it, are seen by no other task
-pub seen-cells : (f : Frame) (below : List Frame) (cells : List Word) (c s : ℕ) (outer : ℕ → StackPlace) (id : ℕ) → spot_in s outer (from_frame c (record f { cells = cells } ∷ below)) id ≡ spot_in s outer (from_frame c (f ∷ below)) id
-seen-cells f below cells c s outer id = ⊎_elim (λ e. rw e refl) (λ e. rw e refl) (cases_Bool (f.identity == c))
 
 pub seen-mark : (f : Frame) (fs : List Frame) (c s : ℕ) (outer : ℕ → StackPlace) (id : ℕ) → c ≢ f.identity → spot_in s outer (from_frame c (f ∷ fs)) id ≡ spot_in s outer (from_frame c fs) id
 seen-mark f fs c s outer id ne = rw (ne_eqb f.identity c (λ e. ne (sym e))) refl

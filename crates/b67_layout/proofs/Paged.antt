@@ -26,9 +26,6 @@ mark_bits = 2 ^ 47 + 2 ^ 46 + 136 * 2 ^ 36 + 1 * 2 ^ 14
 too_high : (p : Bool) (n a : ℕ) → n < 2 ^ 16 → a < 2 ^ 20 → flag_bit p * 2 ^ 47 + n * 2 ^ 20 + a ≡ mark_bits → ⊥
 too_high p n a hn ha e = grind arith
 
-not_mark : (k : Kind) (n : ℕ) (h : Location) → n < 2 ^ 16 → address_or h.area h.chain < 2 ^ 20 → home_word_of k n h ≡ word 3 mark_bits → ⊥
-not_mark k n h small fits e = grind arith
-
 not_operand : (k : Kind) (n b : ℕ) (h : Location) → home_word_of k n h ≡ word 0 b → ⊥
 not_operand k n b h e = grind arith
 

@@ -6,7 +6,7 @@ use Rattle.b67_word.specs.declared.couples.Place.{Place}
 use Rattle.b67_ctl.specs.declared.registers.Regs.{Regs}
 use Rattle.b67_ctl.specs.Layout.{mscw_word, rcw_word}
 use Rattle.b67_core.proofs.Writes.{slice_get-set_other}
-use Rattle.b67_model.specs.Common.{Word, Frame, Return, Condition, Ready, Task, Job, SessionJob, top, below_top, with_task, from_frame, Session, number_of}
+use Rattle.b67_model.specs.Common.{Word, Frame, Return, Condition, Ready, Task, Job, SessionJob, top, below_top, with_task, Session, number_of}
 use Rattle.b67_model.specs.State as State
 use Rattle.b67_stack.specs.Common.{Shape, Original, StackPlace, Marked, Entered, Activation, HeadFits, mark_of, return_of, RunsOn, Storage, RepresentsRunning, Represents, with_stack}
 use Rattle.b67_stack.proofs.Slots.{running_slot}
@@ -21,10 +21,6 @@ use Rattle.b67_lemmas.proofs.Members.{keyed_has}
 abbrev pub entered_frames : List Frame → ℕ → ℕ → Return → List Word → List Frame
 entered_frames fs level environment back cells =
     record (top fs) { standing = State.Entered level environment (Some back); cells = cells } ∷ below_top fs
-
--- nobody sees other frames where a frame is entered
-pub seen_entered : (fs : List Frame) (level environment : ℕ) (back : Return) (cells : List Word) (c s : ℕ) (outer : ℕ → StackPlace) (id : ℕ) → fs ≢ [] → spot_in s outer (from_frame c (entered_frames fs level environment back cells)) id ≡ spot_in s outer (from_frame c fs) id
-seen_entered fs level environment back cells c s h id some = grind arith
 
 critical_entered : (job : Job) (fs : List Frame) (level environment : ℕ) (back : Return) (cells : List Word) → fs ≢ [] → critical_mark job (entered_frames fs level environment back cells) ≡ critical_mark job fs
 critical_entered job fs level environment back cells some = grind arith

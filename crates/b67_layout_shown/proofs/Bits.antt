@@ -1,12 +1,11 @@
 -- The fields of control words.
 use Rattle.std.proofs.Common.{◌≡◌, ℕ, ◌+◌, ◌*◌, ◌/◌, ◌%◌, ◌^◌, ◌<◌, ◌≤◌, ◌==◌, Bool, arith, refl}
 use Rattle.b67_word.specs.Tagged.{word, bits_at}
-use Rattle.b67_ctl.specs.Layout.{flag_bit, mscw_word, rcw_word}
+use Rattle.b67_ctl.specs.Layout.{flag_bit, mscw_word}
 use Rattle.b67_ctl.specs.Descriptors.{data_word}
 use Rattle.b67_ctl.specs.declared.descriptors.DataDesc.{DataDesc}
 use Rattle.b67_ctl.specs.declared.marks.Mscw.{Mscw}
-use Rattle.b67_ctl.specs.declared.marks.Rcw.{Rcw}
-use Rattle.b67_layout_shown.specs.Reading.{is_set, mscw_in, rcw_in, desc_in}
+use Rattle.b67_layout_shown.specs.Reading.{is_set, mscw_in, desc_in}
 
 pub flag : (b : Bool) (n : ℕ) → n ≡ flag_bit b → (n == 1) ≡ b
 flag b n e = grind arith
@@ -56,21 +55,6 @@ mscw_read m ch dh lh kh =
     ) refl
 
 module _ (s w l g : ℕ) (sh : s < 2 ^ 3) (wh : w < 2 ^ 13) (lh : l < 2 ^ 5) (gh : g < 2 ^ 14) where
-  rcw_33 : (s * 2 ^ 33 + w * 2 ^ 20 + l * 2 ^ 14 + g) / 2 ^ 33 % 2 ^ 3 ≡ s
-  rcw_33 = omega arith
-
-  rcw_20 : (s * 2 ^ 33 + w * 2 ^ 20 + l * 2 ^ 14 + g) / 2 ^ 20 % 2 ^ 13 ≡ w
-  rcw_20 = omega arith
-
-  rcw_14 : (s * 2 ^ 33 + w * 2 ^ 20 + l * 2 ^ 14 + g) / 2 ^ 14 % 2 ^ 5 ≡ l
-  rcw_14 = omega arith
-
-  rcw_0 : (s * 2 ^ 33 + w * 2 ^ 20 + l * 2 ^ 14 + g) / 2 ^ 0 % 2 ^ 14 ≡ g
-  rcw_0 = omega arith
-
--- a return word is read
-pub rcw_read : (r : Rcw) → r.place.syllable < 2 ^ 3 → r.place.word < 2 ^ 13 → r.level < 2 ^ 5 → r.segment < 2 ^ 14 → rcw_in (rcw_word r) ≡ r
-rcw_read r sh wh lh gh = grind arith
 
 module _ (a b c d l k : ℕ) (ah : a ≤ 1) (bh : b ≤ 1) (ch : c ≤ 1) (dh : d ≤ 1) (lh : l < 2 ^ 20) (kh : k < 2 ^ 20) where
   desc_47 : (a * 2 ^ 47 + b * 2 ^ 46 + c * 2 ^ 45 + d * 2 ^ 43 + l * 2 ^ 20 + k) / 2 ^ 47 % 2 ^ 1 ≡ a
@@ -134,10 +118,6 @@ irw_46 c h = omega arith
 
 pub irw_0 : (c : ℕ) → c < 2 ^ 14 → c / 2 ^ 0 % 2 ^ 14 ≡ c
 irw_0 c h = omega arith
-
-pub pcw_read : (s w l g : ℕ) → s < 2 ^ 3 → w < 2 ^ 13 → l < 2 ^ 5 → g < 2 ^ 14 → let n = s * 2 ^ 33 + w * 2 ^ 20 + l * 2 ^ 14 + g in
-    (n / 2 ^ 33 % 2 ^ 3 ≡ s) × (n / 2 ^ 20 % 2 ^ 13 ≡ w) × (n / 2 ^ 14 % 2 ^ 5 ≡ l) × (n / 2 ^ 0 % 2 ^ 14 ≡ g)
-pcw_read s w l g sh wh lh gh = (rcw_33 s w l g sh wh lh gh, rcw_20 s w l g sh wh lh gh, rcw_14 s w l g sh wh lh gh, rcw_0 s w l g sh wh lh gh)
 
 -- a segment descriptor
 pub seg_read : (p : Bool) (w a : ℕ) → w < 2 ^ 20 → a < 2 ^ 20 → let v = word 3 (flag_bit p * 2 ^ 47 + w * 2 ^ 20 + a) in (is_set v 47 ≡ p) × (bits_at v 20 20 ≡ w) × (bits_at v 0 20 ≡ a)

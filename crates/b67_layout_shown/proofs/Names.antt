@@ -1,7 +1,6 @@
 -- Names by place: each live activation record has its own, and its spot is read as its name.
-use Rattle.std.proofs.Common.{◌≡◌, ◌≢◌, ℕ, ◌≤◌, ◌==◌, Bool, List, [], ◌∷◌, ◌++◌, map, Option, Some, None, refl, sym, ◌∙◌, ap, subst, arith, inl, inr}
+use Rattle.std.proofs.Common.{◌≡◌, ◌≢◌, ℕ, ◌≤◌, ◌==◌, List, [], ◌∷◌, ◌++◌, map, Option, Some, None, refl, sym, ◌∙◌, ap, subst, arith, inl, inr}
 use Rattle.std.specs.Prelude.{if◌then◌else◌}
-use Rattle.std.proofs.lemmas.Bool.{ne_eqb, eq-eqb}
 use Rattle.b67_lemmas.specs.Lists.{Has, total, Falls}
 use Rattle.b67_lemmas.proofs.Members.{falls_low, all_in, total_has}
 use Rattle.b67_model.specs.Common.{Frame, JobConstants, Task, Job, height, Starts, Known, known_of, known_numbers, identities, frames_named, TasksInOrder}
@@ -23,13 +22,6 @@ numbers-known (f ∷ below) = ap (λ ns. f.identity ∷ ns) (numbers-known below
 -- the identities of a task's own frames fall
 own_falls : (bound : ℕ) (fs : List Frame) (outer : List Known) → Falls bound (known_numbers (map known_of fs ++ outer)) → Falls bound (identities fs)
 own_falls bound fs outer h = grind (arith, numbers-known, falls_front, numbers_append)
-
--- what is named in a list that goes on is named in the rest
-under_rest : (number identity : ℕ) (f : Frame) (below : List Frame) → f.identity ≢ identity → name_under number (f ∷ below) identity ≡ name_under number below identity
-under_rest number identity f below differ = ap (λ (b : Bool). if b then Some (named number (height below)) else name_under number below identity) (ne_eqb f.identity identity differ)
-
-under_first : (number : ℕ) (f : Frame) (below : List Frame) → name_under number (f ∷ below) f.identity ≡ Some (named number (height below))
-under_first number f below = ap (λ (b : Bool). if b then Some (named number (height below)) else name_under number below f.identity) (eq-eqb f.identity f.identity refl)
 
 -- a task's frames are named by their own places
 Under : ℕ → List Frame → List Frame → Type 0

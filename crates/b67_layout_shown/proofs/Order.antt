@@ -43,9 +43,6 @@ module _ (constants constants' : JobConstants) (arrays arrays' : List Array) (re
   pub same_name : (a b : Array) → Has arrays a → Has arrays b → (relabel b.identity == relabel a.identity) ≡ (b.identity == a.identity)
   same_name a b ha hb = grind arith
 
-  copy_same : (reach : List Known) (owner : ℕ) (a : Array) → Has arrays a → (w : Word) → WordInOrder (IsSegment constants) arrays reach owner w → is_copy_of (relabel a.identity) (word_by rename relabel w) ≡ is_copy_of a.identity w
-  copy_same reach owner a ha w h = grind arith
-
   copies_same : (reach : List Known) (owner : ℕ) (a : Array) → Has arrays a → (ws : List Word) → AllByRecursion (WordInOrder (IsSegment constants) arrays reach owner) ws
       → how_many (is_copy_of (relabel a.identity)) (map (word_by rename relabel) ws) ≡ how_many (is_copy_of a.identity) ws
   copies_same reach owner a ha [] h = refl

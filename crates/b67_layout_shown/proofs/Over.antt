@@ -1,5 +1,5 @@
 -- A machine represents a view with other numbers in its objects, if these are what is in core.
-use Rattle.std.proofs.Common.{◌≡◌, ℕ, zero, suc, ◌<◌, List, length, replicate, Option, Some, None, refl, sym, ◌∙◌, ap, subst, arith}
+use Rattle.std.proofs.Common.{◌≡◌, ℕ, zero, suc, ◌<◌, List, length, replicate, Some, None, refl, sym, ◌∙◌, ap, subst, arith}
 use Rattle.std.proofs.lemmas.List.{length-replicate}
 use Rattle.b67_word.specs.Tagged.{Tagged}
 use Rattle.b67_ctl.specs.declared.registers.Regs.{Regs}
@@ -7,7 +7,7 @@ use Rattle.b67_area.specs.declared.Info.{Info}
 use Rattle.b67_area.specs.declared.Kind.TheVariants as kind
 use Rattle.b67_word.specs.Sectors.{sectors_for}
 use Rattle.b67_lemmas.specs.Lists.{Has}
-use Rattle.b67_stack.specs.Common.{PagedObject, Slot, MachineView, is_present, address_or, IsArrayAt, SlotFits, IsLaidOut, AreZero, Storage, RepresentsSlot, RepresentsObject, ObjectHasChain, Content, Told, info_of, Represents}
+use Rattle.b67_stack.specs.Common.{PagedObject, Slot, MachineView, is_present, address_or, SlotFits, IsLaidOut, AreZero, Storage, RepresentsSlot, RepresentsObject, ObjectHasChain, Content, info_of, Represents}
 use Rattle.b67_layout_shown.specs.Shown.{contents_by}
 use Rattle.b67_layout_shown.proofs.Contents.{up_numbers}
 
@@ -33,9 +33,6 @@ module _ (x : Storage) (core : List Tagged) (r : Regs) (p : MachineView) (read :
   zeros zero = tt
   zeros (suc n) = (refl, zeros n)
 
-  told_none : (d : Option (List (List ℕ))) (chain ns : List ℕ) → d ≡ None → Told d chain ns
-  told_none d chain ns e = subst (λ o. Told o chain ns) (sym e) tt
-
   has_chain : (t : PagedObject) (ns : List ℕ) (first : ℕ) → length ns ≡ length t.numbers → ObjectHasChain x t first → ObjectHasChain x (record t { numbers = ns }) first
   has_chain t ns first e h = record { some = h.some; small = h.small; sectors = h.sectors ∙ ap sectors_for (sym e) }
 
@@ -46,9 +43,6 @@ module _ (x : Storage) (core : List Tagged) (r : Regs) (p : MachineView) (read :
 
   info_same : (t : PagedObject) (a : Info) → length (f t).numbers ≡ length t.numbers → a ≡ info_of x t → a ≡ info_of x (f t)
   info_same t a long e = e ∙ ap (λ n. record { kind = t.kind; words = n; owner = t.home; kept = (x.held t.home).chain }) (sym long)
-
-  array_there : (home : ℕ) → IsArrayAt p.objects home → IsArrayAt read home
-  array_there home (t, there, at, kind) = (f t, reads.to t there, at, kind)
 
   fits_over : (k : ℕ) (sl : Slot) → SlotFits p k sl → SlotFits (record p { objects = read }) k sl
   fits_over k sl h = grind arith

@@ -7,7 +7,6 @@ use Rattle.std.proofs.lemmas.Bool.Decides.{eqb_tells}
 use Rattle.b67_word.specs.Tagged.{Tagged, word, bits_at}
 use Rattle.b67_ctl.specs.declared.descriptors.DataDesc.{DataDesc}
 use Rattle.b67_ctl.specs.declared.marks.Mscw.{Mscw}
-use Rattle.b67_ctl.specs.declared.marks.Rcw.{Rcw}
 use Rattle.b67_ctl.specs.declared.registers.Regs.{Regs}
 use Rattle.b67_ctl.specs.Descriptors.{data_word}
 use Rattle.b67_ctl.specs.Layout.{mscw_word, rcw_word}
@@ -59,13 +58,6 @@ module _ (core : List Tagged) (held : Locations) (finds : FindsHomes core held) 
   mark_read : (i from : ℕ) (m : Mscw) (under : List Shape) → LieDownward (Fits held) core from (Is (mscw_word m) ∷ under) → i ≡ from + length under
       → m.env_stack < 2 ^ 10 → m.env_disp < 2 ^ 16 → m.level < 2 ^ 5 → m.back < 2 ^ 14 → mscw_in (word_seen_at core i) ≡ m
   mark_read i from m under l e ch dh lh kh = grind (arith, mscw_read)
-
-  rcw_stands : (i from : ℕ) (r : Rcw) (under : List Shape) → LieDownward (Fits held) core from (Is (rcw_word r) ∷ under) → i ≡ from + length under
-      → r.place.syllable < 2 ^ 3 → r.place.word < 2 ^ 13 → r.level < 2 ^ 5 → r.segment < 2 ^ 14 → rcw_in (word_seen_at core i) ≡ r
-  rcw_stands i from r under l e sh wh lh gh = grind arith
-
-  return_some : (value : Bool) (r : Rcw) (back : ℕ) → 0 < back → return_by value r back ≡ Some (record { value = value; segment = r.segment - 1; place = r.place })
-  return_some value r back h = grind arith
 
   pub top_some : (below : List Activation) → below ≢ [] → 0 < top_size below
   top_some below some = grind arith

@@ -10,7 +10,7 @@ use Rattle.b67_law_order.proofs.Numbered.{keyed_member}
 use Rattle.b67_model.specs.Keyed.{keyed}
 use Rattle.b67_model.specs.Common.{Array, Task, Job, SessionJob, number_of, Session, IsSegment, IsInOrderButPlaces, ArrayInOrder, JobInOrder, array}
 use Rattle.b67_stack.specs.declared.Cpu.{Cpu}
-use Rattle.b67_stack.specs.Common.{Activation, stack_words, PagedObject, Slot, Free, Running, Waiting, MachineView, slot_base, stack_of, NoOriginalAboveTop, Storage, Represents}
+use Rattle.b67_stack.specs.Common.{Activation, stack_words, PagedObject, Free, Running, Waiting, slot_base, stack_of, NoOriginalAboveTop, Storage, Represents}
 use Rattle.b67_layout.specs.Common.{Slotted, Placement, slot_of, stack_of_task, slot_with, slot_in, slot_by, slot_at, array_object, code_objects, objects_of, machine_view, TaskRow, JobRow, JobCounts, JobShows, TablesShow, RowsFit, RepresentsSession}
 use Rattle.b67_layout.proofs.Rows.{task_row, finds}
 use Rattle.b67_layout_shown.specs.Places.{name_among, array_among, task_by, array_named, originals_among, rows_down, job_placed}
@@ -212,9 +212,6 @@ module _ (x : Storage) (cpu : Cpu) (plan : Placement) (s : Session) (tasks : Lis
               (array_object plan m.constants.number a.item, array_inside m b.there a.item a.live, sym (array_seen m a.item b.there a.live) ∙ ap (array_object plan' m.constants.number) a.is ∙ w.is)
         ];
   }
-
-  same_view : (p : MachineView) (a b n : ℕ) (sl : ℕ → Slot) (os : List PagedObject) → a ≡ p.stacks → b ≡ p.size → n ≡ p.peak → sl ≡ p.slots → record { stacks = a; size = b; peak = n; slots = sl; objects = os } ≡ record p { objects = os }
-  same_view p a b n sl os ea eb en es = rw (ea, eb, en, es) refl
 
   view_is : machine_view plan' jobs' ≡ record (machine_view plan s.jobs) { objects = flat_map (objects_of plan') jobs' }
   view_is = grind (arith, slot_same)

@@ -1,7 +1,6 @@
 -- Where an array that keeps no chain needs more sectors than are free, a session takes more than there are.
 use Rattle.std.proofs.Common.{◌≡◌, ℕ, ◌+◌, ◌≤◌, List, [], ◌∷◌, map, flat_map, length, Option, refl, ◌∙◌, arith, subst}
 use Rattle.b67_word.specs.Tagged.{Tagged}
-use Rattle.b67_area.specs.declared.Kind.{Kind}
 use Rattle.b67_area.specs.declared.Areas.{Areas}
 use Rattle.b67_backing.specs.Shelf.{Table, chain_of}
 use Rattle.b67_backing.specs.Held.{sectors_for}
@@ -10,7 +9,7 @@ use Rattle.b67_lemmas.proofs.Members.{has_map, total_append, total_flat, total_m
 use Rattle.b67_lemmas.proofs.Sums.{sum_total, total_gap, total_le}
 use Rattle.b67_model.specs.Common.{Segment, SessionJob, sectors_of, sectors, Session}
 use Rattle.b67_stack.specs.declared.Cpu.{Cpu}
-use Rattle.b67_stack.specs.Common.{PagedObject, MachineView, Storage, KeptChain, Content}
+use Rattle.b67_stack.specs.Common.{PagedObject, MachineView, Storage, Content}
 use Rattle.b67_layout_storage.specs.Machine.{MachineRepresentsView}
 use Rattle.b67_overlay.specs.AreasEvicted.{IsShortBy}
 use Rattle.b67_layout.specs.Common.{Placement, code_objects, objects_of, machine_view}
@@ -20,10 +19,6 @@ use Rattle.b67_layout_spans.proofs.Covers.{covers}
 -- the sectors that an object takes
 abbrev pub sectors_of_object : PagedObject → ℕ
 sectors_of_object t = sectors_for (length t.numbers)
-
--- the chain of an object has no more
-keeps_few : (x : Storage) (t : PagedObject) (k : Kind) (f : ℕ) → chain_of 0 x.shelf.chains ≡ [] → KeptChain x t k f → length (chain_of f x.shelf.chains) ≤ sectors_of_object t
-keeps_few x t k f z h = grind arith
 
 content_few : (x : Storage) (core : List Tagged) (t : PagedObject) (a : Option ℕ) (f : ℕ) → chain_of 0 x.shelf.chains ≡ [] → Content x core t a f → length (chain_of f x.shelf.chains) ≤ sectors_of_object t
 content_few x core t a f z c = grind arith

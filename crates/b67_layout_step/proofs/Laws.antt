@@ -5,12 +5,12 @@ use Rattle.b67_word.specs.declared.couples.Place.{Place}
 use Rattle.b67_lemmas.specs.Lists.{Has}
 use Rattle.b67_lemmas.proofs.Members.{all_in}
 use Rattle.b67_model.specs.Words as Words
-use Rattle.b67_model.specs.Common.{Word, Frame, Array, Task, JobConstants, Job, SessionJob, OperatorContext, Reading, Line, Goes, row, reading_of, step_by, step, Starts, IsSegment, Known, WordInOrder, EntryInOrder, FramesInOrder, TasksInOrder}
+use Rattle.b67_model.specs.Common.{Frame, Array, Task, JobConstants, Job, SessionJob, OperatorContext, Reading, Line, Goes, row, reading_of, step_by, step, Starts, IsSegment, Known, FramesInOrder, TasksInOrder}
 use Rattle.b67_layout.specs.Orders.{JobInOrderButCounts}
 use Rattle.b67_law_order.proofs.Posts.{Post, post_err, post_at}
 use Rattle.b67_law_order.proofs.Kept.{here}
 use Rattle.b67_layout_step.specs.Keeping.{RowsKeepArrays, StepsTouchArrays}
-use Rattle.b67_layout_step.proofs.Words.{Names, FramesName, Holds}
+use Rattle.b67_layout_step.proofs.Words.{FramesName, Holds}
 use Rattle.b67_layout_step.proofs.Rows.{Stands, stands_in, Keeps, Source, row_good}
 
 none_gone : (new old : List Array) → ((a : Array) → Has old a → Stands new a.identity) → filter (λ (a : Array). not (list_any (λ (b : Array). b.identity == a.identity) new)) old ≡ []
@@ -20,9 +20,6 @@ none_gone new (a ∷ more) all = rw (all a (inl refl)) (none_gone new more (λ b
 -- nothing is said of the arrays that are touched
 abbrev Any : ℕ → Type 0
 Any n = Unit {0}
-
-any_names : (w : Word) → Names Any w
-any_names w = grind arith
 
 any_source : (h : OperatorContext) → Source Any h.job.arrays (Unit {0}) h
 any_source h = grind arith
@@ -35,12 +32,6 @@ keeps_arrays op h e after printed touched is =
 -- an array of the job
 abbrev pub IsOf : Job → ℕ → Type 0
 IsOf job n = (a : Array) × Has job.arrays a × (a.identity ≡ n)
-
-word_names : (P : Starts) (job : Job) (reach : List Known) (owner : ℕ) (w : Word) → WordInOrder P job.arrays reach owner w → Names (IsOf job) w
-word_names P job reach owner w g = grind arith
-
-entry_names : (job : Job) (w : Word) → EntryInOrder job.arrays w → Names (IsOf job) w
-entry_names job w g = grind arith
 
 frames_name : (P : Starts) (job : Job) (outer : List Known) (frames : List Frame) → FramesInOrder P job.arrays outer frames → FramesName (IsOf job) frames
 frames_name P job outer [] g f k = absurd k

@@ -26,9 +26,6 @@ pub put_past : {A : Type 0} (i : ℕ) (w : A) (xs : List A) → length xs ≤ i 
 put_past i w [] high = refl
 put_past i w (x ∷ xs) high = grind (arith, put_past i w xs)
 
-choice_map : {A B : Type 0} (f : A → B) (b : Bool) (w x : A) → f (if b then w else x) ≡ (if b then f w else f x)
-choice_map f b w x = grind arith
-
 pub put_map : {A B : Type 0} (f : A → B) (i : ℕ) (w : A) (xs : List A) → map f (put i w xs) ≡ put i (f w) (map f xs)
 put_map f i w [] = refl
 put_map f i w (x ∷ xs) = grind (arith, length-map, put_map f i w xs)

@@ -41,9 +41,6 @@ code_renumbered : (plan : Placement) (j home : ℕ) (ns : List ℕ) (n : ℕ) (s
 code_renumbered plan j home ns n [] = refl
 code_renumbered plan j home ns n (s ∷ more) = grind (arith, code_renumbered plan j home ns (n + 1) more)
 
-array_renumbered : (plan : Placement) (j home : ℕ) (ns : List ℕ) (a : Array) → renumber home ns (array_object plan j a) ≡ array_object plan j (refilled plan j home ns a)
-array_renumbered plan j home ns a = grind arith
-
 arrays_renumbered : (plan : Placement) (j home : ℕ) (ns : List ℕ) (arrays : List Array)
     → map (renumber home ns) (map (array_object plan j) arrays) ≡ map (array_object plan j) (map (refilled plan j home ns) arrays)
 arrays_renumbered plan j home ns [] = refl

@@ -1,6 +1,6 @@
 -- The array that a word names, a reference leads to, or an end is in.
 use Rattle.std.proofs.Common.{ltb, ◌≡◌, ℕ, zero, suc, List, [], ◌∷◌, flat_map, length, Option, Some, None, unwrap_or, Ok, refl, subst, inl, inr, ◌⊎◌, arith}
-use Rattle.b67_model.specs.Common.{Answer, array, array_at, array_of, index_below, indexed, Word, Operand, Name, Ref, Row, Element, Original, Proc, Intrinsic, operand, number, Frame, Task, OperatorContext, mcp, no_frame, all_frames, frame, top, below_top, cell, place_of, End, AtElement, AtArray, Link, Stops, Leads, element_end, link_at, link_in, link_from, link, chase_on, chase, follow}
+use Rattle.b67_model.specs.Common.{Answer, array, array_at, array_of, index_below, indexed, Word, Operand, Name, Ref, Row, Element, Original, Proc, Intrinsic, operand, number, Frame, Task, OperatorContext, mcp, no_frame, all_frames, frame, top, cell, place_of, End, AtElement, AtArray, Link, Stops, Leads, element_end, link_at, link_in, link_from, link, chase_on, chase, follow}
 use Rattle.b67_model.specs.Keyed.{keyed, change_keyed}
 use Rattle.b67_lemmas.specs.Lists.{Has}
 use Rattle.b67_lemmas.proofs.Members.{all_in, has_append_cases, keyed_has, has_flat_back}
@@ -33,9 +33,6 @@ module _ (T : ℕ → Type 0) where
     pub tasks : (t : Task) → Has h.job.tasks t → FramesName t.frames
     pub own : FramesName h.task.frames
     pub dictionary : AllName h.constants.dictionary.cells
-
-  pub below_names : (frames : List Frame) → FramesName frames → FramesName (below_top frames)
-  below_names frames all f k = grind arith
 
   pub top_names : (frames : List Frame) → FramesName frames → AllName (top frames).cells
   top_names frames all w k = grind arith

@@ -80,9 +80,6 @@ keeps_taken t s n is some fits = record {
   free = λ m h. has_drop n s.free m h;
 }
 
-pub keeps-refl : (s : Shelf) → KeepsChains s s
-keeps-refl s = record { chains = λ x has. refl; free = λ m h. h }
-
 pub keeps_both : (a b c : Shelf) → KeepsChains a b → KeepsChains b c → KeepsChains a c
 keeps_both a b c k l = grind arith
 

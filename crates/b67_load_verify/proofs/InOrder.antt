@@ -8,7 +8,7 @@ use Rattle.b67_model.specs.declared.operators.Undecodable.TheVariants.{BadPlace,
 use Rattle.b67_model.specs.Common.{Reading, count_at, operator_at, place_of_bits, Segment, Program, Entry, At, Break, entries_from, origin, listing, place_of_entry, same_place, is_start, Listed, Refusal, refused, refusals_of, wrong_entries, refusals_from}
 use Rattle.b67_codefile.specs.Spelling.{entry_count, EntriesRise}
 use Rattle.b67_load_verify.specs.Broken.{rules_at}
-use Rattle.b67_load_verify.specs.Order.{StandsBefore, ComesBefore}
+use Rattle.b67_load_verify.specs.Order.{ComesBefore}
 use Rattle.b67_load_verify.proofs.Operator.{operator_at-is}
 use Rattle.b67_load_verify.proofs.Listed.{IsRead, listing-read}
 use Rattle.b67_lemmas.proofs.Joins.{all_append, all_by}
@@ -51,9 +51,6 @@ refused-in_order number place (t ∷ ts) h = at_test t.1 (refused-above number p
     at_test true above h = (above, h)
     at_test false above h = h
 
-first_or_not : (b : Bool) (xs ys : List (ℕ × Bool)) → Rising xs → Rising ys → Rising (cond b xs ys)
-first_or_not b xs ys x y = grind arith
-
 rules_at-rising : (l : Listed) (e : Entry) → Rising (rules_at l e)
 rules_at-rising l e = grind arith
 
@@ -84,9 +81,6 @@ pub record IsFrom (number n : ℕ) (r : Refusal) : Type 0 where
 
 abbrev IsSound : Entry → Type 0
 IsSound e = (place_of_entry e).syllable < 6
-
-before-count : (a b : Place) → a.syllable < 6 → b.syllable < 6 → count_at a < count_at b → StandsBefore a b
-before-count a b sa sb lt = grind arith
 
 of-from : (number : ℕ) (place : Place) → place.syllable < 6 → (r : Refusal) → IsOf number place r → IsFrom number (count_at place) r
 of-from number place sound r h = record { segment = h.in_segment; count = rw h.at_place (le_refl (count_at place)); syllable = rw h.at_place sound }
@@ -149,9 +143,6 @@ AreLow rules = AllByRecursion (λ (t : ℕ × Bool). t.0 < 11) rules
 refused-low : (number : ℕ) (place : Place) (rules : List (ℕ × Bool)) → AreLow rules → AllByRecursion IsLow (refused number place rules)
 refused-low number place [] h = tt
 refused-low number place (t ∷ ts) h = grind (arith, refused-low number place ts h.1)
-
-either_low : (b : Bool) (xs ys : List (ℕ × Bool)) → AreLow xs → AreLow ys → AreLow (cond b xs ys)
-either_low b xs ys x y = grind arith
 
 rules_at-low : (l : Listed) (e : Entry) → AreLow (rules_at l e)
 rules_at-low l e = grind arith

@@ -30,12 +30,6 @@ place_is a b w s = λ i. record { word = w i; syllable = s i }
 places : (a b : Place) → ((stands_before a b ≡ true) × StandsBefore a b) ⊎ ((stands_before a b ≡ false) × ((a ≡ b) ⊎ StandsBefore b a))
 places a b = grind arith
 
-stands_true : (a b : Place) → StandsBefore a b → stands_before a b ≡ true
-stands_true a b h = grind arith
-
-stands_then : (a b c : Place) → StandsBefore a b → StandsBefore b c → StandsBefore a c
-stands_then a b c h e = grind arith
-
 stands_not : (a : Place) → StandsBefore a a → ⊥
 stands_not a h = grind arith
 
@@ -47,10 +41,6 @@ comes_not a h = grind arith
 
 comes_true : (a b : Refusal) → ComesBefore a b → comes_before a b ≡ true
 comes_true a b h = grind (arith, lt-ltb, eq-eqb)
-
--- what the test says is so
-stands_so : (a b : Place) → stands_before a b ≡ true → StandsBefore a b
-stands_so a b e = grind arith
 
 comes_so : (a b : Refusal) → comes_before a b ≡ true → ComesBefore a b
 comes_so a b e = grind (arith, ltb-true, eqb_tells)

@@ -7,7 +7,7 @@ use Rattle.b67_model.specs.declared.operators.Op.{Op}
 use Rattle.b67_model.specs.declared.operators.Op.TheVariants as op
 use Rattle.b67_model.specs.declared.operators.Undecodable.{Undecodable}
 use Rattle.b67_model.specs.declared.operators.Undecodable.TheVariants.{BadPlace, PastEnd}
-use Rattle.b67_model.specs.Operators.{Form, Alone, OneMore, TwoMore, Literal, Reading, operators, form_in, form_of, syllable, place_at, count_at, ends_at, reads, operator_at}
+use Rattle.b67_model.specs.Operators.{Form, Alone, OneMore, TwoMore, Literal, Reading, operators, form_in, form_of, syllable, count_at, reads, operator_at}
 use Rattle.b67_load_verify.specs.Listing.{CoupleFits}
 
 -- ---- where the next operator stands
@@ -22,17 +22,11 @@ done x = Ok x
 ok_is : (x y : Op × Place) → done x ≡ done y → x ≡ y
 ok_is x y e = cc
 
-pub count_at-place_at : (n : ℕ) → count_at (place_at n) ≡ n
-count_at-place_at n = omega arith
-
 -- an operator that ends at a syllable, and the place behind it
 pub record Ends (code : List ℕ) (n : ℕ) (op : Op) (read : Op × Place) : Type 0 where
   pub is : read.0 ≡ op
   pub after : n < count_at read.1
   pub syllable : read.1.syllable < 6
-
-ends_at-is : (code : List ℕ) (n end : ℕ) (op : Op) (read : Op × Place) → n < end → ends_at code end op ≡ Ok read → Ends code n op read
-ends_at-is code n end op read lt e = grind arith
 
 -- ---- couples have 14 bits
 
@@ -92,10 +86,6 @@ pub operator_at-is : (code : List ℕ) (at : Place) (read : Op × Place) → ope
 operator_at-is code at read e =
     let t = test_ok (ltb at.syllable 6 && ltb at.word (length code)) BadPlace (reads code (count_at at) (form_of (syllable code (count_at at)))) read e in
     reads-is code (count_at at) (form_of (syllable code (count_at at))) read (form_of-fits (syllable code (count_at at))) t.1
-
--- inside the code something is read, or else an operator is not admitted or runs past the end
-ends_at-reads : (code : List ℕ) (end : ℕ) (op : Op) → ends_at code end op ≡ Err BadPlace → ⊥
-ends_at-reads code end op e = grind arith
 
 reads-inside : (code : List ℕ) (n : ℕ) (form : Option Form) → reads code n form ≡ Err BadPlace → ⊥
 reads-inside code n form e = grind arith

@@ -28,9 +28,6 @@ at_index P (x ∷ xs) (suc i) d lt h = at_index P xs i d (omega arith) h.1
 
 -- ---- marks
 
-same_place-count : (a b : Place) → a.syllable < 6 → b.syllable < 6 → same_place a b ≡ eqb (count_at a) (count_at b)
-same_place-count a b sa sb = grind arith
-
 -- one mark more
 set-any : (starts : List Bool) (k j : ℕ) → k < length starts → get_or (set starts k true) j false ≡ (get_or starts j false || (eqb k j || false))
 set-any starts k j lt = grind (arith, get_or-set_same, get_or-set_other)

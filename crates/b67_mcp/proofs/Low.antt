@@ -1,7 +1,6 @@
 -- The intrinsics that the MCP's cells hold have numbers from 8 to 18.
-use Rattle.std.proofs.Common.{◌≡◌, ℕ, zero, suc, ◌≤◌, cond, Bool, length, List, [], ◌∷◌, flat_map, Option, Some, unwrap_or, Ok, Err, refl, sym, ◌∙◌, ap, subst, inl, inr, arith}
-use Rattle.b67_word.specs.declared.faults.Fault.TheVariants.{InvalidIndex}
-use Rattle.b67_model.specs.Common.{Answer, Word, Operand, Name, Ref, Row, Element, Original, Proc, Intrinsic, Frame, Array, Task, JobConstants, SessionJob, OperatorContext, mcp, no_frame, all_frames, cell, place_of, End, AtElement, AtIntrinsic, Link, Stops, Leads, link_at, link_in, link_from, link, chase_on, follow_reference, Session, Starts, IsSegment, Known, outer_of, WordInOrder, EntryInOrder, FramesInOrder, TaskInOrder, TasksInOrder}
+use Rattle.std.proofs.Common.{◌≡◌, ℕ, zero, suc, ◌≤◌, List, [], ◌∷◌, flat_map, Option, Some, unwrap_or, Ok, refl, sym, ◌∙◌, ap, subst, inl, inr, arith}
+use Rattle.b67_model.specs.Common.{Answer, Word, Operand, Name, Ref, Row, Element, Original, Proc, Intrinsic, Frame, Array, Task, JobConstants, SessionJob, OperatorContext, mcp, no_frame, all_frames, cell, place_of, End, AtIntrinsic, Link, Stops, Leads, link_at, link_in, link_from, link, chase_on, follow_reference, Session, Starts, IsSegment, Known, outer_of, WordInOrder, EntryInOrder, FramesInOrder, TaskInOrder, TasksInOrder}
 use Rattle.b67_model.specs.Keyed.{keyed}
 use Rattle.b67_lemmas.specs.Lists.{Has}
 use Rattle.b67_lemmas.proofs.Members.{all_in, has_append_cases, has_flat_back, keyed_has}
@@ -54,10 +53,6 @@ module _ (constants : JobConstants) (h : OperatorContext) (same : h.constants �
 
   in_frame : (id : ℕ) (q : Option Frame) → keyed (λ (f : Frame). f.identity) id (all_frames h) ≡ q → (w : Word) → Has (unwrap_or q no_frame).cells w → IsLow w
   in_frame id q e w c = grind (arith, in_frames, keyed_has)
-
-  -- an element is no intrinsic, whether its index is below the length or not
-  at_item : (test : Bool) (a i : ℕ) → EndLow (cond test (Ok (AtElement a i)) (Err InvalidIndex))
-  at_item test a i = grind arith
 
   at_word : (f offset : ℕ) (w : Word) → IsLow w → LinkLow (link_at h f offset w)
   at_word f offset w g = grind arith

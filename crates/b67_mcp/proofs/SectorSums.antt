@@ -13,7 +13,7 @@ use Rattle.b67_stack.specs.declared.Cpu.{Cpu}
 use Rattle.b67_stack.specs.Common.{stack_words, MachineView, slot_base, stack_of, Storage}
 use Rattle.b67_layout.specs.Common.{IsInOrderButCounts, Placement, machine_view, RepresentsSession, with_job}
 use Rattle.b67_overlay.proofs.Turning.{slot_high}
-use Rattle.b67_task_need.specs.Sums.{sectors_of_word, sectors_at, core_sectors_from, sectors_of_slots}
+use Rattle.b67_task_need.specs.Sums.{sectors_at, core_sectors_from, sectors_of_slots}
 use Rattle.b67_task_need.proofs.Sessions.{session_kept}
 
 -- its first numbers; its numbers, with zeros behind them; and so many
@@ -60,10 +60,6 @@ session_sectors s m a f member found = omega (arith, job_sectors s m (with_array
 -- a job with the same arrays takes as many
 pub same_sectors : (s : Session) (m : SessionJob) (job job' : Job) → keyed number_of m.constants.number s.jobs ≡ Some m → job'.arrays ≡ job.arrays → sectors (with_job s m job').jobs ≡ sectors (with_job s m job).jobs
 same_sectors s m job job' member e = grind (arith, job_sectors)
-
--- a word of core says how long one object is
-word_few : (code : Bool) (w : Tagged) → sectors_of_word code w ≤ 2185
-word_few code w = grind arith
 
 at_few : (code : Bool) (o : Option Tagged) → sectors_at code o ≤ 2185
 at_few code o = grind arith

@@ -9,7 +9,7 @@ use Rattle.b67_model.specs.Common.{Word, Frame, Array, Segment, Task, Job, Sessi
 use Rattle.b67_model.specs.Keyed.{keyed}
 use Rattle.b67_stack.specs.declared.Cpu.{Cpu}
 use Rattle.b67_stack.specs.Common.{Shape, StackPlace, Activation, PagedObject, Slot, Running, Waiting, MachineView, NoOriginalAboveTop, Storage, Represents}
-use Rattle.b67_layout.specs.Common.{Placement, Slotted, slot_of, spot_in, outer_spots, address_of, shape, head, activations, stack_of_task, slot_with, slot_in, slot_by, slot_at, code_objects, array_object, objects_of, machine_view, DictionariesFollow, PlanFits, vector_word, IsRunning, RepresentsSession}
+use Rattle.b67_layout.specs.Common.{Placement, Slotted, slot_of, spot_in, outer_spots, address_of, shape, head, activations, stack_of_task, slot_with, slot_in, slot_by, slot_at, code_objects, array_object, objects_of, machine_view, PlanFits, vector_word, IsRunning, RepresentsSession}
 use Rattle.b67_mcp_calls.specs.Declaring.{with_home}
 use Rattle.b67_mcp_calls.proofs.Avoiding.{Avoids, FramesAvoid, JobAvoids}
 
@@ -17,16 +17,11 @@ module _ (plan : Placement) (j n at : ℕ) where
   abbrev there : Placement
   there = with_home plan j n at
 
-  pub home_other : (i a : ℕ) → (i ≡ j → a ≢ n) → (with_home plan j n at).home i a ≡ plan.home i a
-  home_other i a ne = grind arith
-
   pub outer_spots-there : (i : ℕ) (job : Job) (parents : List ℕ) (c id : ℕ) → outer_spots (with_home plan j n at) i job c parents id ≡ outer_spots plan i job c parents id
   outer_spots-there i job [] c id = refl
   outer_spots-there i job (parent ∷ more) c id = grind arith
 
   module _ (i : ℕ) where
-    shape-there : (job : Job) (spot : ℕ → StackPlace) (w : Word) → (i ≡ j → Avoids n w) → shape there i job spot w ≡ shape plan i job spot w
-    shape-there job spot w ne = grind arith
 
     shapes-there : (job : Job) (spot : ℕ → StackPlace) (ws : List Word) → (i ≡ j → AllByRecursion (Avoids n) ws) → map (shape there i job spot) ws ≡ map (shape plan i job spot) ws
     shapes-there job spot [] ne = refl
@@ -79,10 +74,6 @@ module _ (plan : Placement) (j n at : ℕ) where
 
     pub machine_view-there : machine_view (with_home plan j n at) jobs ≡ machine_view plan jobs
     machine_view-there = grind (arith, slots-there, objects-there)
-
-  follow-there : (from : ℕ) (jobs : List SessionJob) → DictionariesFollow plan from jobs → DictionariesFollow there from jobs
-  follow-there from [] d = d
-  follow-there from (m ∷ more) d = (d.0, follow-there (from + (2 + length m.constants.dictionary.cells)) more d.1)
 
   vector-there : (i : ℕ) (parents : List ℕ) → vector_word plan i parents ≡ vector_word there i parents
   vector-there i parents = grind arith

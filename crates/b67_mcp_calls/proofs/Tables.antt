@@ -1,22 +1,13 @@
 -- The tables of tasks and jobs don't show where an array's original stands.
 use Rattle.std.proofs.Common.{◌≡◌, ℕ, List, [], ◌∷◌, Option, ◌∙◌, arith}
 use Rattle.std.specs.List.{slice_get}
-use Rattle.b67_model.specs.Common.{Condition, Task, Job, SessionJob, Session}
-use Rattle.b67_layout.specs.Common.{Placement, TaskRow, JobRow, JobCounts, shown, parent_slot, critical_disp, TaskShows, JobShows, JobsShow, RunningRow, TablesShow}
+use Rattle.b67_model.specs.Common.{Task, SessionJob, Session}
+use Rattle.b67_layout.specs.Common.{Placement, TaskRow, JobRow, JobCounts, TaskShows, JobShows, JobsShow, RunningRow, TablesShow}
 use Rattle.b67_mcp_calls.specs.Declaring.{with_home}
 
 module _ (plan : Placement) (j n at : ℕ) where
   abbrev there : Placement
   there = with_home plan j n at
-
-  parent-there : (i : ℕ) (parents : List ℕ) → parent_slot plan i parents ≡ parent_slot there i parents
-  parent-there i parents = grind arith
-
-  critical-there : (i : ℕ) (job : Job) (c : ℕ) (parents : List ℕ) → critical_disp plan i job c parents ≡ critical_disp there i job c parents
-  critical-there i job c parents = grind arith
-
-  shown-there : (i : ℕ) (job : Job) (t : Task) (d : Condition) → shown plan i job t d ≡ shown there i job t d
-  shown-there i job t d = grind arith
 
   task-there : (m : SessionJob) (t : Task) (row : TaskRow) → TaskShows plan m t row → TaskShows there m t row
   task-there m t row h = grind arith

@@ -13,9 +13,6 @@ first_of ws i w low e =
 pub none_left : (ws : List Tagged) (i : ℕ) (w : Tagged) → i < length ws → w ≡ get_or ws i w → number_of w ≡ None → values_of (drop i ws) ≡ None
 none_left ws i w low e none = ap values_of (first_of ws i w low e) ∙ ap (λ (o : Option ℤ). values_with o (values_of (drop (i + 1) ws))) none
 
-some_joined : (v : ℤ) (o : Option (List ℤ)) → is_some (values_with (Some v) o) ≡ is_some o
-some_joined v o = grind arith
-
 pub some_left : (ws : List Tagged) (i : ℕ) (w : Tagged) (v : ℤ) → i < length ws → w ≡ get_or ws i w → number_of w ≡ Some v → is_some (values_of (drop (i + 1) ws)) ≡ is_some (values_of (drop i ws))
 some_left ws i w v low e some = grind (arith, first_of)
 

@@ -1,7 +1,7 @@
 -- A chain that is given back, and the chains that stay.
 use Rattle.std.proofs.Common.{◌≡◌, ◌≢◌, ℕ, ◌^◌, ◌<◌, ◌≤◌, ◌==◌, ◌⊎◌, List, [], length, Option, Some, None, refl, sym, ◌∙◌, ap, arith, inl, inr, ⊎_elim, subst, slice_set, if◌then◌else◌}
 use Rattle.std.specs.List.{slice_get}
-use Rattle.std.proofs.lemmas.Bool.{cond-true, cond-false, eq-eqb, ne_eqb}
+use Rattle.std.proofs.lemmas.Bool.{cond-false, ne_eqb}
 use Rattle.b67_word.specs.Tagged.{Tagged}
 use Rattle.b67_backing.specs.Shelf.{Table, Shelf, IsShelf, chain_of, given}
 use Rattle.b67_backing.specs.Held.{sectors_for}
@@ -17,9 +17,6 @@ use Rattle.b67_stack.proofs.Homes.{chain_small}
 use Rattle.b67_stack.proofs.Unchanged.{area_bounds}
 use Rattle.b67_layout_storage.proofs.Chained.{Content-chain}
 use Rattle.b67_mcp_lengths.specs.Lengths.{IsArray, IsChain, freed_chain}
-
-pub freed_none : (s : Shelf) (first : ℕ) → first ≡ 0 → freed_chain first s ≡ s
-freed_none s first e = cond-true (first == 0) s (given first s) (eq-eqb first 0 e)
 
 pub freed_some : (s : Shelf) (first : ℕ) → first ≢ 0 → freed_chain first s ≡ given first s
 freed_some s first n = cond-false (first == 0) s (given first s) (ne_eqb first 0 n)
@@ -51,10 +48,6 @@ module _ (x : Storage) (core : List Tagged) (r : Regs) (p : MachineView) (s : Re
     pub of_left : (f : ℕ) → 0 < length (chain_of f (freed_chain (x.held t.home).chain x.shelf).chains) → (0 < length (chain_of f x.shelf.chains)) × (f ≢ (x.held t.home).chain)
     of_left f some = grind (arith, left_of)
 
-    -- another object's chain
-    pub other_kept : (u : PagedObject) → Has p.objects u → u.home ≢ t.home → (kept ≡ 0) ⊎ (kept ≢ (x.held u.home).chain)
-    other_kept u inu m = grind arith
-
     pub other_left : (y : Storage) → y.shelf ≡ freed_chain (x.held t.home).chain x.shelf → y.device ≡ x.device → (u : PagedObject) → Has p.objects u → u.home ≢ t.home → ChainStays x y (x.held u.home).chain
     other_left y e d u inu m = grind (arith, stays_left)
 
@@ -81,10 +74,6 @@ read_present h n d e there = grind arith
 
 pub read_absent : (h : Location) (n : ℕ) (d : DataDesc) → d ≡ home_desc Rattle.std.specs.Prelude.false n h → d.present ≡ Rattle.std.specs.Prelude.false → (h.area ≡ None) × (d.address ≡ h.chain)
 read_absent h n d e there = grind arith
-
--- the word of an original that is written
-pub word_written : (n : ℕ) (h : Location) (t : PagedObject) (w : Tagged) → t.kind ≡ Array → w ≡ data_word (home_desc Rattle.std.specs.Prelude.false n h) → w ≡ home_word_of t.kind n h
-word_written n h t w array e = let P : Kind → Type 0 = λ k. w ≡ home_word_of k n h in subst P (sym array) e
 
 -- core with an original's word
 pub set_original : (mid new : List Tagged) (home n : ℕ) (h : Location) (t : PagedObject) (e : DataDesc) (w : Tagged) → t.home ≡ home → t.kind ≡ Array → e ≡ home_desc Rattle.std.specs.Prelude.false n h → w ≡ data_word e → new ≡ slice_set mid home w → new ≡ slice_set mid t.home (home_word_of t.kind n h)

@@ -106,9 +106,6 @@ rows_next rs at job d low =
     ap (λ (xs : List TaskRow). rows_of_job xs job) (drop-get rs at v there) ∙ ap (λ (n : ℕ). counts_for v job + rows_of_job (drop n rs) job) next
     ∙ ap (λ (z : TaskRow). counts_for z job + rows_of_job (drop (at + 1) rs) job) (sym is)
 
-pub counts_low : (r : TaskRow) (job : ℕ) → counts_for r job ≤ 1
-counts_low r job = elim (cases_Bool (r.job == job)) [ inl e ↦ rw e (omega arith) | inr e ↦ rw e (omega arith) ]
-
 pub rows_past : (rs : List TaskRow) (at job : ℕ) → length rs ≤ at → rows_of_job (drop at rs) job ≡ 0
 rows_past [] zero job low = refl
 rows_past [] (suc at) job low = refl

@@ -33,9 +33,6 @@ marked_words f = grind arith
 one_more : (fs : List Frame) (w : Word) → height (with_top_cells fs (w ∷ (top fs).cells)) ≤ height fs + 1
 one_more fs w = grind arith
 
-lower_one : (fs : List Frame) (w : Word) → height (with_top_cells (below_top fs) (w ∷ (top (below_top fs)).cells)) ≤ height fs
-lower_one fs w = grind arith
-
 module _ (m : SessionJob) (t : Task) (next : Place) where
   pub answers_critical : (words : List Word) → is_critical m.progress.job (top t.frames).identity ≡ true → answers (here m t next) m.progress.job words [] None ≡ Err CriticalBlock
   answers_critical words c = rw c refl

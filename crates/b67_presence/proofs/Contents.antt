@@ -16,9 +16,6 @@ use Rattle.b67_overlay.specs.Spans.{MachineCanPage}
 use Rattle.b67_presence.specs.declared.paging.AbsentObject.{AbsentObject}
 use Rattle.b67_presence.specs.Brought.{Loaded, resting, NumbersAreKnown}
 
-both_ok : {T E A B C : Type 0} (result : Result T E) → (A → B → C) → OnOk result A → OnOk result B → OnOk result C
-both_ok result f a b = grind arith
-
 -- words that were read from a chain, with the tag of the object's kind
 pub loaded : {D T E : Type 0} (tell : D → Option (List (List ℕ))) (device : D) (table : Table) (at : ℕ) (object : AbsentObject) (new : List Tagged) (tag : ℕ) (result : Result T E) → tag ≡ tag_of object.kind → object.first ≢ 0
     → OnOk result ((st : Shelf) → HasChain table st object.first (sectors_for object.words) → Tells tell device (λ all. (numbers : List ℕ) → length numbers ≡ object.words → Holds all (chain_of object.first st.chains) 0 numbers

@@ -31,9 +31,6 @@ use Rattle.b67_presence.proofs.Wants.{CodeObject, code_found, array_absent}
 pub code_lacks : (x y : Storage) (plan : Placement) (m : SessionJob) (t : Task) (d spare : ℕ) → code_area x plan m t ≡ None → AreasEvicted x y spare → Lacks y (what.Code d) plan m t
 code_lacks x y plan m t d spare none s = ap (λ (h : Location). h.area) (s.resting (plan.dictionary m.constants.number + 1 + t.segment) none) ∙ none
 
-array_none : (x : Storage) (plan : Placement) (m : SessionJob) (t : Task) (home words : ℕ) → IsArrayWanted x plan m t home words → (x.held home).area ≡ None
-array_none x plan m t home words w = ap (λ (q : ℕ). (x.held q).area) (sym w.home_is) ∙ w.absent
-
 pub array_lacks : (x y : Storage) (plan : Placement) (m : SessionJob) (t : Task) (home words spare : ℕ) → IsArrayWanted x plan m t home words → AreasEvicted x y spare → Lacks y (what.Array home) plan m t
 array_lacks x y plan m t home words spare w s = grind arith
 

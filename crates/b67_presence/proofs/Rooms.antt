@@ -1,6 +1,6 @@
 -- Where nothing but a hole is left, an object finds its place, and then the code.
-use Rattle.std.proofs.Common.{◌≡◌, ℕ, ◌+◌, ◌-◌, ◌<◌, ◌≤◌, List, [], ◌∷◌, length, Some, refl, sym, arith, inl, inr, ⊎_elim, ◌==◌, subst}
-use Rattle.std.proofs.lemmas.Bool.{cases_Bool, cond-true, eq-eqb}
+use Rattle.std.proofs.Common.{◌≡◌, ℕ, ◌+◌, ◌-◌, ◌<◌, ◌≤◌, List, [], ◌∷◌, length, Some, refl, sym, arith, inl, ⊎_elim, ◌==◌, subst}
+use Rattle.std.proofs.lemmas.Bool.{cond-true, eq-eqb}
 use Rattle.b67_word.specs.Tagged.{Tagged}
 use Rattle.b67_area.specs.declared.Info.{Info}
 use Rattle.b67_area.specs.Spans.{Span, Area, Hole, area_at, fill, keeping, left, end}
@@ -22,12 +22,6 @@ one_hole core low ss d none some = by ss d.all d.spans none where
 
 room_left : (k d : ℕ) → 1 ≤ k → k ≤ d → HasHole k (left d [])
 room_left k d some h = grind arith
-
-room_keeping : (k at x first : ℕ) (ss : List Span) → HasHole k ss → HasHole k (keeping at x first ss)
-room_keeping k at x first [] h = h
-room_keeping k at x first (Area a ∷ ss) h = ⊎_elim (λ t. rw t h) (λ t. rw t (room_keeping k (at + (a.words + 2)) x first ss h)) (cases_Bool (at + 1 == x))
-room_keeping k at x first (Hole n ∷ ss) (inl h) = inl h
-room_keeping k at x first (Hole n ∷ ss) (inr h) = inr (room_keeping k (at + n) x first ss h)
 
 -- room beside an area that was placed in that hole
 pub second_room : (k low x first m : ℕ) (a : Info) (ss : List Span) → ss ≡ Hole m ∷ [] → 1 ≤ k → a.words + 2 + k ≤ m → HasHole k (keeping low x first (fill a ss))

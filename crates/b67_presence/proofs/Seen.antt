@@ -10,7 +10,7 @@ use Rattle.b67_model.specs.Common.{Array, Segment, SessionJob, Session, IsSegmen
 use Rattle.b67_layout.specs.Common.{JobInOrderButCounts, IsInOrderButCounts, Placement, array_object, code_objects, objects_of, machine_view}
 use Rattle.b67_law_order.specs.Weaker.{AllOtherNumbers}
 use Rattle.b67_layout_step.proofs.OtherNumbers.{others_in_order}
-use Rattle.b67_stack.specs.Common.{PagedObject, MachineView, NoOriginalAboveTop, Storage, Represents, renumber, renumbered}
+use Rattle.b67_stack.specs.Common.{PagedObject, MachineView, NoOriginalAboveTop, Storage, Represents, renumbered}
 use Rattle.b67_layout_storage.specs.Machine.{AreBits}
 use Rattle.b67_layout_step.proofs.Renumbered.{member_with, others_from, Fitting, machine_view_renumbered, settled_renumbered}
 use Rattle.b67_presence.specs.Brings.{IsReadable, ReadBack}
@@ -75,10 +75,6 @@ module _ (x : Storage) (plan : Placement) (s : Session) (o : IsInOrderButCounts 
       } in
       it)
       (none_or x.device)
-
--- where an object of a view comes from that was read
-renumber_like : (home : ℕ) (ns : List ℕ) (u : PagedObject) → (u.home ≡ home → length ns ≡ length u.numbers) → ((renumber home ns u).home ≡ u.home) × (length (renumber home ns u).numbers ≡ length u.numbers)
-renumber_like home ns u fits = grind arith
 
 read_fits : (p q : MachineView) (home : ℕ) (ns : List ℕ) (also : ℕ) (ms : List ℕ) → q ≡ renumbered p home ns → Fitting home ns p.objects → Fitting also ms p.objects → Fitting also ms q.objects
 read_fits p q home ns also ms is fits too = grind (arith, has_map_back)

@@ -96,12 +96,6 @@ module _ (R : Relation) where
     pub numbers : data_numbers ys ≡ data_numbers xs
     pub program : ProgramsAlike (program xs) (program ys)
 
-  by_program : (a b : Option (ℕ × Body)) → ProgramsAlike a b → R.alike (unwrap_or a (0, Cards [])).1 (unwrap_or b (0, Cards [])).1
-  by_program a b h = grind arith
-
-  pub job_alike : (n m : ℕ) (name : List ℕ) (xs ys : List Said) → OwnAlike xs ys → JobsAlike (job_of n name xs) (job_of m name ys)
-  job_alike n m name xs ys h = grind arith
-
   -- ---- the same cards
 
   data_at : (c : Command) (xs ys : List Said) → texts_of (body xs) ≡ texts_of (body ys) → numbers_at c ys ≡ numbers_at c xs
@@ -282,9 +276,6 @@ module _ (R : Relation) where
   pub own_stop : (rest : List Said) → leading is_plain rest ≡ [] → leading is_plain (own_cards rest) ≡ []
   own_stop [] e = refl
   own_stop (s ∷ rest) e = grind arith
-
-  not_plain : (s : Said) → IsBegin s.command → (xs : List Said) → leading is_plain (s ∷ xs) ≡ []
-  not_plain s h xs = grind arith
 
   jobs_over : (start : Said) (own rest : List Said) → Placed start own rest → jobs (start ∷ (own ++ rest)) ≡ jobs rest
   jobs_over start own rest p = one start (own ++ rest) (name_passes.0 start.command p.begins) ∙ over own p.plain

@@ -13,7 +13,7 @@ use Rattle.b67_model_text.specs.declared.deck.Keyword.TheVariants as keywords
 use Rattle.b67_model_text.specs.Answers.{Answer, ◌>>=◌, ◌>>◌, needs, or_reason}
 use Rattle.b67_model_text.specs.Cards.{card_of, cards, is_empty, words_in_card}
 use Rattle.b67_model_text.specs.Command.{Command, Halt, one_number, says, command_of, plain_card, said}
-use Rattle.b67_model_text.specs.Placing.{stand, stand_after, may_stand, lacks_program, placed_card, stack_in, quantum_in, switch_in, name_in}
+use Rattle.b67_model_text.specs.Placing.{stand, stand_after, placed_card, stack_in, switch_in, name_in}
 use Rattle.b67_model_text.specs.Deck.{Said, command_in, of_card, said_after, sayings, job_of, own_cards, jobs, deck, deck_of}
 use Rattle.b67_model_text.proofs.Answers.{after_both, err-ok}
 use Rattle.b67_promises.specs.Halts.{DifferInHalt}
@@ -45,9 +45,6 @@ halt_said t c e =
 
 -- ---- where it stands
 
-halt_in_front : (s : Stand) (n : ℕ) → (may_stand s (Halt n) || lacks_program s (Halt n)) ≡ true → s ≡ Front
-halt_in_front s n e = grind arith
-
 stands_in_front : (before : List Command) (c : Command) (u : ⊤) → IsHaltCommand c → placed_card before c ≡ Ok u → stand before ≡ Front
 stands_in_front before c u is e = grind arith
 
@@ -64,9 +61,6 @@ jobs_after : (before tail : List Said) → stand (map command_in before) ≡ Fro
 jobs_after [] tail e = refl
 jobs_after (s ∷ before) tail e = grind (arith, reverse_cons, jobs_after before (s ∷ tail))
 
-halt_names_none : (c : Command) → IsHaltCommand c → name_in c ≡ None
-halt_names_none c h = grind arith
-
 -- ---- the deck but for the halt
 
 pub record SameButHalt (d e : Deck) : Type 0 where
@@ -80,9 +74,6 @@ passed_over f front tail s none = grind (arith, filter_map-append)
 
 no_stack : (c : Command) → IsHaltCommand c → stack_in c ≡ None
 no_stack c h = grind arith
-
-no_quantum : (c : Command) → IsHaltCommand c → quantum_in c ≡ None
-no_quantum c h = grind arith
 
 no_switch : (c : Command) → IsHaltCommand c → switch_in c ≡ None
 no_switch c h = grind arith

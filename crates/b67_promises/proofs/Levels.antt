@@ -14,7 +14,7 @@ use Rattle.b67_model_text.specs.declared.assembly.Line.{Line}
 use Rattle.b67_model_text.specs.Answers.{Answer, ◌>>=◌, or_reason}
 use Rattle.b67_model_text.specs.Cards.{words_in_card, name_in, natural}
 use Rattle.b67_model_text.specs.Command.{row_of}
-use Rattle.b67_model_text.specs.Statements.{numeral_up_to, mnemonics, sketch_of, segment, row, num, entry, operator, is_label, with_label, labelled, says, without_comment, line_with, lines_of}
+use Rattle.b67_model_text.specs.Statements.{numeral_up_to, mnemonics, sketch_of, segment, row, operator, is_label, with_label, labelled, says, without_comment, line_with, lines_of}
 
 -- ---- levels
 
@@ -35,26 +35,8 @@ segments_small (word ∷ []) = tt
 segments_small (word ∷ level ∷ []) = segment_small (name_in word) (numeral_up_to 255 level) (numeral_small (natural level))
 segments_small (word ∷ level ∷ x ∷ more) = tt
 
-row_small : (o : Option (List ℕ)) → SmallLevel (or_reason (option_map statements.Row o) 2)
-row_small o = grind arith
-
 rows_small : (more : List (List ℕ)) → SmallLevel (or_reason (row more) 2)
 rows_small more = grind arith
-
-num_small : (o : Option (Option ℕ)) (p : Option (List (Option ℕ))) → SmallLevel (or_reason (option_and_then (λ first. option_map (statements.Values first) p) o) 2)
-num_small o p = grind arith
-
-numbers_small : (more : List (List ℕ)) → SmallLevel (or_reason (num more) 2)
-numbers_small more = grind arith
-
-entry_small : (o : Option (List ℕ)) → SmallLevel (or_reason (option_map statements.Entry o) 2)
-entry_small o = grind arith
-
-entries_small : (more : List (List ℕ)) → SmallLevel (or_reason (entry more) 2)
-entries_small more = grind arith
-
-sketch_small : (label : Option (List ℕ)) (o : Option sketch.Sketch) → SmallLevel (or_reason o 2 >>= λ s. Ok (statements.Operator label s))
-sketch_small label o = grind arith
 
 mnemonic_small : (label : Option (List ℕ)) (o : Option Mnemonic) (f : Mnemonic → Option sketch.Sketch) → SmallLevel (or_reason o 1 >>= λ m. or_reason (f m) 2 >>= λ s. Ok (statements.Operator label s))
 mnemonic_small label o f = grind arith

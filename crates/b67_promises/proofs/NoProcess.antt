@@ -4,7 +4,7 @@ use Rattle.std.specs.Prelude.{flat_map, slice_get}
 use Rattle.std.specs.Option.{ok_or}
 use Rattle.std.proofs.lemmas.Bool.{cases_Bool, cases_lt, leb-true, ltb-false}
 use Rattle.b67_word.specs.declared.faults.Fault.TheVariants.{InvalidAddress}
-use Rattle.b67_word.specs.Couples.{couple, level_of}
+use Rattle.b67_word.specs.Couples.{couple}
 use Rattle.b67_model.specs.declared.operators.Op.{Op}
 use Rattle.b67_model.specs.declared.operators.Op.TheVariants.{Namc, Plain}
 use Rattle.b67_model.specs.declared.operators.Code.TheVariants.{Entr, Stff}
@@ -54,21 +54,6 @@ abbrev pub TasksFree : List Task → Type 0
 TasksFree tasks = S.TasksMade IsFree AnyMark free_operands tasks
 
 -- ---- a couple of level 0 and displacement 12
-
-one_bit : (bits : ℕ) → bits < 2 ^ 14 → level_of 1 bits ≡ 0 → bits % 2 ^ 13 ≡ 12 → bits ≡ 12
-one_bit bits small e d = omega (arith, small, e, d)
-
-two_bits : (bits : ℕ) → bits < 2 ^ 14 → level_of 2 bits ≡ 0 → bits % 2 ^ 12 ≡ 12 → bits ≡ 12
-two_bits bits small e d = omega (arith, small, e, d)
-
-three_bits : (bits : ℕ) → bits < 2 ^ 14 → level_of 3 bits ≡ 0 → bits % 2 ^ 11 ≡ 12 → bits ≡ 12
-three_bits bits small e d = omega (arith, small, e, d)
-
-four_bits : (bits : ℕ) → bits < 2 ^ 14 → level_of 4 bits ≡ 0 → bits % 2 ^ 10 ≡ 12 → bits ≡ 12
-four_bits bits small e d = omega (arith, small, e, d)
-
-five_bits : (bits : ℕ) → bits < 2 ^ 14 → level_of 5 bits ≡ 0 → bits % 2 ^ 9 ≡ 12 → bits ≡ 12
-five_bits bits small e d = omega (arith, small, e, d)
 
 couple_low : (bits level : ℕ) → bits < 2 ^ 14 → (couple bits level).level ≡ 0 → (couple bits level).disp ≡ 12 → bits ≡ 12
 couple_low bits level small e d = grind arith

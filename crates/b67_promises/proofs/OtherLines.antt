@@ -7,10 +7,9 @@ use Rattle.std.proofs.lemmas.Bool.{cases_Bool, lt-ltb, false≢true}
 use Rattle.std.proofs.lemmas.Grind.{flat_map-append}
 use Rattle.std.proofs.lemmas.List.Concat.{flat_map-cons}
 use Rattle.b67_io.specs.Line.{ended}
-use Rattle.b67_word.specs.declared.faults.Fault.{Fault}
 use Rattle.b67_word.specs.declared.faults.Ending.{Ending}
 use Rattle.b67_model.specs.Steps.{Line}
-use Rattle.b67_model.specs.Lines.{fault_name, ending_name, task_name, value_text, row_text, line_text}
+use Rattle.b67_model.specs.Lines.{ending_name, task_name, value_text, row_text, line_text}
 use Rattle.b67_model.specs.Common.{RunLine, run_text}
 use Rattle.b67_session_lines.specs.Stops.{halted_line}
 use Rattle.b67_image.specs.Parts.{parts_of}
@@ -47,9 +46,6 @@ value_other v = joined (codes " ") (signed_decimal v) (tested (codes " ") refl) 
 
 name_other : (job task : ℕ) → HasNoMark (task_name job task)
 name_other job task = joined (decimal job ++ codes ".") (decimal task) (joined (decimal job) (codes ".") (numeral job) (tested (codes ".") refl)) (numeral task)
-
-fault_other : (fault : Fault) → HasNoMark (fault_name fault)
-fault_other fault = grind arith
 
 ending_other : (ending : Ending) → HasNoMark (ending_name ending)
 ending_other ending = grind arith

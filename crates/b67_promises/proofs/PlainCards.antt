@@ -148,12 +148,6 @@ hex_text text e = grind arith
 needed : (b : Bool) → needs b 11 ≡ Ok tt → b ≡ true
 needed b e = grind arith
 
-hex_needed : (text : List ℕ) (a : Answer ⊤) → (a >> needs (is_hex text) 11) ≡ Ok tt → is_hex text ≡ true
-hex_needed text a e = grind arith
-
-first_hex : (c : Card) (cs : List Card) (u : ⊤) (a : Answer ⊤) → (of_card c.number a >> all_hexadecimal cs) ≡ Ok u → (a ≡ Ok tt) × (all_hexadecimal cs ≡ Ok u)
-first_hex c cs u a e = grind arith
-
 hex_cards_plain : (cs : List Card) (u : ⊤) → all_hexadecimal cs ≡ Ok u → AllByRecursion IsNoCommand (texts_of cs)
 hex_cards_plain [] u e = tt
 hex_cards_plain (c ∷ cs) u e = grind (arith, hex_text, hex_cards_plain cs u)

@@ -58,15 +58,6 @@ same_then xs ys zs h k = record { stacks = k.stacks ∙ h.stacks; quanta = k.qua
 behind_plain : (xs ys : List Command) (text : List ℕ) → SameRun (Plain text ∷ xs) ys → SameRun xs ys
 behind_plain xs ys text h = record { stacks = h.stacks; quanta = h.quanta; halts = h.halts; switches = h.switches; names = h.names }
 
-repeated_same : (xs ys : List Command) → SameRun xs ys → (c : Command) → is_repeated ys c ≡ is_repeated xs c
-repeated_same xs ys h c = grind arith
-
-rises_same : (xs ys : List Command) → SameRun xs ys → (c : Command) → rises ys c ≡ rises xs c
-rises_same xs ys h c = grind arith
-
-room_same : (xs ys : List Command) → SameRun xs ys → (c : Command) → has_room ys c ≡ has_room xs c
-room_same xs ys h c = grind arith
-
 placed_same : (xs ys : List Command) → SameRun xs ys → (s : Stand) (c : Command) → placed_by s (is_repeated ys c) (rises ys c) (has_room ys c) c ≡ placed_by s (is_repeated xs c) (rises xs c) (has_room xs c) c
 placed_same xs ys h s c = grind arith
 
@@ -139,9 +130,6 @@ led (c ∷ cs) more before a e =
     record { middle = rest.middle; reads_more = rest.reads_more; reads_other = λ other k. one_read before c (cs ++ other) r.0 r.1 (rest.reads_other other k) }
 
 -- ---- where a body begins, one of digits may begin
-
-hex_as_well : (s : Stand) → placed_by s false true (Ok tt) Asm ≡ Ok tt → placed_by s false true (Ok tt) Hex ≡ Ok tt
-hex_as_well s e = grind arith
 
 abbrev IsInBody : Stand → Type 0
 IsInBody InAsm = Unit {0}

@@ -10,7 +10,7 @@ use Rattle.b67_model_text.specs.declared.assembly.Statement as statement
 use Rattle.b67_model_text.specs.Answers.{Answer, ◌>>=◌, ◌>>◌, needs, or_reason}
 use Rattle.b67_model_text.specs.Deck.{Refusal, of_card}
 use Rattle.b67_model_text.specs.Statements.{line_with, lines_of}
-use Rattle.b67_model_text.specs.Asm.{definition, segments_behind, rows_behind, definitions, segment_count, meaning, label_at, syllable_after_card, labels, is_entry, is_head, own, with_cards, cards_of_segments, cards_of, Names, names_of, Scope, SegmentContent, content_of, row_values, row_words, is_numbers, is_code, is_segment_number, is_row_number, Part, segment_part, row_part, program_part, with_part, program_from, no_strays, assembled}
+use Rattle.b67_model_text.specs.Asm.{definition, segments_behind, rows_behind, definitions, segment_count, meaning, label_at, syllable_after_card, labels, is_entry, is_head, own, cards_of_segments, cards_of, Names, names_of, Scope, SegmentContent, content_of, row_values, row_words, is_numbers, is_code, is_segment_number, is_row_number, Part, segment_part, row_part, program_part, with_part, program_from, no_strays, assembled}
 use Rattle.b67_model_text.specs.Pass.{Added, added_by, syllable_behind, entries_behind, pass_content}
 use Rattle.b67_model_text.proofs.Pass.{content_is}
 
@@ -57,9 +57,6 @@ any_bare p same (l ∷ more) = ap (λ (b : Bool). b || list_any p (bare more)) (
 own_bare : (ls : List Line) → own (bare ls) ≡ bare (own ls)
 own_bare [] = refl
 own_bare (l ∷ more) = grind (arith, own_bare more)
-
-with_bare : (a : Answer statement.Statement) (cards : List Line) (rest : List (List Line)) → with_cards a (bare cards) (map bare rest) ≡ map bare (with_cards a cards rest)
-with_bare a cards rest = grind arith
 
 segments_bare : (ls : List Line) → cards_of_segments (bare ls) ≡ map bare (cards_of_segments ls)
 segments_bare [] = refl

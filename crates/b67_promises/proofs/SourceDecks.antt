@@ -13,7 +13,7 @@ use Rattle.b67_model_text.specs.Cards.{cards}
 use Rattle.b67_model_text.specs.Command.{Asm, Hex}
 use Rattle.b67_model_text.specs.Hex.{digit_bytes, hex_cards}
 use Rattle.b67_model_text.specs.Deck as deck
-use Rattle.b67_model_text.specs.Deck.{Said, deck_of, body, bytes_in, plain_cards, hexadecimal_cards, all_hexadecimal}
+use Rattle.b67_model_text.specs.Deck.{Said, deck_of, body, bytes_in, plain_cards}
 use Rattle.b67_model_text.specs.Asm.{assembled, version_of}
 use Rattle.b67_codefile.specs.declared.fault.BadFile.{BadFile}
 use Rattle.b67_codefile.specs.declared.file.Codefile.{Codefile}
@@ -150,9 +150,6 @@ pub record Converts (source printed : List ℕ) : Type 0 where
   pub plain : (n : ℕ) → AllByRecursion IsNoCommand (texts_of (cards_at n (lines source)))
   pub holds : file_of (bytes_in (cards source)) ≡ Ok file
   pub is : printed ≡ hex_lines (spelling (record file { version = 2 }))
-
-hexadecimal_are : (source : List ℕ) (cs : List Card) → hexadecimal_cards source ≡ Ok cs → (u : ⊤) × (all_hexadecimal (cards source) ≡ Ok u) × (cs ≡ cards source)
-hexadecimal_are source cs e = grind arith
 
 pub converts : (source printed : List ℕ) → convert_verdict source ≡ Ok printed → Converts source printed
 unfolding convert_verdict

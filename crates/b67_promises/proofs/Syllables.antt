@@ -11,7 +11,6 @@ use Rattle.b67_model.specs.declared.operators.Code.{Code}
 use Rattle.b67_model.specs.Common.{has_bits, literal, syllable_of, syllables}
 use Rattle.b67_codefile.specs.Spelling.{HasTag, AreWordsOfTag}
 use Rattle.b67_model_text.specs.declared.assembly.Call as call
-use Rattle.b67_model_text.specs.declared.assembly.Branch as branch
 use Rattle.b67_model_text.specs.declared.assembly.Sketch as sketch
 use Rattle.b67_model_text.specs.declared.assembly.Sketch.TheVariants.{Whole, OutOfRange, Couple as Coupled, Row as RowCoupled, Jump, Pcw, PcwAt}
 use Rattle.b67_model_text.specs.declared.assembly.Statement as statement
@@ -20,7 +19,7 @@ use Rattle.b67_model_text.specs.declared.assembly.Line.{Line}
 use Rattle.b67_model_text.specs.Answers.{Answer}
 use Rattle.b67_model_text.specs.Encoding.{six_syllables, literal_part, laid_one, laid, packed_words, code_words}
 use Rattle.b67_model_text.specs.Statements.{segment, row}
-use Rattle.b67_model_text.specs.Asm.{Scope, SegmentContent, after_operator, is_in_range, call_operator, branch_to, denoted, is_code, is_numbers, is_entry_card, own}
+use Rattle.b67_model_text.specs.Asm.{Scope, SegmentContent, after_operator, is_in_range, call_operator, denoted, is_code, is_numbers, is_entry_card, own}
 use Rattle.b67_model_text.specs.Pass.{Added, with_added, syllable_behind, entries_behind, pass_content}
 use Rattle.b67_model_text.proofs.Contents.{Adds, headed}
 use Rattle.b67_law_listing.proofs.Packing.{packed_length}
@@ -52,9 +51,6 @@ by_bits op h = grind arith
 
 called_bytes : (c : call.Call) (bits : ℕ) → HasBytes (call_operator c bits)
 called_bytes c bits = grind arith
-
-branch_bytes : (b : branch.Branch) (n : ℕ) → HasBytes (branch_to b n)
-branch_bytes b n = grind arith
 
 denoted_bytes : (x : Scope) (s : sketch.Sketch) (op : Op) → is_in_range s ≡ true → denoted x s ≡ Some op → HasBytes op
 denoted_bytes x (Whole own) op r e = subst HasBytes (same_Some own op e) (by_bits own r)

@@ -1,8 +1,7 @@
 -- Switches matter only where two tasks are ready at once.
-use Rattle.std.proofs.Common.{◌≡◌, ◌≤◌, ◌<◌, ◌+◌, ℕ, zero, suc, Bool, true, not, ◌&&◌, ◌||◌, ◌==◌, List, [], ◌∷◌, ◌++◌, length, filter, find, refl, ap, subst, ◌∙◌, arith, ◌⊎◌, inl, inr, Option, Some, None}
+use Rattle.std.proofs.Common.{◌≡◌, ◌≤◌, ◌<◌, ◌+◌, ℕ, zero, suc, ◌&&◌, ◌||◌, ◌==◌, List, [], ◌∷◌, ◌++◌, length, refl, ap, subst, ◌∙◌, arith, ◌⊎◌, inl, inr, Option, Some, None}
 use Rattle.std.specs.Prelude.{flat_map}
-use Rattle.std.specs.List.{list_any}
-use Rattle.b67_model.specs.Common.{SessionJob, Who, Session, Choice, Switch, is_same, is_before, ready_of, ready, first, choice, RunLine, StepResult, moment_by, moment_for, next, lines_from, after, after_from}
+use Rattle.b67_model.specs.Common.{SessionJob, Who, Session, Choice, ready_of, ready, choice, RunLine, StepResult, moment_by, moment_for, next, lines_from, after, after_from}
 use Rattle.b67_promises.specs.Switches.{DifferInTurns, NeverTwoReady, SwitchesNeedTwo, RunsNeedTwo}
 
 -- ---- one ready task is chosen
@@ -11,18 +10,6 @@ use Rattle.b67_promises.specs.Switches.{DifferInTurns, NeverTwoReady, SwitchesNe
 abbrev IsOnly : Option Choice → Who → Type 0
 IsOnly None who = ⊥
 IsOnly (Some c) who = c.who ≡ who
-
-same_who : (a b : Who) → is_same a b ≡ true → a ≡ b
-same_who a b e = grind arith
-
-only_next : (last who : Who) → first (filter (is_before last) (who ∷ []) ++ filter (λ w. not (is_before last w)) (who ∷ [])) ≡ Some who
-only_next last who = grind arith
-
-only_switched : (switches : List Switch) (made : ℕ) (who : Who) (o : Option Who) → find (λ w. list_any (λ switch. (switch.count == made) && is_same switch.to w) switches) (who ∷ []) ≡ o → (o ≡ None) ⊎ (o ≡ Some who)
-only_switched switches made who o e = grind arith
-
-only_goes_on : (last who : Who) (b : Bool) → (list_any (is_same last) (who ∷ []) && b) ≡ true → last ≡ who
-only_goes_on last who b e = grind arith
 
 only_chosen : (s : Session) (who : Who) → ready s ≡ who ∷ [] → IsOnly (choice s) who
 only_chosen s who e = grind arith

@@ -5,11 +5,11 @@ use Rattle.std.specs.Int.{w8, w16, w64, to_be_bytes}
 use Rattle.std.specs.List.{AllByRecursion, flat_map, list_any}
 use Rattle.std.proofs.lemmas.Bool.{ltb-true, or_parts}
 use Rattle.std.proofs.lemmas.List.{length-append, length-map}
-use Rattle.b67_word.specs.Tagged.{Tagged, word}
+use Rattle.b67_word.specs.Tagged.{word}
 use Rattle.b67_model.specs.Common.{Program}
 use Rattle.b67_codefile.specs.declared.file.Segment.{Segment}
 use Rattle.b67_codefile.specs.declared.file.Codefile.{Codefile}
-use Rattle.b67_codefile.specs.Spelling.{word_bytes, row_bytes, entry_bytes, segment_bytes, spelling, IsFileSegment, IsRow, HasNoEntries, IsWithin}
+use Rattle.b67_codefile.specs.Spelling.{spelling, IsFileSegment, IsRow, HasNoEntries, IsWithin}
 use Rattle.b67_model_text.specs.declared.card.Card.{Card}
 use Rattle.b67_model_text.specs.declared.assembly.Statement as statement
 use Rattle.b67_model_text.specs.declared.assembly.Statement.TheVariants as statements
@@ -35,9 +35,6 @@ use Rattle.b67_model.specs.declared.limits.TheConstants.{MOST_ARRAY}
 
 not_true : (b : Bool) → not b ≡ true → b ≡ false
 not_true b e = grind arith
-
-not_false : (b : Bool) → not b ≡ false → b ≡ true
-not_false b e = grind arith
 
 values_small : (vs : List (Option ℕ)) → list_any (λ v. not (is_word v)) vs ≡ false → AllByRecursion IsSmallWord (map value_in vs)
 values_small [] e = tt
@@ -204,12 +201,6 @@ program_fits names segments s r (l ∷ more) p small few e =
 abbrev version_by : Bool → ℕ
 version_by b = cond b 2 1
 
-version_either : (b : Bool) → (version_by b ≡ 1) ⊎ (version_by b ≡ 2)
-version_either b = grind arith
-
-version_plain : (b : Bool) → version_by b ≡ 1 → b ≡ false
-version_plain b e = grind arith
-
 -- the codefile of assembled cards is within its limits
 pub assembled_within : (cards : List Card) (p : Program) → assembled cards ≡ Ok p → IsWithin (codefile_of (version_of cards) p)
 assembled_within cards p e =
@@ -232,15 +223,6 @@ two_bytes n = (omega arith, (omega arith, tt))
 
 one_byte : (n : ℕ) → Bytes (to_be_bytes w8 n)
 one_byte n = (omega arith, tt)
-
-row_all : (ws : List Tagged) → Bytes (row_bytes ws)
-row_all ws = bytes_append (to_be_bytes w16 (length ws)) (flat_map word_bytes ws) (two_bytes (length ws)) (flat_bytes word_bytes (λ w. eight_bytes (w.tag * 2 ^ 48 + w.bits)) ws)
-
-entry_all : (version : ℕ) (entries : List ℕ) → Bytes (entry_bytes version entries)
-entry_all version entries = grind (arith, flat_bytes)
-
-segment_all : (version : ℕ) (s : Segment) → Bytes (segment_bytes version s)
-segment_all version s = grind (arith, bytes_append, entry_all, row_all)
 
 pub spelled_bytes : (f : Codefile) → Bytes (spelling f)
 spelled_bytes f = grind (arith, bytes_append, flat_bytes)

@@ -80,9 +80,6 @@ module _ (core : List Tagged) (r : Regs) (a : RunningContext core r) where
     abbrev pub address_at : ℕ → ℕ
     address_at n = frame_address a.plan a.member a.task (frame_at (here a.member a.task q) n).identity
 
-    pub top_address : address_at level ≡ frame_address a.plan a.member a.task (running a.task.frames).identity
-    top_address = let e : level - level ≡ 0 = omega arith in ap (λ (i : ℕ). frame_address a.plan a.member a.task (outward (here a.member a.task q) i (running a.task.frames)).identity) e
-
     pub mark_of_level : (n : ℕ) → suc n ≤ level → MarkOf core r (live_of a) (frame_at (here a.member a.task q) (suc n)).identity (frame_at (here a.member a.task q) (suc n)).standing
     mark_of_level n up = grind (arith, level_at, mark)
 

@@ -58,9 +58,6 @@ fields far entered stack disp value level back far' entered' stack' disp' value'
 flag_small : (b : Bool) → flag_bit b < 2
 flag_small b = grind arith
 
-one_flag : (b d : Bool) → flag_bit b ≡ flag_bit d → b ≡ d
-one_flag b d e = grind arith
-
 -- the mark of a word is one
 pub one_mark : (m n : Mscw) → IsMscw m → IsMscw n → mscw_word m ≡ mscw_word n → (m.env_stack ≡ n.env_stack) × (m.env_disp ≡ n.env_disp) × (m.level ≡ n.level) × (m.entered ≡ n.entered)
 one_mark m n fm fn e = grind (arith, flag_small)

@@ -20,16 +20,8 @@ use Rattle.b67_refer.specs.LiveCells.{reach, StandsFor, IsCellAt}
 use Rattle.b67_refer.specs.LiveEnds.{EndMeets, LinkMeets, on_link}
 use Rattle.b67_refer.specs.Ends.{IsCopyOf, HasTagAt}
 use Rattle.b67_refer.proofs.Bases.{viewed}
-use Rattle.b67_refer.proofs.Chains.{level}
-
--- the word of a procedure isn't that of an intrinsic
-pub not_intrinsic : (syllable place level segment number : ℕ) → syllable < 8 → place < 2 ^ 13 → level ≤ 31 → segment < 2 ^ 14 → number < 2 ^ 14 → syllable * 2 ^ 33 + place * 2 ^ 20 + level * 2 ^ 14 + segment ≡ 2 ^ 19 + number → ⊥
-not_intrinsic syllable place level segment number a b c d e z = omega arith
 
 module _ (core : List Tagged) (r : Regs) (a : LiveContext core r) where
-  -- an original that is named in a frame of the reach
-  named_original : (f array : ℕ) → NamesEntered (reach a) f → OwnsArray a.member.progress.job.arrays f array → NamesArray a.member.progress.job.arrays (reach a) array
-  named_original f array n o = grind arith
 
   -- a copy by its descriptor
   pub copy_of : (c : Copied) (home : ℕ) (v : Tagged) (d : DataDesc) → IsDataDesc d → v ≡ data_word d → IsCopy a.storage.held c home v → IsCopyOf core d home

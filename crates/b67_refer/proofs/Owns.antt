@@ -1,7 +1,7 @@
 -- Ends that are told by the first cell.
-use Rattle.std.proofs.Common.{◌≡◌, ℕ, ◌-◌, ◌<◌, List, Option, Some, None, Result, Ok, Err, refl, sym, ◌∙◌, ap, arith, subst, length}
+use Rattle.std.proofs.Common.{◌≡◌, ℕ, ◌-◌, ◌<◌, List, Option, Some, None, Result, Ok, Err, refl, sym, ◌∙◌, arith, subst, length}
 use Rattle.std.specs.List.{slice_get}
-use Rattle.std.proofs.lemmas.Option.{same_Some, slice_get_within}
+use Rattle.std.proofs.lemmas.Option.{slice_get_within}
 use Rattle.b67_word.specs.Tagged.{Tagged}
 use Rattle.b67_word.specs.declared.couples.Place.{Place}
 use Rattle.b67_ctl.specs.declared.registers.Regs.{Regs}
@@ -22,8 +22,6 @@ use Rattle.b67_refer.proofs.Names.{Rest, Turn, turn, turn_end, turn_fault, turn_
 
 -- a reference to a cell whose word has tag 0 leads to that operand's cell
 module _ (core : List Tagged) (r : Regs) (a : RunningContext core r) (q : Place) where
-  cell_tag : (at f offset n : ℕ) (w : Word) (i : live.IsCellAt (live_of a) q at f offset w) → HasTagAt core at n → i.word.tag ≡ n
-  cell_tag at f offset n w i t = ap (λ (x : Tagged). x.tag) (same_Some _ _ (sym i.there ∙ t.1)) ∙ t.2
 
   operand_link : (at f offset : ℕ) (w : Word) → live.IsCellAt (live_of a) q at f offset w → HasTagAt core at 0 → LinkMeets (live_of a) q (Ok (Some (end.Cell at))) (link_at (here a.member a.task q) f offset w)
   operand_link at f offset w i t = grind arith

@@ -18,7 +18,7 @@ use Rattle.b67_model.specs.Common.{Answer, Word, Operand, Name, Ref, Row, Elemen
 use Rattle.b67_model.specs.Words as Words
 use Rattle.b67_model.specs.State as State
 use Rattle.b67_law_order.proofs.Reaches.{Wider, word_wider}
-use Rattle.b67_stack.specs.Common.{Locations, Shape, Is, Fits, LieDownward, StackPlace, Head, Activation, head_size, stack_words, headed, words}
+use Rattle.b67_stack.specs.Common.{Locations, Shape, Is, Fits, LieDownward, StackPlace, stack_words, headed, words}
 use Rattle.b67_stack.proofs.Lies.{Lie-under}
 use Rattle.b67_stack.proofs.Heights.{words-length}
 use Rattle.b67_layout.specs.Common.{Placement, spot_in, spots, address_of, shape, head, frame_address, here}
@@ -89,12 +89,6 @@ module _ (core : List Tagged) (r : Regs) (a : LiveContext core r) where
   pub word_stands : (at owner : ℕ) (v : Tagged) (w : Word) → Fits a.storage.held (shape a.plan a.member.constants.number a.member.progress.job (spots a.plan a.member.constants.number a.member.progress.job a.task) w) at v
       → WordInOrder (IsSegment a.member.constants) a.member.progress.job.arrays (reach_of a.member.progress.job a.task) owner w → StandsFor a at owner v w
   word_stands at owner v w f o = grind arith
-
-  head_high : (k : ℕ) (outer : ℕ → StackPlace) (s : Standing) (below : List Activation) (under : List Frame) → IsEntered s → head_size (head (spot_in k outer under) s) ≡ 2
-  head_high k outer s below h e = grind arith
-
-  headed_high : (k : ℕ) (h : Head) (below : List Activation) (under : List Shape) → length (headed k h below under) ≡ head_size h + length under
-  headed_high k h below e = grind arith
 
   module _ (q : Place) (f : ℕ) (s : Standing) (b : Seat core r a (spots a.plan a.member.constants.number a.member.progress.job a.task) (reach_of a.member.progress.job a.task) f s) (e : IsEntered s) (own : 1 < f) where
     -- the address of the frame's mark

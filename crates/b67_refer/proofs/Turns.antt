@@ -22,9 +22,6 @@ use Rattle.b67_refer.proofs.Chains.{Reads}
 marked_only : (k : ℕ) (spot : ℕ → StackPlace) (s : Standing) (below : List Activation) → (mark_of k (head spot s) below).entered ≡ false → s ≡ State.Marked
 marked_only k spot s below e = grind arith
 
-entered_only : (k : ℕ) (spot : ℕ → StackPlace) (s : Standing) (below : List Activation) (f next : Frame) → (mark_of k (head spot s) below).entered ≡ true → running_from s f next ≡ f
-entered_only k spot s below f next e = grind arith
-
 pub back_of : (k : ℕ) (spot : ℕ → StackPlace) (s : Standing) (below : List Activation) → (mark_of k (head spot s) below).back ≡ top_size below
 back_of k spot s below = grind arith
 

@@ -33,9 +33,6 @@ use Rattle.b67_refer.proofs.Founds.{task_misses, task_marks, task_lands}
 two_words : (spot : ℕ → StackPlace) (s : Standing) → head_size (head spot s) ≤ 2
 two_words spot s = grind arith
 
-entered_words : (spot : ℕ → StackPlace) (s : Standing) → IsEntered s → head_size (head spot s) ≡ 2
-entered_words spot s e = grind arith
-
 -- a mark's word tells whether it is entered
 same_mark : (k i : ℕ) (spot seen : ℕ → StackPlace) (s t : Standing) (below under : List Activation) → IsEntered s → IsMscw (mark_of i (head seen t) under)
     → mscw_word (mark_of k (head spot s) below) ≡ mscw_word (mark_of i (head seen t) under) → IsEntered t

@@ -1,7 +1,6 @@
 -- A step that is made and goes on leaves areas where they are.
 use Rattle.std.proofs.Common.{◌≡◌, ◌≢◌, ◌+◌, ◌≤◌, ℕ, List, Option, Some, None, Result, Ok, Err, refl, sym, ap, ◌∙◌, subst, arith}
 use Rattle.std.proofs.lemmas.Option.{none-some}
-use Rattle.b67_word.specs.declared.faults.Ending.{Ending}
 use Rattle.b67_word.specs.declared.faults.Failed.{Failed}
 use Rattle.b67_model.specs.Common.{IsInOrderButPlaces, StepResult, Session, Ready, Task, Job, SessionJob, Line, Goes, step, next}
 use Rattle.b67_model.specs.Run.{after_from}
@@ -27,7 +26,6 @@ use Rattle.b67_mcp.specs.Called.{IsCalled, HoldsOther, is_emptied, is_resized, i
 use Rattle.b67_session.specs.AttemptStops.{Stop}
 use Rattle.b67_session.specs.declared.outcomes.Attempt.{Attempt}
 use Rattle.b67_session.specs.declared.outcomes.Attempt.TheVariants as attempts
-use Rattle.b67_session.specs.Tries.{EndsSo}
 use Rattle.b67_session.specs.Attempts.{WantsNothing, KeepsAreas, AddsNoArea, CallKeepsAreas, EndsByRow, TablesStay}
 use Rattle.b67_session.specs.Slices.{GoesOnAlone, StepKeepsAreas, GoesOnWith, of_record, by_call, StepLeaves}
 use Rattle.b67_session.proofs.StepsLeave.{EndsEach, rests}
@@ -128,8 +126,6 @@ module _ {K : Type 0} (taken : K → Option (List ℕ)) (s : Session) (m : Sessi
 
 -- a step that goes on doesn't end its task, and doesn't make it wait
 module _ (plan : Placement) (m : SessionJob) (t : Task) (job : Job) (printed : List Line) (touched : Option ℕ) (is : step m.constants m.progress.job t ≡ Ok (Goes job printed touched)) where
-  not_ended : (ending : Ending) → EndsSo m t ending → ⊥
-  not_ended ending e = grind arith
 
   pub goes_on_only : (outcome : Attempt) → outcome ≢ attempts.Made → EndsByRow plan m t (Ok outcome) → ⊥
   goes_on_only outcome other so = grind arith

@@ -42,9 +42,6 @@ retold_twice d told told' h = grind arith
 retold_some : (d told : Told) → (d ≢ None → told ≢ None) → d ≢ None → content_after d told ≢ None
 retold_some d told h n = grind arith
 
-retold_back : (d told : Told) → content_after d told ≢ None → d ≢ None
-retold_back d told n = grind arith
-
 -- a device that told goes on to tell
 pub goes_on_telling : (d told told' : Told) → Says d told → ((all : List (List ℕ)) → told ≡ Some all → (y : List (List ℕ)) × (told' ≡ Some y)) → d ≢ None → told' ≢ None
 goes_on_telling d told told' says each n = grind arith
@@ -211,10 +208,6 @@ hole_for x plan s m t o runs found words wanted touched h = grind (arith, same_a
 pub room_after_want : (core size : ℕ) (x : Storage) (plan : Placement) (s : Session) (m : SessionJob) (t : Task) (stop : Stop) → size ≡ core → stop ≢ stops.PrintFault → BroughtFits size x plan s m t (Err stop) → AttemptFits core x plan s m t (Err stop)
 room_after_want core size x plan s m t stop e h fits = grind arith
 
--- where the segment is present in one storage, it may be asked about another
-fits_from : (core : ℕ) (x y : Storage) (plan : Placement) (s : Session) (m : SessionJob) (t : Task) (answered : Result Attempt Stop) → code_area y plan m t ≢ None → AttemptFits core y plan s m t answered → AttemptFits core x plan s m t answered
-fits_from core x y plan s m t answered code fits = grind arith
-
 -- over a device that tells, a task ends as its step says
 pub ends_exact : (exact : Type 0) (m : SessionJob) (t : Task) (ending : Ending) → exact → EndsWithin exact m t ending → EndsSo m t ending
 ends_exact exact m t ending tells h = grind arith
@@ -290,10 +283,6 @@ module _ (x : Storage) (told : Told) (k : Machine) (plan : Placement) (s : Sessi
   nothing : (wanted : What) (words : ℕ) → code_area x plan m t ≢ None → IsWanted x plan m t wanted words → IsWantedByStep plan m t wanted words → Brings x told k plan s m t wanted → (c : Brings x told k plan s m t wanted) → WantsNothing c.again.storage plan m t
   nothing (what.Code displacement) words code w touched c d = absurd (code w.1)
   nothing (what.Array home) words code w touched c d = grind arith
-
-  -- what was brought into a hole was the one thing that was wanted
-  wants_no_more : (wanted : What) (words : ℕ) → HoleFits x plan m t → IsWanted x plan m t wanted words → IsWantedByStep plan m t wanted words → (c : Brings x told k plan s m t wanted) → AreasStay x c.again.storage → WantsNothing c.again.storage plan m t
-  wants_no_more wanted words fits w touched c stay = grind arith
 
   pub then_nothing : (words : ℕ) → HoleFits x plan m t → IsWanted x plan m t found words → IsWantedByStep plan m t found words → AreasStay x b.again.storage → x.device ≢ None → WantsNothing b.again.storage plan other.member t
   then_nothing words fits w touched stay tells = grind (arith, member_is)

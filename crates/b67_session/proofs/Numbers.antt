@@ -32,9 +32,6 @@ module _ (core : ℕ) (s : Session) (m : SessionJob) (t : Task) (low : live_task
   base_is : base ≡ need_with s m t 0 0
   base_is = rw peak_is (omega arith)
 
-  whole_is : (n area : ℕ) → n ≡ 0 → fixed s.jobs + max s.peak (live_tasks s.jobs + n) * m.constants.stack_size + (length (code_of m.constants t.segment) + 2) + area ≡ base + area
-  whole_is n area e = ap (λ (k : ℕ). fixed s.jobs + max s.peak (live_tasks s.jobs + k) * m.constants.stack_size + (length (code_of m.constants t.segment) + 2) + area) e ∙ rw peak_is refl
-
   -- the code isn't there
   pub need_code : core < need_with s m t 0 0 → need core s m t ≡ need_with s m t 0 0
   need_code above = grind arith
@@ -47,10 +44,6 @@ module _ (core : ℕ) (s : Session) (m : SessionJob) (t : Task) (low : live_task
   -- core has room for the code where it has for the step
   pub code_of_step : need core s m t ≤ core → need_with s m t 0 0 ≤ core
   code_of_step fits = grind arith
-
--- and where it has for an array beside it
-pub code_beside : (core : ℕ) (s : Session) (m : SessionJob) (t : Task) (words : ℕ) → need_with s m t 0 words ≤ core → need_with s m t 0 0 ≤ core
-code_beside core s m t words fits = let none : array_area 0 ≡ 0 = refl in omega (arith, fits, none)
 
 -- an array of a job, by its identity
 array_is : (job : Job) (a : Array) → keyed (λ (z : Array). z.identity) a.identity job.arrays ≡ Some a → array job a.identity ≡ a

@@ -30,11 +30,6 @@ unchanged : (x : Storage) (told : Option (List (List ℕ))) (plan : Placement) (
     → answered ≢ answers.Done → step m.constants m.progress.job t ≡ answer → Meets x plan s m answered old.cpu new answer → StepMakes x told plan s m t answered old (record old { cpu = new })
 unchanged x told plan s m t answered old new answer ne is made = grind arith
 
--- nor is core longer
-unchanged_length : (x : Storage) (plan : Placement) (s : Session) (m : SessionJob) (answered : Step) (old new : Cpu) (answer : Answer Result) → RepresentsSession x old plan s → Meets x plan s m answered old new answer
-    → length new.core ≡ length old.core
-unchanged_length x plan s m answered old new answer h made = grind arith
-
 called_length : (x : Storage) (plan : Placement) (s : Session) (m : SessionJob) (answered : Step) (old new : Cpu) (calls : Option ℕ) (answer : Answer Result) → RepresentsSession x old plan s
     → CallsOrMeets x plan s m answered old new calls answer → length new.core ≡ length old.core
 called_length x plan s m answered old new calls answer h made = grind arith

@@ -2,7 +2,6 @@
 use Rattle.std.proofs.Common.{◌≡◌, ◌≢◌, ℕ, ◌-◌, List, [], ◌∷◌, map, length, Some, refl, sym, ◌∙◌, ap, arith, inl, inr}
 use Rattle.std.specs.Prelude.{◌==◌, if◌then◌else◌}
 use Rattle.std.proofs.lemmas.Bool.{cases_Bool}
-use Rattle.std.proofs.lemmas.Bool.Decides.{eqb_tells}
 use Rattle.std.proofs.lemmas.List.{length-reverse}
 use Rattle.std.proofs.Math.ListN.{length-set}
 use Rattle.b67_model.specs.Common.{Word, Standing, Frame, Task, height, words_of, with_top_cells, below_top, top, with_cell_of, from_frame}
@@ -20,17 +19,9 @@ places (f ∷ below) = (f.identity, height below) ∷ places below
 pub top_from : (c : ℕ) (fs : List Frame) (cells : List Word) → places (from_frame c (with_top_cells fs cells)) ≡ places (from_frame c fs)
 top_from c fs cells = grind arith
 
--- a frame more of another identity
-pub push_from : (c : ℕ) (g : Frame) (fs : List Frame) → g.identity ≢ c → from_frame c (g ∷ fs) ≡ from_frame c fs
-push_from c g fs ne = elim (eqb_tells g.identity c) [ inl e ↦ absurd (ne e.1) | inr e ↦ rw e.0 refl ]
-
 -- the frames below the top one, which has another identity
 pub drop_from : (c : ℕ) (fs : List Frame) → (fs ≢ [] → (top fs).identity ≢ c) → from_frame c (below_top fs) ≡ from_frame c fs
 drop_from c fs ne = grind arith
-
--- another frame of the top one's identity in its place
-pub change_from : (c : ℕ) (g f : Frame) (below : List Frame) → g.identity ≡ f.identity → places (from_frame c (g ∷ below)) ≡ places (from_frame c (f ∷ below))
-change_from c g f below e = grind arith
 
 pub enter_from : (c : ℕ) (fs : List Frame) (standing : Standing) (cells : List Word) → fs ≢ [] → places (from_frame c (record (top fs) { standing = standing; cells = cells } ∷ below_top fs)) ≡ places (from_frame c fs)
 enter_from c fs standing cells some = grind arith

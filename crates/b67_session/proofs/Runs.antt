@@ -27,10 +27,6 @@ ready_over k told r = record {
   ready = r.ready;
 }
 
--- a count that rose later
-pub rose_later : {D : Type 0} (faults : D → ℕ) (old mid new : D) → faults old ≤ faults mid → Rose faults mid new → Rose faults old new
-rose_later faults old mid new a b = omega (arith, a, b)
-
 -- a stop of another call
 pub caused_stop : {B K A C : Type 0} (failed : B → ℕ) (unprinted : K → ℕ) (old new : B) (paper paper' : K) (stop : Stop) → CallCauses {A = A} failed unprinted old new paper paper' (Err stop) → CallCauses {A = C} failed unprinted old new paper paper' (Err stop)
 caused_stop {B} {K} {A} {C} failed unprinted old new paper paper' stop h = grind arith

@@ -1,9 +1,9 @@
 -- A step that touches an array starts no task.
-use Rattle.std.proofs.Common.{◌≡◌, ℕ, ◌+◌, ltb, leb, List, [], ◌∷◌, length, Option, Some, None, Ok, Err, sym, ◌∙◌, ap, arith, ℤ}
+use Rattle.std.proofs.Common.{◌≡◌, ℕ, ◌+◌, ltb, leb, List, [], ◌∷◌, length, Option, Some, None, Ok, Err, sym, ◌∙◌, ap, arith}
 use Rattle.std.proofs.lemmas.List.{length-map}
 use Rattle.b67_word.specs.declared.faults.Fault.TheVariants.{StackOverflow}
 use Rattle.b67_model.specs.declared.operators.Op.{Op}
-use Rattle.b67_model.specs.Common.{Answer, needs, Word, Operand, Reading, Standing, Task, JobConstants, Job, SessionJob, OperatorContext, array, End, AtCell, AtElement, AtArray, AtProc, AtIntrinsic, Line, Done, Goes, Leaves, Waits, result, needs_level, answered, answers, arraydec, print, printrow, read, child_of, starts, process, awaits, await, status, waits_at, wait, causes, cause, deallocate, resize, intrinsic, touched_of, started_by, entr_at, entr_with, entr, row, reading_of, step_by, step, called}
+use Rattle.b67_model.specs.Common.{Answer, needs, Word, Operand, Reading, Standing, Task, JobConstants, Job, SessionJob, OperatorContext, array, End, AtCell, AtElement, AtArray, AtProc, AtIntrinsic, Line, Done, Goes, Leaves, Waits, result, needs_level, answered, answers, arraydec, print, printrow, read, child_of, starts, process, await, status, wait, cause, deallocate, resize, intrinsic, touched_of, started_by, entr_at, entr_with, entr, row, reading_of, step_by, step, called}
 use Rattle.b67_model.specs.Keyed.{keyed}
 use Rattle.b67_law_order.proofs.Posts.{Post, post_ok, post_err, post_then, post_if, post_more, post_is}
 use Rattle.b67_layout.specs.Placement.{Placement}
@@ -54,23 +54,14 @@ module _ (n : ℕ) where
   process_quiet : (h : OperatorContext) (arguments : List Word) → Post (Quiet n) (process h arguments)
   process_quiet h arguments = grind (arith, starts_quiet)
 
-  awaits_quiet : (h : OperatorContext) (v : ℤ) → Post (Quiet n) (awaits h v)
-  awaits_quiet h v = grind arith
-
   await_quiet : (h : OperatorContext) (arguments : List Word) → Post (Quiet n) (await h arguments)
   await_quiet h arguments = grind arith
 
   status_quiet : (h : OperatorContext) (arguments : List Word) → Post (Quiet n) (status h arguments)
   status_quiet h arguments = grind arith
 
-  waits_at_quiet : (h : OperatorContext) (end : End) → Post (Quiet n) (waits_at h end)
-  waits_at_quiet h end = grind arith
-
   wait_quiet : (h : OperatorContext) (arguments : List Word) → Post (Quiet n) (wait h arguments)
   wait_quiet h arguments = grind arith
-
-  causes_quiet : (h : OperatorContext) (end : End) → Post (Quiet n) (causes h end)
-  causes_quiet h end = grind arith
 
   cause_quiet : (h : OperatorContext) (arguments : List Word) → Post (Quiet n) (cause h arguments)
   cause_quiet h arguments = grind arith

@@ -80,9 +80,6 @@ stops-with r status text (halted e h) = e ∙ sym (halted-status r text h)
 
 -- ---- one text
 
-same-some : (a b : ℕ) (o : Option ℕ) → o ≡ Some a → o ≡ Some b → a ≡ b
-same-some a b o e f = cc
-
 one-end : (r : Run) (text text' : List ℕ) → IsFinished r text → IsFinished r text' → text ≡ text'
 one-end r text text' f g = grind (arith, over-lines)
 

@@ -1,13 +1,11 @@
 -- Objects that were written to free sectors stand at rest.
-use Rattle.std.proofs.Common.{◌≡◌, ℕ, ◌-◌, ◌%◌, ◌<◌, ◌≤◌, ◌^◌, List, [], length, map, Option, Some, None, sym, ◌∙◌, ap, subst, arith, inl, ⊎_elim}
+use Rattle.std.proofs.Common.{◌≡◌, ℕ, ◌-◌, ◌%◌, ◌<◌, ◌≤◌, ◌^◌, List, [], length, Option, Some, sym, ◌∙◌, ap, subst, arith, inl, ⊎_elim}
 use Rattle.std.specs.List.{slice_get}
 use Rattle.b67_word.specs.Tagged.{Tagged}
-use Rattle.b67_word.specs.Numbers.{number}
-use Rattle.b67_area.specs.Spans.{area_at, left}
 use Rattle.b67_area.specs.declared.Kind.{Kind}
 use Rattle.b67_backing.specs.Shelf.{Table, Shelf, IsShelf, first, chain_of}
 use Rattle.b67_lemmas.specs.Lists.{Has}
-use Rattle.b67_stack.specs.Common.{PagedObject, home_word_of, home_word, object_words, Storage, Told, HoldsIn, RepresentsObject, Owned, at_rest}
+use Rattle.b67_stack.specs.Common.{PagedObject, home_word_of, home_word, Storage, HoldsIn, RepresentsObject, Owned, at_rest}
 use Rattle.b67_load.specs.Objects.{sectors_of_objects}
 use Rattle.b67_load.specs.StoredObjects.{StoredObject, placed, stocked, DescriptorsStand, WritesFreeSectors}
 use Rattle.b67_load.proofs.Shelves.{Apart, placed_chain, placed_object}
@@ -29,13 +27,6 @@ pub record Stored (core : List Tagged) (old new : Table) (st : Shelf) (ts : List
 -- the sector that a descriptor names
 named : (kind : Kind) (n f : ℕ) → f < 2 ^ 20 → (home_word_of kind n (at_rest f)).bits % 2 ^ 20 ≡ f
 named kind n f h = grind arith
-
-pub no_areas : (low n at : ℕ) → area_at low (left n []) at ≡ None
-no_areas low n at = grind arith
-
-told_words : (before now : Option (List (List ℕ))) (r : StoredObject) (ts : List PagedObject) (free : List ℕ) → Has (placed ts free) r →
-    ((a : List (List ℕ)) → before ≡ Some a → (b : List (List ℕ)) × (now ≡ Some b) × WritesFreeSectors ts free a b) → Told (content_after before now) r.chain (map number (object_words r.object))
-told_words before now r ts free h stocks = grind arith
 
 module _ (core : List Tagged) (low : ℕ) (old new : Table) (st : Shelf) (ts : List PagedObject) (before now : Option (List (List ℕ))) (stored : Stored core old new st ts before now) where
   abbrev x : Storage

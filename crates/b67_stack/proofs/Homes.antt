@@ -12,7 +12,7 @@ use Rattle.b67_area.specs.declared.Kind.{Kind}
 use Rattle.b67_area.specs.declared.Kind.TheVariants.{Array, Row, Code}
 use Rattle.b67_area.proofs.Laws.{area_inside}
 use Rattle.b67_lemmas.specs.Lists.{Has}
-use Rattle.b67_stack.specs.Common.{Location, Shape, Is, Original, Copy, copy_desc, Fits, PagedObject, MachineView, home_desc, home_word_of, Storage, Content, KeptChain, Represents, info_of}
+use Rattle.b67_stack.specs.Common.{Location, Shape, Is, Original, Copy, copy_desc, Fits, PagedObject, MachineView, home_word_of, Storage, Content, Represents, info_of}
 
 same_bit : (a b : Bool) → flag_bit a ≡ flag_bit b → a ≡ b
 same_bit a b e = grind arith
@@ -36,15 +36,9 @@ pub record SameDesc (d e : DataDesc) : Type 0 where
 pub same_desc : (d e : DataDesc) → IsDataDesc d → IsDataDesc e → data_word d ≡ data_word e → SameDesc d e
 same_desc d e hd he s = grind (arith, bit-lt)
 
-fits_home : (b : Bool) (n : ℕ) (a : Option ℕ) (f : ℕ) → n < 2 ^ 20 → f < 2 ^ 20 → ((b : ℕ) → a ≡ Some b → b < 2 ^ 20) → IsDataDesc (home_desc b n (record { area = a; chain = f }))
-fits_home b n a f small fits af = grind arith
-
 -- the word of an array's original or a segment's descriptor is no copy
 home_no_copy : (k : Kind) (n : ℕ) (a : Option ℕ) (f : ℕ) (d : DataDesc) → n < 2 ^ 20 → f < 2 ^ 20 → ((b : ℕ) → a ≡ Some b → b < 2 ^ 20) → IsDataDesc d → home_word_of k n (record { area = a; chain = f }) ≡ data_word d → d.copy ≡ true → ⊥
 home_no_copy k n a f d small fits af fd e c = grind arith
-
-Keeps-small : (x : Storage) (t : PagedObject) (k : Kind) (f : ℕ) → KeptChain x t k f → f < 2 ^ 20
-Keeps-small x t k f h = grind arith
 
 pub chain_small : (x : Storage) (core : List Tagged) (t : PagedObject) (a : Option ℕ) (f : ℕ) → Content x core t a f → f < 2 ^ 20
 chain_small x core t a f c = grind arith

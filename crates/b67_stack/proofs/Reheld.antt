@@ -13,7 +13,7 @@ use Rattle.b67_area.specs.Directory.{IsDirectory}
 use Rattle.b67_backing.specs.Shelf.{Shelf, chain_of}
 use Rattle.b67_lemmas.specs.Lists.{Has}
 use Rattle.b67_ctl.specs.declared.registers.Regs.{Regs}
-use Rattle.b67_stack.specs.Common.{Location, PagedObject, MachineView, Slot, Free, Running, Waiting, slot_base, home_word, object_words, tag_of, Storage, RepresentsSlot, RepresentsSlots, StacksLie, RepresentsObjects, RepresentsObject, Content, KeptChain, AbsentContent, ObjectHasChain, HoldsIn, Told, Owned, info_of, Represents, with_held, ChainStays}
+use Rattle.b67_stack.specs.Common.{Location, PagedObject, MachineView, Slot, Free, Running, Waiting, slot_base, home_word, object_words, tag_of, Storage, RepresentsSlot, RepresentsSlots, StacksLie, RepresentsObjects, RepresentsObject, Content, KeptChain, AbsentContent, HoldsIn, Told, Owned, info_of, Represents, with_held, ChainStays}
 use Rattle.b67_stack.proofs.Lies.{Upward-same}
 use Rattle.b67_stack.proofs.Helds.{held-other, held-same}
 
@@ -25,8 +25,6 @@ pub RepresentsSlots-same : (core new : List Tagged) (r : Regs) (low : ℕ) (p : 
 RepresentsSlots-same core new r low p same s = record { laid = s.laid; regs = s.regs; slots = λ k h. slot_same core new r p k (p.slots k) (same k h) (s.slots k h) }
 
 module _ (x y : Storage) (t : PagedObject) (f : ℕ) (c : ChainStays x y f) where
-  pub HasChain-stays : ObjectHasChain x t f → ObjectHasChain y t f
-  HasChain-stays h = record { some = h.some; small = h.small; sectors = ap length c.chain ∙ h.sectors }
 
   pub HoldsIn-stays : HoldsIn x t f → HoldsIn y t f
   HoldsIn-stays h = grind arith

@@ -7,7 +7,7 @@ use Rattle.b67_ctl.specs.declared.marks.Mscw.{Mscw}
 use Rattle.b67_ctl.specs.declared.marks.Rcw.{Rcw}
 use Rattle.b67_ctl.specs.Layout.{flag_bit, mscw_word, IsMscw, rcw_word, IsRcw}
 use Rattle.b67_model.specs.State.{Return}
-use Rattle.b67_stack.specs.Common.{Locations, Fits, LieDownward, Activation, Head, Marked, Entered, ReturnFits, HeadFits, HeadsFit, head_size, size, top_size, stack_words, mark_place, stack_level, level_from, mark_of, top_mark, return_of, headed, words, MachineView, RunsOn, slot_base, Storage, Represents, top_cells, activations_below}
+use Rattle.b67_stack.specs.Common.{Locations, Fits, LieDownward, Activation, Head, Marked, Entered, ReturnFits, HeadFits, HeadsFit, size, top_size, stack_words, mark_place, stack_level, level_from, mark_of, top_mark, return_of, headed, words, MachineView, RunsOn, slot_base, Storage, Represents, top_cells, activations_below}
 use Rattle.b67_stack.specs.declared.Cpu.{Cpu}
 use Rattle.b67_stack.specs.Changes.{topped}
 use Rattle.b67_stack.proofs.Lies.{Lie-under}
@@ -23,12 +23,6 @@ level-small (a ∷ below) h = level-head a.head below h.0 (level-small below h.1
 
 head-lies : (R : Locations) (core : List Tagged) (from k : ℕ) (h : Head) (below : List Activation) → LieDownward (Fits R) core from (headed k h below (words k below)) → slice_get core (from + stack_words below) ≡ Some (mscw_word (mark_of k h below))
 head-lies R core from k h below l = grind (arith, words-length)
-
-pub mark-fits : (k : ℕ) (h : Head) (below : List Activation) → HeadFits h below → top_size below < 2 ^ 14 → IsMscw (mark_of k h below)
-mark-fits k h below f small = grind arith
-
-mark-size : (k : ℕ) (h : Head) (below : List Activation) → flag_bit (mark_of k h below).entered + 1 ≡ head_size h
-mark-size k h below = grind arith
 
 pub top_size-high : (stack : List Activation) → top_size stack ≤ stack_words stack
 top_size-high stack = grind arith

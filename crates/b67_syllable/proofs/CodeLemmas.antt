@@ -39,9 +39,6 @@ next_is code at w in_word inside is =
     let word : (6 * at.word + at.syllable) / 6 + 1 ≡ at.word + 1 = omega arith in
     grind (arith, get_or-map)
 
-reads_is : (code : List ℕ) (n : ℕ) (f : Form) → reads code n (Some f) ≡ ends_at code (end_of n f) (operator_of code n f)
-reads_is code n f = grind arith
-
 inside_is : (code : List Tagged) (at : Place) → at.syllable < 6 → at.word < length code → operator_at (contents code) at ≡ reads (contents code) (count_at at) (form_of (syllable (contents code) (count_at at)))
 inside_is code at in_word word =
     let first : nat_lt at.syllable 6 ≡ true = grind (arith, nat_tests) in
@@ -121,10 +118,6 @@ pub alone : (code : List Tagged) (at : Place) (operator : Code) (first : ℕ) (p
 alone code at operator first place in_word inside small first_is form_is place_is =
     let b : Begins code at (count_at at) (Lone operator) = record { in_word = in_word; inside = omega arith; count = refl; first = first; first_is = first_is; form_is = form_is } in
     ends code at (count_at at) (Lone operator) b (count_at at + 1) (Plain operator) place refl refl place_is (omega arith) (omega arith)
-
--- a segment's code, where each place has a number
-ends_placed : (code : List ℕ) (end : ℕ) (op : Op) → length code < 2 ^ 16 → within_word (ends_at code end op) ≡ ends_at code end op
-ends_placed code end op small = grind arith
 
 reads_placed : (code : List ℕ) (n : ℕ) (f : Option Form) → length code < 2 ^ 16 → within_word (reads code n f) ≡ reads code n f
 reads_placed code n f small = grind arith

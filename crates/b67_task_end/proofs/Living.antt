@@ -69,10 +69,6 @@ module _ (plan : Placement) (s : Session) (m : SessionJob) (tasks : Tasks) (job 
   live_is number state q = sym (any_some (λ (t : Task). names_task number t.number) m.progress.job.tasks q.task q.live
       (subst (λ (z : ℤ). names_task z q.task.number ≡ true) q.number_is (eq-eqb q.task.number q.task.number refl)))
 
--- a number that no live task has
-names_same : (number : ℤ) (n : ℕ) → names_task number n ≡ true → pos n ≡ number
-names_same number n e = grind arith
-
 pub none_live : (job : Job) (number : ℤ) → ((t : Task) → Has job.tasks t → pos t.number ≢ number) → false ≡ is_live job number
 none_live job number none = grind (arith, any_has)
 

@@ -12,9 +12,6 @@ before_both a b h e = grind arith
 pub before_then : (a b c : Deep) → EndsBefore a b → EndsBefore b c → EndsBefore a c
 before_then a b c h e = grind arith
 
-same_deep : (a b : Deep) → a.number ≡ b.number → a.depth ≡ b.depth → a ≡ b
-same_deep a b n d = ap (λ (k : ℕ). record a { number = k }) n ∙ ap (λ (k : ℕ). record b { depth = k }) d
-
 -- of two that aren't the same one comes first
 pub before_or : (a b : Deep) → (EndsBefore a b → ⊥) → a ≢ b → EndsBefore b a
 before_or a b later ne = grind arith

@@ -52,9 +52,6 @@ module _ (x : Storage) (cpu : Cpu) (p : MachineView) (k : ℕ) (gone rest : List
     core_is : new.core ≡ slice_set (slice_set cpu.core at (word 0 0)) (32 + k) (word 0 0)
     core_is = ap (λ (c : Cpu). c.core) is
 
-    pub regs_is : new.regs ≡ put_out cpu.regs k
-    regs_is = ap (λ (c : Cpu). c.regs) is
-
     pub outside : (i : ℕ) → i ≢ slot_base p k → i ≢ 32 + k → slice_get new.core i ≡ slice_get cpu.core i
     outside i a b = grind (arith, slice_get-set_other)
 

@@ -2,7 +2,7 @@
 -- that the endings leave.
 use Rattle.std.proofs.Common.{◌≡◌, ◌≢◌, ℕ, ◌<◌, List, [], ◌∷◌, map, refl, sym, ◌∙◌, ap, arith, inl, inr, ◌⊎◌, ⊎_elim, subst}
 use Rattle.std.specs.Prelude.{◌==◌, filter}
-use Rattle.std.proofs.lemmas.Bool.{eq-eqb, eqb-true, ne_eqb}
+use Rattle.std.proofs.lemmas.Bool.{eq-eqb, eqb-true}
 use Rattle.std.proofs.lemmas.Simd.{map-map}
 use Rattle.b67_word.specs.Tagged.{Tagged}
 use Rattle.b67_ctl.specs.declared.registers.Regs.{Regs}
@@ -28,12 +28,6 @@ pub slots_deaths : (plan : Placement) (j : ℕ) (todo : List Task) (objects : Li
 unfolding deaths
 slots_deaths plan j [] objects = refl
 slots_deaths plan j (t ∷ todo) objects = ap (λ (ks : List ℕ). slot_of plan j t.number ∷ ks) (slots_deaths plan j todo (filter (lies_out plan (slot_of plan j t.number)) objects))
-
-put_out_one : (r : Regs) (k : ℕ) → (r.slot ≡ 255) ⊎ (r.slot ≡ k) → (put_out r k).slot ≡ 255
-put_out_one r k e = grind arith
-
-put_out_other : (r : Regs) (k : ℕ) → r.slot ≢ k → put_out r k ≡ r
-put_out_other r k n = rw (ne_eqb r.slot k n) refl
 
 -- no registers are in use after the death of the running task
 pub halts : (r : Regs) (ks : List ℕ) → (r.slot ≡ 255) ⊎ Has ks r.slot → (all_put_out r ks).slot ≡ 255

@@ -26,13 +26,6 @@ controls_above at [] i c = absurd c
 controls_above at (Area a ∷ ss) i c = ⊎_elim (λ e. omega arith) (λ d. ⊎_elim (λ e. omega arith) (λ r. omega (arith, controls_above (at + (a.words + 2)) ss i r)) d) c
 controls_above at (Hole n ∷ ss) i c = ⊎_elim (λ e. omega arith) (λ r. omega (arith, controls_above (at + n) ss i r)) c
 
--- another slot stands where the registers were its own or not
-other_same : (core new : List Tagged) (r : Regs) (p : MachineView) (k j : ℕ) (s : Slot) → slice_get new (slot_base p j) ≡ slice_get core (slot_base p j) → RepresentsSlot core r p j s → RepresentsSlot new r (with_slot p k Free) j s
-other_same core new r p k j s e t = grind arith
-
-other_out : (core new : List Tagged) (r : Regs) (p : MachineView) (k j : ℕ) (s : Slot) → j ≢ k → j < 120 → r.slot ≡ k → slice_get new (slot_base p j) ≡ slice_get core (slot_base p j) → RepresentsSlot core r p j s → RepresentsSlot new (record r { slot = 255 }) (with_slot p k Free) j s
-other_out core new r p k j s ne small runs e t = grind arith
-
 module _ (x : Storage) (core new : List Tagged) (r r' : Regs) (p : MachineView) (k : ℕ) (c : SlotVacated core new r r' p k) (s : Represents x core r p) where
   abbrev p' : MachineView
   p' = with_slot p k Free

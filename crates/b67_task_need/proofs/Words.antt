@@ -13,25 +13,11 @@ use Rattle.b67_stack.specs.Common.{Location, Locations, Shape, Is, Copy, Fits, L
 use Rattle.b67_stack.proofs.Homes.{bit-lt}
 use Rattle.b67_task_need.specs.Sums.{sectors_of_word, sectors_at, core_sectors_from}
 
--- the fields of a descriptor
-copy_bit : (p i r l a : ℕ) → p < 2 → i < 2 → r < 2 → l < 2 ^ 20 → a < 2 ^ 20 → (p * 2 ^ 47 + 1 * 2 ^ 46 + i * 2 ^ 45 + r * 2 ^ 43 + l * 2 ^ 20 + a) / 2 ^ 46 % 2 ^ 1 ≡ 1
-copy_bit p i r l a hp hi hr hl ha = omega arith
-
-own_bit : (p r l a : ℕ) → p < 2 → r < 2 → l < 2 ^ 16 → a < 2 ^ 20 → (p * 2 ^ 47 + 0 * 2 ^ 46 + 0 * 2 ^ 45 + r * 2 ^ 43 + l * 2 ^ 20 + a) / 2 ^ 46 % 2 ^ 1 ≡ 0
-own_bit p r l a hp hr hl ha = omega arith
-
-own_length : (p r l a : ℕ) → p < 2 → r < 2 → l < 2 ^ 16 → a < 2 ^ 20 → (p * 2 ^ 47 + 0 * 2 ^ 46 + 0 * 2 ^ 45 + r * 2 ^ 43 + l * 2 ^ 20 + a) / 2 ^ 20 % 2 ^ 16 ≡ l
-own_length p r l a hp hr hl ha = omega arith
-
 code_bit : (p l a : ℕ) → p < 2 → l < 2 ^ 16 → a < 2 ^ 20 → (p * 2 ^ 47 + l * 2 ^ 20 + a) / 2 ^ 46 % 2 ^ 1 ≡ 0
 code_bit p l a hp hl ha = omega arith
 
 code_length : (p l a : ℕ) → p < 2 → l < 2 ^ 16 → a < 2 ^ 20 → (p * 2 ^ 47 + l * 2 ^ 20 + a) / 2 ^ 20 % 2 ^ 16 ≡ l
 code_length p l a hp hl ha = omega arith
-
--- a word by its tag and fields
-is_data : (code : Bool) (w : Tagged) (n : ℕ) → w.tag ≡ 5 → bits_at w 46 1 ≡ 0 → bits_at w 20 16 ≡ n → sectors_of_word code w ≡ sectors_for n
-is_data code w n t b l = rw (eq-eqb w.tag 5 t, eq-eqb (bits_at w 46 1) 0 b) (ap sectors_for l)
 
 is_code : (w : Tagged) (n : ℕ) → w.tag ≡ 3 → bits_at w 46 1 ≡ 0 → bits_at w 20 16 ≡ n → sectors_of_word true w ≡ sectors_for n
 is_code w n t b l = rw (ne_eqb w.tag 5 (λ z. omega (arith, t, z)), eq-eqb w.tag 3 t, eq-eqb (bits_at w 46 1) 0 b) (ap sectors_for l)

@@ -10,14 +10,11 @@ use Rattle.b67_model.specs.Keyed.{keyed}
 use Rattle.b67_model.specs.Common.{Word, Row, Original, Frame, Array, Task, Job, SessionJob, number_of, Session, Starts, IsSegment, Known, WordInOrder, FramesInOrder, outer_of}
 use Rattle.b67_layout.specs.Common.{IsInOrderButCounts, Slotted, Placement, spot_in, outer_spots, shape, activations, stack_of_task, slot_with, slot_in, slot_by, slot_at, array_object, code_objects, objects_of, machine_view, with_objects}
 use Rattle.b67_stack.specs.Shapes as Shapes
-use Rattle.b67_stack.specs.Common.{Shape, Is, Copy, Copied, StackPlace, Head, Activation, headed, words, PagedObject, Slot, Free, Running, Waiting, stack_of, SlotFits, CopiesName}
+use Rattle.b67_stack.specs.Common.{Shape, Is, Copy, Copied, StackPlace, Activation, words, PagedObject, Slot, Free, Running, Waiting, stack_of, SlotFits, CopiesName}
 
 -- a descriptor's shape
 abbrev pub IsDescriptor : Shape → Type 0
 IsDescriptor a = (w : Tagged) → Is w ≢ a
-
-headed_descriptor : (k : ℕ) (h : Head) (below : List Activation) (under : List Shape) (a : Shape) → IsDescriptor a → Has (headed k h below under) a → Has under a
-headed_descriptor k h below under a n e = grind arith
 
 -- a descriptor on a stack is a cell
 pub record IsCell (stack : List Activation) (a : Shape) : Type 0 where

@@ -46,9 +46,6 @@ return_plain : (held : Locations) (core : List Tagged) (from k level : ℕ) (env
     → LieDownward (Fits held) core from (headed k (Stacks.Entered level environment back) below under) → i ≡ from + (1 + length under) → (w : Tagged) × (slice_get core i ≡ Some w) × (w.tag ≢ 5)
 return_plain held core from k level environment back below under i l e = grind arith
 
-original_tag : (w : Tagged) → IsOriginal w → w.tag ≡ 5
-original_tag w o = ap (λ (v : Tagged). v.tag) o.is
-
 pub original_shape : (held : Locations) (a : Shape) (i : ℕ) (w : Tagged) → Fits held a i w → IsOriginal w → a ≡ Shapes.Original i
 original_shape held a i w f o = grind arith
 

@@ -188,9 +188,6 @@ module _ (x : Storage) (cpu new : Cpu) (areas areas' : Areas) (plan : Placement)
         task_in : (m : SessionJob) (t : Task) → keyed (λ (u : Task). u.number) t.number m.progress.job.tasks ≡ Some t → Has m.progress.job.tasks t
         task_in m t e = (found-has (λ (u : Task). u.number == t.number) m.progress.job.tasks t e).0
 
-    slot_end_is : plan.stacks + (k + 1) * plan.size ≡ x.low + plan.size
-    slot_end_is = grind arith
-
     pub has_room : HasRoom x cpu.core cpu.regs (machine_view plan s.jobs)
     has_room = grind (arith, peak_low, free_slot, away)
 

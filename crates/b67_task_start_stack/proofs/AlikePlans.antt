@@ -5,7 +5,7 @@ use Rattle.std.specs.Prelude.{if◌then◌else◌}
 use Rattle.std.specs.List.{AllByRecursion}
 use Rattle.b67_lemmas.specs.Lists.{Has}
 use Rattle.b67_model.specs.Words as Words
-use Rattle.b67_model.specs.Common.{Word, Operand, Name, Ref, Row, Element, Original, Proc, Intrinsic, Frame, Task, Job, array, frames_of_task, critical_of}
+use Rattle.b67_model.specs.Common.{Word, Operand, Name, Ref, Row, Element, Original, Proc, Intrinsic, Frame, Task, Job, array, frames_of_task}
 use Rattle.b67_model.specs.Keyed.{keyed}
 use Rattle.b67_stack.specs.Shapes as Shapes
 use Rattle.b67_stack.specs.Common.{Shape, StackPlace, Activation, Slot, Running, Waiting}
@@ -30,9 +30,6 @@ FramesName Named fs = AllByRecursion (λ (f : Frame). AllByRecursion (NamesOnly 
 pub like_same : (o : Option Task) → Like o o
 like_same o = grind arith
 
-like_critical : (o' o : Option Task) → Like o' o → critical_of o' ≡ critical_of o
-like_critical o' o l = grind arith
-
 like_frames : (o' o : Option Task) → Like o' o → frames_of_task o' ≡ frames_of_task o
 like_frames o' o l = grind arith
 
@@ -42,9 +39,6 @@ module _ (plan plan' : Placement) (i : ℕ) (job job' : Job) (Old Named : ℕ �
   pub outer-twin : (parents : List ℕ) → ((u : ℕ) → Has parents u → Old u) → (c id : ℕ) → outer_spots plan' i job' c parents id ≡ outer_spots plan i job c parents id
   outer-twin [] old c id = refl
   outer-twin (parent ∷ above) old c id = grind (arith, outer-twin above)
-
-  shape-twin : (spot : ℕ → StackPlace) (w : Word) → NamesOnly Named w → shape plan' i job' spot w ≡ shape plan i job spot w
-  shape-twin spot w g = grind arith
 
   pub shapes-twin : (spot : ℕ → StackPlace) (ws : List Word) → AllByRecursion (NamesOnly Named) ws → map (shape plan' i job' spot) ws ≡ map (shape plan i job spot) ws
   shapes-twin spot [] g = refl

@@ -16,9 +16,6 @@ use Rattle.b67_task_start_stack.specs.Slots.{grown, HasRoom}
 slot_room : (p : MachineView) (k : ℕ) (s : Slot) → SlotFits p k s → 0 < p.size → stack_words (stack_of s) < p.size
 slot_room p k s f some = grind arith
 
-fits_grown : (p : MachineView) (k : ℕ) (s : Slot) → SlotFits p k s → SlotFits (grown p) k s
-fits_grown p k s f = grind arith
-
 stands_grown : (core new : List Tagged) (r : Regs) (p : MachineView) (k n : ℕ) (s : Slot) → slice_get new (slot_base p k) ≡ slice_get core (slot_base p k) → RepresentsSlot core r p k s → RepresentsSlot new (record r { peak = n }) (grown p) k s
 stands_grown core new r p k n s e t = grind arith
 

@@ -3,13 +3,12 @@
 use Rattle.std.proofs.Common.{◌≡◌, ◌≢◌, ℕ, ◌+◌, List, [], ◌∷◌, Option, Some, None, refl, sym, ◌∙◌, ap, Bool, ⊎_elim, subst, arith}
 use Rattle.std.specs.Prelude.{if◌then◌else◌, flat_map}
 use Rattle.std.proofs.lemmas.Bool.{cases_eq, eq-eqb, ne_eqb}
-use Rattle.b67_area.specs.declared.Kind.TheVariants as kind
 use Rattle.b67_lemmas.specs.Lists.{Has}
-use Rattle.b67_model.specs.Common.{Array, Segment, Task, Job, JobProgress, SessionJob, array, number_of}
+use Rattle.b67_model.specs.Common.{Array, Task, Job, JobProgress, SessionJob, array, number_of}
 use Rattle.b67_model.specs.Keyed.{keyed}
 use Rattle.b67_stack.specs.Common.{PagedObject, Slot, Running, Waiting, MachineView, with_slot}
 use Rattle.b67_stack.proofs.Slots.{slot-same, slot-other}
-use Rattle.b67_layout.specs.Common.{Placement, Slotted, slot_of, outer_spots, spots, activations, stack_of_task, slot_with, slot_in, slot_by, slot_at, code_objects, objects_of, machine_view}
+use Rattle.b67_layout.specs.Common.{Placement, Slotted, slot_of, outer_spots, spots, activations, stack_of_task, slot_with, slot_in, slot_by, slot_at, objects_of, machine_view}
 use Rattle.b67_layout.proofs.Common.{with_course, member-same, member-other}
 use Rattle.b67_layout.proofs.MachineViews.{objects-after}
 use Rattle.b67_task_start_stack.specs.Born.{with_task_at}
@@ -27,11 +26,6 @@ module _ (plan : Placement) (j n k peak : ℕ) where
 
   pub slot_of-new : slot_of (with_task_at plan j n k peak) j n ≡ k
   slot_of-new = rw (eq-eqb j j refl, eq-eqb n n refl) refl
-
-  -- objects have no slots
-  code-more : (i at : ℕ) (segments : List Segment) → code_objects more i at segments ≡ code_objects plan i at segments
-  code-more i at [] = refl
-  code-more i at (s ∷ rest) = ap (λ (ts : List PagedObject). record { home = plan.dictionary i + 1 + at; kind = kind.Code; numbers = s.code } ∷ ts) (code-more i (at + 1) rest)
 
   pub objects-more : (jobs : List SessionJob) → flat_map (objects_of (with_task_at plan j n k peak)) jobs ≡ flat_map (objects_of plan) jobs
   objects-more [] = refl

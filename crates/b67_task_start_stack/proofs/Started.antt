@@ -229,9 +229,6 @@ module _ (x : Storage) (cpu : Cpu) (plan : Placement) (s : Session) (m : Session
   mark_low f [] = elim (cases_Bool (is_critical m.progress.job f.identity)) [ inl e ↦ rw e (omega arith) | inr e ↦ rw e (omega arith) ]
   mark_low f (g ∷ below) = elim (cases_Bool (is_critical m.progress.job f.identity)) [ inl e ↦ rw e (omega arith) | inr e ↦ rw e (omega (arith, mark_low g below)) ]
 
-  critical_now : (id : ℕ) → is_critical job' id ≡ ((child.critical == id) || is_critical m.progress.job id)
-  critical_now id = ap (λ (ts : List Task). list_any (λ (u : Task). u.critical == id) ts) joins.tasks
-
   -- the parent's topmost mark that a live task depends on is then the old one or the child's, whichever is higher
   pub mark_now : critical_mark job' t.frames ≡ max (critical_mark m.progress.job t.frames) (height c.below)
   mark_now = grind (arith, ne_eqb, falls, mark_low)

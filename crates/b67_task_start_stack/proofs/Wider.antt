@@ -1,43 +1,22 @@
 -- The machine with one slot more represents the session whose peak is one higher.
-use Rattle.std.proofs.Common.{◌≡◌, ◌≢◌, ℕ, ◌+◌, ◌<◌, ◌≤◌, List, [], ◌∷◌, length, Option, Some, refl, sym, ◌∙◌, ap, arith, inl, inr, subst}
-use Rattle.std.specs.Prelude.{flat_map}
+use Rattle.std.proofs.Common.{◌≡◌, ◌≢◌, ℕ, ◌+◌, ◌<◌, ◌≤◌, List, [], ◌∷◌, length, Some, refl, sym, ◌∙◌, ap, arith, inl, inr, subst}
 use Rattle.std.specs.List.{slice_get}
-use Rattle.b67_area.specs.declared.Kind.TheVariants as kind
 use Rattle.b67_ctl.specs.declared.registers.Regs.{Regs}
 use Rattle.b67_lemmas.specs.Lists.{Has}
-use Rattle.b67_model.specs.Common.{Segment, Task, Job, SessionJob, Session}
-use Rattle.b67_model.specs.Keyed.{keyed}
+use Rattle.b67_model.specs.Common.{Task, SessionJob, Session}
 use Rattle.b67_stack.specs.declared.Cpu.{Cpu}
-use Rattle.b67_stack.specs.Common.{PagedObject, MachineView, NoOriginalAboveTop, Storage, Represents}
-use Rattle.b67_layout.specs.Common.{Placement, Slotted, slot_of, spots, slot_in, slot_by, code_objects, objects_of, machine_view, DictionariesFollow, RepresentsDictionary, vector_word, IsRunning, SessionHolds, RepresentsSession}
+use Rattle.b67_stack.specs.Common.{MachineView, NoOriginalAboveTop, Storage, Represents}
+use Rattle.b67_layout.specs.Common.{Placement, slot_of, machine_view, DictionariesFollow, RepresentsDictionary, vector_word, IsRunning, SessionHolds, RepresentsSession}
 use Rattle.b67_layout.proofs.Rows.{slot_below}
 use Rattle.b67_layout.proofs.Sessions.{dictionary_below}
 use Rattle.b67_task_start_stack.specs.Born.{with_peak}
-use Rattle.b67_task_start_stack.proofs.AlikePlans.{like_same, spots-twin}
 
 module _ (plan : Placement) (n : ℕ) where
   abbrev wide : Placement
   wide = with_peak plan n
 
-  slot_in-wide : (q i u : ℕ) (o : Option SessionJob) → slot_in wide q i u o ≡ slot_in plan q i u o
-  slot_in-wide q i u h = grind arith
-
-  slot_by-wide : (jobs : List SessionJob) (q : ℕ) (o : Option Slotted) → slot_by wide jobs q o ≡ slot_by plan jobs q o
-  slot_by-wide jobs q h = grind arith
-
-  code-wide : (i at : ℕ) (segments : List Segment) → code_objects wide i at segments ≡ code_objects plan i at segments
-  code-wide i at [] = refl
-  code-wide i at (s ∷ rest) = ap (λ (ts : List PagedObject). record { home = plan.dictionary i + 1 + at; kind = kind.Code; numbers = s.code } ∷ ts) (code-wide i (at + 1) rest)
-
-  objects-wide : (jobs : List SessionJob) → flat_map (objects_of wide) jobs ≡ flat_map (objects_of plan) jobs
-  objects-wide [] = refl
-  objects-wide (m ∷ rest) = grind arith
-
   pub machine_view-wide : (jobs : List SessionJob) → machine_view (with_peak plan n) jobs ≡ record (machine_view plan jobs) { peak = n }
   machine_view-wide jobs = grind arith
-
-  pub spots-wide : (i : ℕ) (job : Job) (t : Task) (id : ℕ) → spots wide i job t id ≡ spots plan i job t id
-  spots-wide i job t id = spots-twin plan wide i job job (λ u. Unit {0}) (λ a. Unit {0}) (λ u ok. refl) (λ u ok. like_same (keyed (λ (t : Task). t.number) u job.tasks)) (λ a ok. (refl, refl)) t t (like_same (Some t)) (λ u z. tt) tt id
 
   follow-wide : (at : ℕ) (jobs : List SessionJob) → DictionariesFollow plan at jobs → DictionariesFollow wide at jobs
   follow-wide at [] d = d

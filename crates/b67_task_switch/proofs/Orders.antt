@@ -11,10 +11,6 @@ before_job a b h = grind (arith, nat_tests)
 pub before_task : (a b : Who) → a.job ≡ b.job → a.task < b.task → is_before a b ≡ true
 before_task a b e h = grind (arith, nat_tests)
 
--- the order in the circle behind a last one
-circle_same : (x before : Bool) → in_circle x x before ≡ before
-circle_same x before = grind arith
-
 pub never_sooner : (last a : Who) → is_sooner last a a ≡ false
 never_sooner last a = grind (arith, nat_tests)
 
@@ -39,9 +35,6 @@ before_neither last a b k q = grind arith
 
 before_is : (a b : Who) → FitsTypes a → FitsTypes b → is_before a b ≡ nat_lt (place_of a) (place_of b)
 before_is a b h k = grind (arith, nat_tests, h.job, h.task, k.job, k.task)
-
-below_40 : (a : Who) → FitsTypes a → place_of a < 2 ^ 40
-below_40 a h = omega (arith, h.job, h.task)
 
 -- places in the circle behind a place, by how far they stand behind it
 ahead : (l a m : ℕ) → l < 2 ^ 40 → a < 2 ^ 40 → m ≡ (a + (2 ^ 64 - (l + 1))) % 2 ^ 64 → l < a → m + l + 1 ≡ a

@@ -73,9 +73,6 @@ members_rise n (m ∷ more) d f = rises_append (ready_of m) (flat_map ready_of m
 ready_condition : (plan : Placement) (j : ℕ) (job : Job) (t : Task) (state : TaskState) (c : Condition) → is_ready_state state ≡ true → state_of state ≡ shown plan j job t c → model.is_ready (record t { condition = c }) ≡ true
 ready_condition plan j job t state c r e = grind arith
 
-ready_state : (plan : Placement) (j : ℕ) (job : Job) (t : Task) (state : TaskState) (c : Condition) → model.is_ready (record t { condition = c }) ≡ true → state_of state ≡ shown plan j job t c → is_ready_state state ≡ true
-ready_state plan j job t state c r e = grind arith
-
 abbrev the_name : ℕ → ℕ → Who
 the_name n t = record { job = n; task = t }
 

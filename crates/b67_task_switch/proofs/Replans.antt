@@ -2,38 +2,19 @@
 use Rattle.std.proofs.Common.{◌≡◌, ◌≢◌, ℕ, ◌+◌, ◌<◌, ◌≤◌, List, [], ◌∷◌, ◌++◌, Option, Some, None, refl, sym, ◌∙◌, ap, arith, false, ◌==◌, ⊎_elim}
 use Rattle.std.specs.Prelude.{if◌then◌else◌, flat_map}
 use Rattle.std.proofs.lemmas.Bool.{cases_eq, eqb-true}
-use Rattle.b67_area.specs.declared.Kind.TheVariants as kind
-use Rattle.b67_model.specs.Common.{Word, Frame, Segment, Task, Job, SessionJob, number_of}
+use Rattle.b67_model.specs.Common.{Task, Job, SessionJob, number_of}
 use Rattle.b67_model.specs.Keyed.{keyed}
-use Rattle.b67_stack.specs.Common.{StackPlace, PagedObject, Slot, Running, Waiting, with_slot}
+use Rattle.b67_stack.specs.Common.{Slot, Running, Waiting, with_slot}
 use Rattle.b67_stack.proofs.Slots.{slot-same, slot-other}
-use Rattle.b67_layout.specs.Common.{Placement, Slotted, slot_of, outer_spots, spots, shape, activations, stack_of_task, slot_with, slot_in, slot_by, slot_at, code_objects, objects_of, machine_view, RowsFit}
+use Rattle.b67_layout.specs.Common.{Placement, Slotted, slot_of, stack_of_task, slot_with, slot_in, slot_by, slot_at, objects_of, machine_view, RowsFit}
 use Rattle.b67_layout.proofs.Rows.{row_of}
 use Rattle.b67_task_switch.specs.Turns.{with_running}
 use Rattle.b67_lemmas.proofs.Members.{found-has, keyed_has}
 
 module _ (plan : Placement) (k : ℕ) where
-  outer_spots-replan : (j : ℕ) (job : Job) (parents : List ℕ) (c id : ℕ) → outer_spots (with_running plan k) j job c parents id ≡ outer_spots plan j job c parents id
-  outer_spots-replan j job [] c id = refl
-  outer_spots-replan j job (parent ∷ more) c id = grind arith
-
-  -- spots of frames don't depend on which registers are in use
-  pub spots-replan : (j : ℕ) (job : Job) (t : Task) (id : ℕ) → spots (with_running plan k) j job t id ≡ spots plan j job t id
-  spots-replan j job t id = grind arith
-
-  shape-replan : (j : ℕ) (job : Job) (spot : ℕ → StackPlace) (w : Word) → shape (with_running plan k) j job spot w ≡ shape plan j job spot w
-  shape-replan j job spot w = grind arith
-
-  activations-replan : (j : ℕ) (job : Job) (q : ℕ) (outer : ℕ → StackPlace) (fs : List Frame) → activations (with_running plan k) j job q outer fs ≡ activations plan j job q outer fs
-  activations-replan j job q outer [] = refl
-  activations-replan j job q outer (f ∷ below) = grind arith
 
   pub stack-replan : (j : ℕ) (job : Job) (q : ℕ) (t : Task) → stack_of_task (with_running plan k) j job q t ≡ stack_of_task plan j job q t
   stack-replan j job q t = grind arith
-
-  code_objects-replan : (j n : ℕ) (segments : List Segment) → code_objects (with_running plan k) j n segments ≡ code_objects plan j n segments
-  code_objects-replan j n [] = refl
-  code_objects-replan j n (s ∷ more) = ap (λ (ts : List PagedObject). record { home = plan.dictionary j + 1 + n; kind = kind.Code; numbers = s.code } ∷ ts) (code_objects-replan j (n + 1) more)
 
   pub objects-replan : (jobs : List SessionJob) → flat_map (objects_of (with_running plan k)) jobs ≡ flat_map (objects_of plan) jobs
   objects-replan [] = refl
@@ -41,11 +22,6 @@ module _ (plan : Placement) (k : ℕ) where
 
   -- the slot of a task whose registers are neither in use nor were
   module _ (jobs : List SessionJob) (q : ℕ) (now : (q == k) ≡ false) (before : (q == plan.running) ≡ false) where
-    slot_with-replan : (j : ℕ) (job : Job) (o : Option Task) → slot_with (with_running plan k) q j job o ≡ slot_with plan q j job o
-    slot_with-replan j job o = grind arith
-
-    slot_in-replan : (j task : ℕ) (o : Option SessionJob) → slot_in (with_running plan k) q j task o ≡ slot_in plan q j task o
-    slot_in-replan j task o = grind arith
 
     pub slot_by-replan : (o : Option Slotted) → slot_by (with_running plan k) jobs q o ≡ slot_by plan jobs q o
     slot_by-replan o = grind arith

@@ -76,9 +76,6 @@ left_of xs made d some rise =
 abbrev pub is_named : ℕ → List Switch → Who → Bool
 is_named made xs who = list_any (λ w. (w.count == made) && is_same w.to who) xs
 
-of_count : (w : Switch) (made : ℕ) (who : Who) → ((w.count == made) && is_same w.to who) ≡ true → (w.count ≡ made) × (w.to ≡ who)
-of_count w made who t = grind arith
-
 pub nobody_named : (made : ℕ) (xs : List Switch) (who : Who) → SwitchesTo made xs None → is_named made xs who ≡ false
 nobody_named made xs who none = grind (arith, any_has)
 

@@ -5,7 +5,7 @@ use Rattle.std.specs.List.{slice_get}
 use Rattle.std.proofs.lemmas.List.{length-map}
 use Rattle.std.proofs.lemmas.Option.{none-some}
 use Rattle.b67_lemmas.proofs.Places.{mapped_at}
-use Rattle.b67_model.specs.Common.{IsInOrderButPlaces, Who, Session, Choice, ready, switched, first, next_after, afresh, choice_by, choice}
+use Rattle.b67_model.specs.Common.{IsInOrderButPlaces, Who, Session, Choice, ready, switched, first, next_after, choice_by, choice}
 use Rattle.b67_model.specs.Schedule.{goes_on}
 use Rattle.b67_layout.specs.Placement.{Placement}
 use Rattle.b67_layout.specs.Rows as rows
@@ -29,18 +29,11 @@ nobody_next : (last : Who) (xs : List Who) → cyclic last xs ≡ None → xs �
 nobody_next last [] e = refl
 nobody_next last (x ∷ xs) e = grind (arith, first_cons)
 
-nobody_afresh : (o : Option Who) → afresh o ≡ None → o ≡ None
-nobody_afresh o e = grind arith
-
 no_choice_by : (s : Session) (o : Option Who) (b : Bool) → choice_by s o b ≡ None → next_after s ≡ None
 no_choice_by s o b e = grind arith
 
 pub none_ready : (s : Session) → choice s ≡ None → ready s ≡ []
 none_ready s e = nobody_next s.last (ready s) (no_choice_by s (switched s) (goes_on s) e)
-
--- how many operators of its turn a chosen task has made
-afresh_turn : (o : Option Who) (c : Choice) → afresh o ≡ Some c → c.turn ≡ 0
-afresh_turn o c e = grind arith
 
 turn_by : (s : Session) (o : Option Who) (b : Bool) (c : Choice) → choice_by s o b ≡ Some c → c.turn ≤ s.turn
 turn_by s o b c e = grind arith
@@ -67,9 +60,6 @@ module _ (plan : Placement) (s : Session) (o : IsInOrderButPlaces s) (tasks : Ta
 
   pub room_if : (result : Option Chosen) → Chooses tasks.rows.items result (choice s) → IfSome result (CountsHaveRoom tasks)
   room_if result h = grind (arith, room_of)
-
-  chosen_some : (c : Chosen) → Chooses tasks.rows.items (Some c) (choice s) → ready s ≡ [] → ⊥
-  chosen_some c h e = grind arith
 
   pub none_if : (result : Option Chosen) → Chooses tasks.rows.items result (choice s) → (result ≡ None) ↔ (ready s ≡ [])
   none_if result h = grind (arith, none_ready)

@@ -12,7 +12,7 @@ use Rattle.b67_stack.proofs.Bases.{base-apart}
 use Rattle.b67_stack.proofs.Heights.{words-length}
 use Rattle.b67_stack.proofs.Lies.{Lie-same}
 use Rattle.b67_stack.proofs.Slots.{by_slot, Content-areas, slot_room}
-use Rattle.b67_layout.specs.Common.{Placement, slot_of, machine_view, DictionariesFollow, PlanFits, vector_word, IsRunning, RepresentsTask, SessionHolds}
+use Rattle.b67_layout.specs.Common.{Placement, slot_of, machine_view, PlanFits, vector_word, IsRunning, RepresentsTask, SessionHolds}
 use Rattle.b67_layout.proofs.Rows.{slot_below}
 use Rattle.b67_layout.proofs.Sessions.{dictionary_below}
 use Rattle.b67_task_switch.specs.Turns.{with_running}
@@ -110,11 +110,6 @@ module _ (x : Storage) (core new : List Tagged) (r r' : Regs) (p : MachineView) 
   Settled-turned h t int j hj = by_slot p k slot (λ i y. slot_base p i ≤ t.home → t.home < slot_base p i + p.size → t.home ≤ slot_base p i + stack_words (stack_of y))
       (subst (λ (st : List Activation). slot_base p k ≤ t.home → t.home < slot_base p k + p.size → t.home ≤ slot_base p k + stack_words st) (sym c.stack) (h t int k c.used))
       (λ i hi n. h t int i hi) j hj
-
--- the session
-follow-replan : (plan : Placement) (k at : ℕ) (jobs : List SessionJob) → DictionariesFollow plan at jobs → DictionariesFollow (with_running plan k) at jobs
-follow-replan plan k at [] d = d
-follow-replan plan k at (m ∷ more) d = (d.0, follow-replan plan k (at + (2 + length m.constants.dictionary.cells)) more d.1)
 
 vector_word-replan : (plan : Placement) (k j : ℕ) (parents : List ℕ) → vector_word (with_running plan k) j parents ≡ vector_word plan j parents
 vector_word-replan plan k j parents = grind arith

@@ -9,8 +9,8 @@ use Rattle.b67_ctl.specs.declared.registers.Regs.{Regs}
 use Rattle.b67_lemmas.specs.Lists.{Has}
 use Rattle.b67_lemmas.proofs.Members.{has_get}
 use Rattle.b67_lemmas.proofs.Places.{has_at, same_mapped}
-use Rattle.b67_model.specs.Common.{Condition, Task, Job, SessionJob, Session}
-use Rattle.b67_layout.specs.Common.{IsInOrderButCounts, Placement, slot_of, TaskRow, JobRow, JobCounts, shown, parent_slot, critical_disp, TaskShows, JobsShow, RunningRow, Differ, TablesShow, RowsFit, IsRunning, SessionHolds}
+use Rattle.b67_model.specs.Common.{Task, SessionJob, Session}
+use Rattle.b67_layout.specs.Common.{IsInOrderButCounts, Placement, slot_of, TaskRow, JobRow, JobCounts, TaskShows, JobsShow, RunningRow, Differ, TablesShow, RowsFit, IsRunning, SessionHolds}
 use Rattle.b67_stack.specs.Represents.{Storage}
 use Rattle.b67_layout.proofs.Common.{slot_below, differ_at, live_in_order}
 use Rattle.b67_task_switch.specs.Turns.{with_running}
@@ -18,14 +18,6 @@ use Rattle.b67_law_order.proofs.Numbered.{keyed_member}
 
 -- a row of a task, whatever registers are in use
 module _ (plan : Placement) (k : ℕ) where
-  parent_slot-replan : (j : ℕ) (parents : List ℕ) → parent_slot (with_running plan k) j parents ≡ parent_slot plan j parents
-  parent_slot-replan j parents = grind arith
-
-  critical-replan : (j : ℕ) (job : Job) (critical : ℕ) (parents : List ℕ) → critical_disp (with_running plan k) j job critical parents ≡ critical_disp plan j job critical parents
-  critical-replan j job critical parents = grind arith
-
-  shown-replan : (j : ℕ) (job : Job) (t : Task) (c : Condition) → shown (with_running plan k) j job t c ≡ shown plan j job t c
-  shown-replan j job t c = grind arith
 
   -- a row that is another but for segment and place
   pub TaskShows-replan : (m : SessionJob) (t : Task) (old row : TaskRow) → TaskShows plan m t old → row.job ≡ old.job → row.number ≡ old.number → row.slot ≡ old.slot → row.parent ≡ old.parent → row.critical ≡ old.critical → row.state ≡ old.state
