@@ -34,7 +34,6 @@ pub record Last (t : Task) : Type 0 where
 
 module _ (plan : Placement) (m : SessionJob) (t : Task) (k i : ℕ) (outer : ℕ → StackPlace) (o : TaskInOrder (IsSegment m.constants) m.constants m.progress.job t) (mark : Mscw)
     (is : mark ≡ top_mark i (activations plan m.constants.number m.progress.job k outer t.frames)) where
-
   back_is : mark.back ≡ (top_mark i (activations plan m.constants.number m.progress.job k outer t.frames)).back
   back_is = ap (λ (n : Mscw). n.back) is
 

@@ -26,7 +26,6 @@ pub top_case : (constants : JobConstants) (job : Job) (t : Task) → TaskInOrder
 top_case constants job t o = by_frames constants job t t.frames refl o
 
 module _ (plan : Placement) (j : ℕ) (job : Job) (k i : ℕ) (outer : ℕ → StackPlace) where
-
   marked_by : (s : Standing) (spot : ℕ → StackPlace) (below : List Activation) → s ≡ State.Marked → (mark_of i (head spot s) below).entered ≡ false
   marked_by s spot below e = ap (λ (z : Standing). (mark_of i (head spot z) below).entered) e
 

@@ -185,7 +185,6 @@ pub followed_plain : (x : Storage) (m : SessionJob) (t : Task) (q : Place) (w : 
 followed_plain x m t q w e is = grind arith
 
 module _ (x : Storage) (plan : Placement) (s : Session) (m : SessionJob) (t : Task) (q : Place) (old : Cpu) where
-
   -- what a fault of following makes
   pub refused : (row : Chase.End → Answer Done) (fault : Fault) (e : Answer Chase.End) → FindsEnd plan m old.core (Err fault) e → EntersOrMeets x plan s m (step.Fault fault) old old (enters_at e) (e >>= row)
   refused row fault e is = grind arith

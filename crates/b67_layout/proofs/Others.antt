@@ -64,7 +64,6 @@ module _ (plan : Placement) (j : ℕ) (job job' : Job) (t t' : Task) (n : ℕ) (
 
 -- a shape reads nothing of a job but its arrays
 module _ (plan : Placement) (j : ℕ) (job job' : Job) (e : job'.arrays ≡ job.arrays) where
-
   pub activations-job : (k : ℕ) (outer : ℕ → StackPlace) (fs : List Frame) → activations plan j job' k outer fs ≡ activations plan j job k outer fs
   activations-job k outer [] = refl
   activations-job k outer (f ∷ below) = grind arith

@@ -22,7 +22,6 @@ module _ (plan : Placement) (j n at : ℕ) where
   outer_spots-there i job (parent ∷ more) c id = grind arith
 
   module _ (i : ℕ) where
-
     shapes-there : (job : Job) (spot : ℕ → StackPlace) (ws : List Word) → (i ≡ j → AllByRecursion (Avoids n) ws) → map (shape there i job spot) ws ≡ map (shape plan i job spot) ws
     shapes-there job spot [] ne = refl
     shapes-there job spot (w ∷ ws) ne = grind (arith, shapes-there job spot ws)

@@ -10,7 +10,6 @@ all_joined P [] ys p q = q
 all_joined P (x ∷ xs) ys p q = (p.0, all_joined P xs ys p.1 q)
 
 module _ (P : ℕ → Type 0) (each : (b : ℕ) → 48 ≤ b → b ≤ 57 → P b) where
-
   onto : (k n : ℕ) (acc : List ℕ) → AllByRecursion P acc → AllByRecursion P (digits_onto k 10 false n acc)
   onto zero n acc p = p
   onto (suc k) n acc p = grind (arith, onto k)

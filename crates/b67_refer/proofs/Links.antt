@@ -22,7 +22,6 @@ use Rattle.b67_refer.specs.Ends.{IsCopyOf, HasTagAt}
 use Rattle.b67_refer.proofs.Bases.{viewed}
 
 module _ (core : List Tagged) (r : Regs) (a : LiveContext core r) where
-
   -- a copy by its descriptor
   pub copy_of : (c : Copied) (home : ℕ) (v : Tagged) (d : DataDesc) → IsDataDesc d → v ≡ data_word d → IsCopy a.storage.held c home v → IsCopyOf core d home
   copy_of c home v d fits e is = record { storage = a.storage; registers = r; machine_view = viewed core r a; stands = a.holds.memory; copied = c; fits = fits; is = subst (λ (w : Tagged). IsCopy a.storage.held c home w) e is }

@@ -22,7 +22,6 @@ use Rattle.b67_refer.proofs.Names.{Rest, Turn, turn, turn_end, turn_fault, turn_
 
 -- a reference to a cell whose word has tag 0 leads to that operand's cell
 module _ (core : List Tagged) (r : Regs) (a : RunningContext core r) (q : Place) where
-
   operand_link : (at f offset : ℕ) (w : Word) → live.IsCellAt (live_of a) q at f offset w → HasTagAt core at 0 → LinkMeets (live_of a) q (Ok (Some (end.Cell at))) (link_at (here a.member a.task q) f offset w)
   operand_link at f offset w i t = grind arith
 

@@ -126,7 +126,6 @@ module _ {K : Type 0} (taken : K → Option (List ℕ)) (s : Session) (m : Sessi
 
 -- a step that goes on doesn't end its task, and doesn't make it wait
 module _ (plan : Placement) (m : SessionJob) (t : Task) (job : Job) (printed : List Line) (touched : Option ℕ) (is : step m.constants m.progress.job t ≡ Ok (Goes job printed touched)) where
-
   pub goes_on_only : (outcome : Attempt) → outcome ≢ attempts.Made → EndsByRow plan m t (Ok outcome) → ⊥
   goes_on_only outcome other so = grind arith
 

@@ -25,7 +25,6 @@ pub RepresentsSlots-same : (core new : List Tagged) (r : Regs) (low : ℕ) (p : 
 RepresentsSlots-same core new r low p same s = record { laid = s.laid; regs = s.regs; slots = λ k h. slot_same core new r p k (p.slots k) (same k h) (s.slots k h) }
 
 module _ (x y : Storage) (t : PagedObject) (f : ℕ) (c : ChainStays x y f) where
-
   pub HoldsIn-stays : HoldsIn x t f → HoldsIn y t f
   HoldsIn-stays h = grind arith
 

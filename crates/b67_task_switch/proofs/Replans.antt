@@ -12,7 +12,6 @@ use Rattle.b67_task_switch.specs.Turns.{with_running}
 use Rattle.b67_lemmas.proofs.Members.{found-has, keyed_has}
 
 module _ (plan : Placement) (k : ℕ) where
-
   pub stack-replan : (j : ℕ) (job : Job) (q : ℕ) (t : Task) → stack_of_task (with_running plan k) j job q t ≡ stack_of_task plan j job q t
   stack-replan j job q t = grind arith
 
@@ -22,7 +21,6 @@ module _ (plan : Placement) (k : ℕ) where
 
   -- the slot of a task whose registers are neither in use nor were
   module _ (jobs : List SessionJob) (q : ℕ) (now : (q == k) ≡ false) (before : (q == plan.running) ≡ false) where
-
     pub slot_by-replan : (o : Option Slotted) → slot_by (with_running plan k) jobs q o ≡ slot_by plan jobs q o
     slot_by-replan o = grind arith
 

@@ -18,7 +18,6 @@ use Rattle.b67_law_order.proofs.Numbered.{keyed_member}
 
 -- a row of a task, whatever registers are in use
 module _ (plan : Placement) (k : ℕ) where
-
   -- a row that is another but for segment and place
   pub TaskShows-replan : (m : SessionJob) (t : Task) (old row : TaskRow) → TaskShows plan m t old → row.job ≡ old.job → row.number ≡ old.number → row.slot ≡ old.slot → row.parent ≡ old.parent → row.critical ≡ old.critical → row.state ≡ old.state
       → (row.slot ≢ k → row.segment ≡ t.segment + 1) → (row.slot ≢ k → row.place ≡ t.place) → TaskShows (with_running plan k) m t row
