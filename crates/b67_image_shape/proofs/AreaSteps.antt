@@ -16,7 +16,7 @@ use Rattle.b67_area.proofs.Climbs.{area_at-low}
 use Rattle.b67_layout_shown.specs.Reading.{word_seen_at}
 use Rattle.b67_layout_shown.specs.Areas.{info_in}
 use Rattle.b67_layout_shown.proofs.Stacks.{word_is}
-use Rattle.b67_layout_shown.proofs.Spans.{link_there, end_above, first_low, head_46, hole_46, hole_20, kind_low, info_read, directories_read}
+use Rattle.b67_layout_shown.proofs.Spans.{link_there, end_above, first_low, hole_46, hole_20, info_read, directories_read}
 use Rattle.b67_image_shape.specs.declared.areas.Walk.{Walk}
 use Rattle.b67_image_shape.proofs.AreaReads.{owner_past}
 use Rattle.b67_image_shape.specs.Held.{spans_of}

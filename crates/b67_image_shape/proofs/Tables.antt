@@ -11,7 +11,7 @@ use Rattle.b67_image_shape.specs.Deciding.{Decides}
 use Rattle.b67_image_shape.specs.TableFacts.{row_in_slot, rows_in, AreApart, RowsApart, JobGoesOn, JobFacts, BornBy, IsRowOfJob, RowFacts, CountFacts}
 use Rattle.b67_image_shape.specs.TableTests.{jobs_pass, are_apart, rows_apart, state_ready, row_ready, may_go_on, is_read, job_test, born_test, of_job_test, row_test, rise_test, running_test, counts_test, tables_test}
 use Rattle.b67_image_shape.specs.Laws.{TablesAreTested}
-use Rattle.b67_image_shape.proofs.Deciding.{same_number, other_number, less, at_most, both, like, yes, nothing, if_so, each, some, each_job}
+use Rattle.b67_image_shape.proofs.Deciding.{same_number, other_number, less, at_most, both, like, yes, nothing, each, some, each_job}
 use Rattle.b67_model.specs.declared.limits.TheConstants.{MOST_JOBS, MOST_LIMIT}
 use Rattle.std.proofs.Common.{arith}
 

@@ -11,7 +11,7 @@ use Rattle.b67_stack.specs.Common as stack
 use Rattle.b67_stack.specs.Common.{Shape, Is, Locations, Fits, LieDownward, Head, HeadFits, HeadsFit, ReturnFits, Activation, size, head_size, top_size, stack_words, stack_level, mark_of, return_of, headed, words}
 use Rattle.b67_stack.proofs.Heights.{words-length}
 use Rattle.b67_layout_shown.specs.Reading.{word_seen_at, mscw_in, rcw_in, shape_in, cells_in, return_by, activation_by, below_by, stack_seen}
-use Rattle.b67_layout_shown.proofs.Bits.{mscw_read, rcw_read}
+use Rattle.b67_layout_shown.proofs.Bits.{mscw_read}
 use Rattle.b67_layout_shown.proofs.Stacks.{word_is}
 use Rattle.b67_image_shape.specs.Fitting.{same}
 use Rattle.b67_image_shape.specs.Held.{location_in}

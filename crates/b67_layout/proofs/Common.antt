@@ -19,7 +19,7 @@ pub use Rattle.b67_layout.proofs.Members.{member_kept}
 pub use Rattle.b67_layout.proofs.NamedFirst.{IsOnTop, elsewhere, high, live}
 pub use Rattle.b67_layout.proofs.Objects.{Represents-objects, SameObjects, of_objects, others}
 pub use Rattle.b67_layout.proofs.Originals.{InFrame, entry_number, lies_at, lies_over, original_of, original_word}
-pub use Rattle.b67_layout.proofs.Others.{OnTop, activations-job, seen-mark, shape-job}
+pub use Rattle.b67_layout.proofs.Others.{OnTop, activations-job, seen-mark}
 pub use Rattle.b67_layout.proofs.Paged.{RepresentsSession-over}
 pub use Rattle.b67_layout.proofs.PlainOperands.{plain_operand}
 pub use Rattle.b67_layout.proofs.Replaces.{IsDependedOn, Replaces, task-other, task-same}

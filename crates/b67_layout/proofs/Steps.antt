@@ -11,7 +11,7 @@ use Rattle.b67_model.specs.Common.{Word, Frame, Task, Job, JobProgress, SessionJ
 use Rattle.b67_model.specs.State as State
 use Rattle.b67_stack.specs.Common.{StackPlace, Activation, MachineView, NoOriginalAboveTop, Storage, Represents, with_stack, stack_with_cells, new_mark}
 use Rattle.b67_layout.specs.Common.{Placement, spot_in, outer_spots, shape, activations, stack_of_task, machine_view, RepresentsTask, IsRunning, critical_mark, SessionHolds}
-use Rattle.b67_layout.proofs.Others.{OnTop, seen-cells, seen-mark}
+use Rattle.b67_layout.proofs.Others.{OnTop, seen-mark}
 use Rattle.b67_layout.proofs.MachineViews.{with_course, machine_view-after, stack-after}
 use Rattle.b67_layout.proofs.Rows.{row_of}
 use Rattle.b67_layout.proofs.Replaces.{on_top_replaces}
