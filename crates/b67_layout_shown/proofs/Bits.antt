@@ -54,8 +54,6 @@ mscw_read m ch dh lh kh =
       mark_0 a b m.env_stack m.env_disp v m.level m.back ah bh ch dh vh lh kh,
     ) refl
 
-module _ (s w l g : ℕ) (sh : s < 2 ^ 3) (wh : w < 2 ^ 13) (lh : l < 2 ^ 5) (gh : g < 2 ^ 14) where
-
 module _ (a b c d l k : ℕ) (ah : a ≤ 1) (bh : b ≤ 1) (ch : c ≤ 1) (dh : d ≤ 1) (lh : l < 2 ^ 20) (kh : k < 2 ^ 20) where
   desc_47 : (a * 2 ^ 47 + b * 2 ^ 46 + c * 2 ^ 45 + d * 2 ^ 43 + l * 2 ^ 20 + k) / 2 ^ 47 % 2 ^ 1 ≡ a
   desc_47 = omega arith
