@@ -1,6 +1,6 @@
 //! MKST, ENTR, and the accidental entry of a procedure.
 
-ghost use Rattle.std.specs.Prelude.{◌≡◌, ◌≢◌, ℕ, not, ◌==◌, ◌+◌, ◌<◌, true, List, Some, None, slice_get};
+ghost use Rattle.std.specs.Prelude.{◌≡◌, ◌≢◌, ℕ, not, ◌==◌, ◌+◌, ◌*◌, ◌<◌, true, List, Some, None, slice_get};
 ghost use Rattle.b67_ctl.specs.Layout.{IsPlace, IsPcw, pcw_word};
 ghost use Rattle.b67_ctl.specs.declared.programs.Pcw.{Pcw};
 ghost use Rattle.b67_ctl.specs.declared.registers.Regs.{Regs};
@@ -17,12 +17,18 @@ ghost use Rattle.b67_layout.specs.Meets.{RunsSome, ForEach, Meets, here};
 ghost use Rattle.b67_exec_cells.specs.Tops.{StaysInSegment};
 ghost use Rattle.b67_refer.specs.RunningContext.{RunningContext, IsShown};
 ghost use Rattle.b67_refer.specs.Displays.{HoldsEnvironment, EntersOver};
+ghost use Rattle.b67_refer.specs.Cells.{view};
+ghost use Rattle.b67_refer.specs.Ends.{IsProcAt};
+ghost use Rattle.b67_model.specs.Environment.{level_of_frame};
+ghost use Rattle.b67_model.specs.State.{frame};
 ghost use Rattle.b67_entry.specs.Procedures.{ReachesProc, CanEnter, EntersOrFaults, HoldsUnder, CallsWith, CallsOrMeets};
 ghost use Rattle.b67_model.specs.Words as Words;
 
 use b67_core::Core;
 use b67_ctl::{IntrinsicPcw, Mscw, Pcw, Rcw, Regs};
-use b67_refer::{Activation, End, chase, enclosure_of, near_place, rebuild_entered};
+use b67_refer::{
+    Activation, Enclosure, End, chase, couple_at, enclosure_at, enclosure_of, near_place, rebuild_entered,
+};
 use b67_stack::{Cpu, Step};
 use b67_word::{Fault, Place};
 
@@ -83,21 +89,23 @@ fn begin(cpu: &mut Cpu, procedure: Pcw, under: u32, known: u8)
     rebuild_entered(&cpu.core, &cpu.regs, &mut cpu.display, known, under);
 }
 
-/// The top activation record, which is marked, enters the procedure of a cell that its first cell refers to: that cell
-/// becomes the return to `next`.
+/// The top activation record, which is marked, enters the procedure of a cell that its first cell refers to and that lies in the
+/// activation record `home`: the first cell becomes the return to `next`.
 ///
 /// INVALID OPERAND, with nothing changed, if the procedure's level isn't the next one above that of its cell's
 /// activation record.
 #[inline(always)]
-fn enter(cpu: &mut Cpu, cell: u32, next: Place) -> Step
+fn enter(cpu: &mut Cpu, cell: u32, home: Enclosure, next: Place) -> Step
     requires procedure { (a : RunningContext cpu.old.core cpu.old.regs) × (f : ℕ) × (segment : ℕ) × (level : ℕ) × (place : Place) × (reference : Words.Word) × (arguments : List Words.Word)
         × ReachesProc cpu.old a next cell f segment level place × CallsWith a.task reference arguments }
+    requires home { (a : RunningContext cpu.old.core cpu.old.regs) (f segment level : ℕ) (place : Place) → IsProcAt a next cell f segment level place
+        → home.record ≡ record { stack = (view a f).stack; disp = (view a f).disp; level = level_of_frame (frame (here a.member a.task next) f) } }
+    requires mark { cpu.old.regs.stacks + home.record.stack * cpu.old.regs.stack_size + home.record.disp ≡ home.mark }
     requires next { IsPlace next }
     ensures row { (a : RunningContext cpu.old.core cpu.old.regs) (f segment level : ℕ) (place : Place) (reference : Words.Word) (arguments : List Words.Word)
         → ReachesProc cpu.old a next cell f segment level place → CallsWith a.task reference arguments
         → Meets a.storage a.plan a.session a.member result cpu.old cpu.new (rows.enters (here a.member a.task next) arguments (AtProc f segment level place)) }
 {
-    let home = enclosure_of(&cpu.core, &cpu.regs, cell);
     let env = home.record;
     let procedure = procedure_at(&cpu.core, cell);
     if env.level + 1 != procedure.level {
@@ -143,7 +151,9 @@ pub fn entr_near(cpu: &mut Cpu, next: Place) -> Option<Step>
     match IntrinsicPcw::from_word(word) {
         Some(p) => Some(Step::Call(p.number as u8)),
         None => {
-            let step = enter(cpu, at, next);
+            let offset = couple_at(first.bits() as u16, cpu.regs.level).disp;
+            let home = enclosure_at(&cpu.core, &cpu.regs, at - u32::from(offset));
+            let step = enter(cpu, at, home, next);
             Some(step)
         }
     }
@@ -168,7 +178,10 @@ pub fn entr(cpu: &mut Cpu, next: Place) -> Step
         return Step::Fault(Fault::InvalidOperand);
     }
     match chase(&cpu.core, &cpu.regs, &cpu.display, first) {
-        Ok(End::Proc(cell)) => enter(cpu, cell, next),
+        Ok(End::Proc(cell)) => {
+            let home = enclosure_of(&cpu.core, &cpu.regs, cell);
+            enter(cpu, cell, home, next)
+        }
         Ok(End::Intrinsic(n)) => Step::Call(n),
         Ok(End::Cell(_)) => Step::Fault(Fault::InvalidOperand),
         Ok(End::Element { .. }) => Step::Fault(Fault::InvalidOperand),
