@@ -18,7 +18,6 @@ ghost use Rattle.b67_exec_cells.specs.Tops.{StaysInSegment};
 ghost use Rattle.b67_refer.specs.RunningContext.{RunningContext, IsShown};
 ghost use Rattle.b67_refer.specs.Displays.{HoldsEnvironment, EntersOver};
 ghost use Rattle.b67_refer.specs.Cells.{view};
-ghost use Rattle.b67_refer.specs.Ends.{IsProcAt};
 ghost use Rattle.b67_model.specs.Environment.{level_of_frame};
 ghost use Rattle.b67_model.specs.State.{frame};
 ghost use Rattle.b67_entry.specs.Procedures.{ReachesProc, CanEnter, EntersOrFaults, HoldsUnder, CallsWith, CallsOrMeets};
@@ -98,7 +97,7 @@ fn begin(cpu: &mut Cpu, procedure: Pcw, under: u32, known: u8)
 fn enter(cpu: &mut Cpu, cell: u32, home: Enclosure, next: Place) -> Step
     requires procedure { (a : RunningContext cpu.old.core cpu.old.regs) × (f : ℕ) × (segment : ℕ) × (level : ℕ) × (place : Place) × (reference : Words.Word) × (arguments : List Words.Word)
         × ReachesProc cpu.old a next cell f segment level place × CallsWith a.task reference arguments }
-    requires home { (a : RunningContext cpu.old.core cpu.old.regs) (f segment level : ℕ) (place : Place) → IsProcAt a next cell f segment level place
+    requires home { (a : RunningContext cpu.old.core cpu.old.regs) (f segment level : ℕ) (place : Place) → ReachesProc cpu.old a next cell f segment level place
         → home.record ≡ record { stack = (view a f).stack; disp = (view a f).disp; level = level_of_frame (frame (here a.member a.task next) f) } }
     requires mark { cpu.old.regs.stacks + home.record.stack * cpu.old.regs.stack_size + home.record.disp ≡ home.mark }
     requires next { IsPlace next }

@@ -21,7 +21,7 @@ procedure_at-procedure-requires c =
 pub overflow_add-env : goal.overflow_add-env
 overflow_add-env c =
     let (a, f, segment, level, place, reference, arguments, e, w) = c.requires.procedure in
-    let env = c.requires.home a f segment level place e.procedure in
+    let env = c.requires.home a f segment level place e in
     let is : c.args.home.record.level ≡ level_of_frame (frame (here a.member a.task c.args.next) f) = ap (λ (z : Activation). z.level) env in
     omega (arith, is, level_small c.args.cpu.now c.args.cpu.now.regs a c.args.next c.args.cell f segment level place e.procedure)
 
@@ -33,7 +33,7 @@ top_mark-top-requires c =
 pub word-requires : goal.word-requires
 word-requires c =
     let (a, f, segment, level, place, reference, arguments, e, w) = c.requires.procedure in
-    let env = c.requires.home a f segment level place e.procedure in
+    let env = c.requires.home a f segment level place e in
     let pcw = c.procedure_at-procedure.ensures (Unasked.pcw c.args.cpu.now c.args.cpu.now.regs a c.args.next c.args.cell f segment level place e.procedure) (pcw_fits c.args.cpu.now c.args.cpu.now.regs a c.args.next c.args.cell f segment level place e.procedure) (pcw_there c.args.cpu.now c.args.cpu.now.regs a c.args.next c.args.cell f segment level place e.procedure) in
     let top = c.top_mark-top.ensures a.storage (machine_view a.plan a.session.jobs) (stack_of_task a.plan a.member.constants.number a.member.progress.job a.plan.running a.task) e.stands.holds.memory (runs_here a.storage c.args.cpu.now a.plan a.session a.member a.task e.stands a.running) in
     let mark = Called.mark_is c.args.cpu.now a c.args.next c.requires.next c.args.cell f segment level place reference arguments e w c.args.home.record c.procedure_at-procedure.result c.top_mark-top.result env pcw top c.entered_mark-mark.result c.entered_mark-mark.ensures in
@@ -66,7 +66,7 @@ set-requires-2 c =
 pub returns-then-env-procedure : goal.returns-then-env-procedure
 returns-then-env-procedure c = record {
   row = λ a f segment level place reference arguments e w.
-      let env = c.requires.home a f segment level place e.procedure in
+      let env = c.requires.home a f segment level place e in
       let pcw = c.procedure_at-procedure.ensures (Unasked.pcw c.args.cpu.now c.args.cpu.now.regs a c.args.next c.args.cell f segment level place e.procedure) (pcw_fits c.args.cpu.now c.args.cpu.now.regs a c.args.next c.args.cell f segment level place e.procedure) (pcw_there c.args.cpu.now c.args.cpu.now.regs a c.args.next c.args.cell f segment level place e.procedure) in
       let one : c.args.home.record.level ≡ level_of_frame (frame (here a.member a.task c.args.next) f) = ap (λ (z : Activation). z.level) env in
       let two : c.procedure_at-procedure.result.level ≡ level = ap (λ (z : Pcw). z.level) pcw in
@@ -76,7 +76,7 @@ returns-then-env-procedure c = record {
 pub begin-requires-clause-run : goal.begin-requires-clause-run
 begin-requires-clause-run c =
     let (a, f, segment, level, place, reference, arguments, e, w) = c.requires.procedure in
-    let env = c.requires.home a f segment level place e.procedure in
+    let env = c.requires.home a f segment level place e in
     let pcw = c.procedure_at-procedure.ensures (Unasked.pcw c.args.cpu.now c.args.cpu.now.regs a c.args.next c.args.cell f segment level place e.procedure) (pcw_fits c.args.cpu.now c.args.cpu.now.regs a c.args.next c.args.cell f segment level place e.procedure) (pcw_there c.args.cpu.now c.args.cpu.now.regs a c.args.next c.args.cell f segment level place e.procedure) in
     let top = c.top_mark-top.ensures a.storage (machine_view a.plan a.session.jobs) (stack_of_task a.plan a.member.constants.number a.member.progress.job a.plan.running a.task) e.stands.holds.memory (runs_here a.storage c.args.cpu.now a.plan a.session a.member a.task e.stands a.running) in
     let mark = Called.mark_is c.args.cpu.now a c.args.next c.requires.next c.args.cell f segment level place reference arguments e w c.args.home.record c.procedure_at-procedure.result c.top_mark-top.result env pcw top c.entered_mark-mark.result c.entered_mark-mark.ensures in
@@ -96,7 +96,7 @@ pub begin-requires-clause-top : goal.begin-requires-clause-top
 begin-requires-clause-top c =
     let (a, f, segment, level, place, reference, arguments, e, w) = c.requires.procedure in
     let cpu = c.args.cpu.now in
-    let env = c.requires.home a f segment level place e.procedure in
+    let env = c.requires.home a f segment level place e in
     let pcw = c.procedure_at-procedure.ensures (Unasked.pcw cpu cpu.regs a c.args.next c.args.cell f segment level place e.procedure) (pcw_fits cpu cpu.regs a c.args.next c.args.cell f segment level place e.procedure) (pcw_there cpu cpu.regs a c.args.next c.args.cell f segment level place e.procedure) in
     let top = c.top_mark-top.ensures a.storage (machine_view a.plan a.session.jobs) (stack_of_task a.plan a.member.constants.number a.member.progress.job a.plan.running a.task) e.stands.holds.memory (runs_here a.storage cpu a.plan a.session a.member a.task e.stands a.running) in
     let is = Called.mark_is cpu a c.args.next c.requires.next c.args.cell f segment level place reference arguments e w c.args.home.record c.procedure_at-procedure.result c.top_mark-top.result env pcw top c.entered_mark-mark.result c.entered_mark-mark.ensures in
@@ -117,7 +117,7 @@ begin-requires-clause-top c =
 pub returns : goal.returns
 returns c = record {
   row = λ a f segment level place reference arguments e w.
-      let env = c.requires.home a f segment level place e.procedure in
+      let env = c.requires.home a f segment level place e in
       let pcw = c.procedure_at-procedure.ensures (Unasked.pcw c.args.cpu.now c.args.cpu.now.regs a c.args.next c.args.cell f segment level place e.procedure) (pcw_fits c.args.cpu.now c.args.cpu.now.regs a c.args.next c.args.cell f segment level place e.procedure) (pcw_there c.args.cpu.now c.args.cpu.now.regs a c.args.next c.args.cell f segment level place e.procedure) in
       let top = c.top_mark-top.ensures a.storage (machine_view a.plan a.session.jobs) (stack_of_task a.plan a.member.constants.number a.member.progress.job a.plan.running a.task) e.stands.holds.memory (runs_here a.storage c.args.cpu.now a.plan a.session a.member a.task e.stands a.running) in
       let mark = Called.mark_is c.args.cpu.now a c.args.next c.requires.next c.args.cell f segment level place reference arguments e w c.args.home.record c.procedure_at-procedure.result c.top_mark-top.result env pcw top c.entered_mark-mark.result c.entered_mark-mark.ensures in

@@ -97,7 +97,7 @@ enter-requires-clause-procedure c =
     (a, p.f, p.segment, p.level, p.place, f.first, f.arguments, record { ordered = o; stands = h; procedure = p.procedure }, calling x c.args.cpu.now plan s m t c.args.next o h runs c.top_mark.result k c.if-top_mark.false c.if-cpu.false tag)
 
 pub enter-requires-clause-home : goal.enter-requires-clause-home
-enter-requires-clause-home c = λ a f segment level place p. c.enclosure_of-home.ensures.home a c.args.next f segment level place p
+enter-requires-clause-home c = λ a f segment level place e. c.enclosure_of-home.ensures.home a c.args.next f segment level place e.procedure
 
 pub enter-requires-clause-mark : goal.enter-requires-clause-mark
 enter-requires-clause-mark c = c.enclosure_of-home.ensures.mark

@@ -14,7 +14,11 @@ use Rattle.b67_refer.specs.declared.ends.End.TheVariants as end
 use Rattle.b67_entry.specs.Procedures.{CallsOrMeets}
 use Rattle.b67_entry.proofs.Firsts.{facing, first_stands, calling, goes}
 use Rattle.b67_entry.proofs.Leads.{meets_plain, proc_found, intrinsic_found}
-use Rattle.b67_entry.proofs.Nears.{named_procedure, named_intrinsic, named_number}
+use Rattle.b67_word.specs.Couples.{couple}
+use Rattle.b67_refer.proofs.Chains.{level_is, level_small}
+use Rattle.b67_refer.proofs.Enclosures.{named_home}
+use Rattle.b67_entry.proofs.Nears.{near_disp}
+use Rattle.b67_refer.proofs.Owns.{named_procedure, named_intrinsic, named_number}
 use Rattle.b67_entry.proofs.enter.entr_near.Goals as goal
 
 pub top_mark-requires : goal.top_mark-requires
@@ -83,6 +87,52 @@ returns-in-Some c = record {
       (subst C (sym row.1) (refl, refl));
   kept = λ e. absurd (none-some _ (sym e));
 }
+
+pub couple_at-offset-requires-clause-level : goal.couple_at-offset-requires-clause-level
+couple_at-offset-requires-clause-level c =
+    let r = c.requires.runs in
+    let a = scene [] r.storage c.args.cpu.now.core c.args.cpu.now.regs c.args.cpu.now.critical r.plan r.session r.member r.task r.ordered r.stands.holds r.running in
+    omega (arith, level_is c.args.cpu.now.core c.args.cpu.now.regs a, level_small c.args.cpu.now.core c.args.cpu.now.regs a)
+
+pub overflow_sub-at : goal.overflow_sub-at
+overflow_sub-at c =
+    let r = c.requires.runs in let x = r.storage in let plan = r.plan in let s = r.session in let m = r.member in let t = r.task in let o = r.ordered in let h = r.stands in let runs = r.running in
+    let k = c.top_mark.ensures x (machine_view plan s.jobs) (stack_of_task plan m.constants.number m.progress.job plan.running t) h.holds.memory (runs_here x c.args.cpu.now plan s m t h runs) in
+    let f = facing x c.args.cpu.now plan s m t c.args.next o h runs c.top_mark.result k c.if-top_mark.false c.if-cpu.false in
+    let word : c.get-first.result ≡ f.word = same_Some _ _ (sym c.get-first.ensures ∙ f.there) in
+    let tag : f.word.tag ≡ 1 = ap (λ (w : Tagged). w.tag) (sym word) ∙ c.near_place-at.ensures.couple c.if-at-eq0.false in
+    let a = scene [] x c.args.cpu.now.core c.args.cpu.now.regs c.args.cpu.now.critical plan s m t o h.holds runs in
+    let stands : StandsFor a (c.args.cpu.now.regs.f + 1) (top t.frames).identity c.get-first.result f.first = subst (λ (w : Tagged). StandsFor a (c.args.cpu.now.regs.f + 1) (top t.frames).identity w f.first) (sym word) (first_stands x c.args.cpu.now plan s m t c.args.next o h runs c.top_mark.result k c.if-top_mark.false c.if-cpu.false tag) in
+    let leads = named_procedure c.args.cpu.now.core c.args.cpu.now.regs c.args.cpu.now.display c.get-first.result c.near_place-at.result (c.near_place-at.ensures.names c.if-at-eq0.false) c.get-word.result c.get-word.ensures (sym c.tag.ensures.value ∙ c.if-tag-ne7.false) (λ p fits e. none-some p (sym c.in-None.is ∙ c.from_word.ensures.known p fits e)) in
+    let e : EndMeets a c.args.next (Ok (end.Proc c.near_place-at.result)) (follow (here m t c.args.next) f.first) = leads a c.args.next (h.shows m t runs) (c.args.cpu.now.regs.f + 1) (top t.frames).identity f.first stands in
+    let p = proc_found a c.args.next c.near_place-at.result (follow (here m t c.args.next) f.first) e in
+    let (name, fits, is) = c.near_place-at.ensures.word c.if-at-eq0.false in
+    let disp : c.from.result ≡ (couple name.couple c.args.cpu.now.regs.level).disp = near_disp name c.get-first.result c.bits.result c.args.cpu.now.regs.level c.couple_at-offset.result c.from.result is c.bits.ensures.value c.couple_at-offset.ensures c.from.ensures in
+    omega (arith, disp, named_home c.args.cpu.now.core c.args.cpu.now.regs c.args.cpu.now.display c.get-first.result c.near_place-at.result (c.near_place-at.ensures.names c.if-at-eq0.false) c.get-word.result c.get-word.ensures (sym c.tag.ensures.value ∙ c.if-tag-ne7.false) (λ i small e. none-some i (sym c.in-None.is ∙ c.from_word.ensures.known i small e)) name fits is a c.args.next (h.shows m t runs) p.f p.segment p.level p.place p.procedure)
+
+pub enclosure_at-home-requires : goal.enclosure_at-home-requires
+enclosure_at-home-requires c =
+    let r = c.requires.runs in let x = r.storage in let plan = r.plan in let s = r.session in let m = r.member in let t = r.task in let o = r.ordered in let h = r.stands in let runs = r.running in
+    let k = c.top_mark.ensures x (machine_view plan s.jobs) (stack_of_task plan m.constants.number m.progress.job plan.running t) h.holds.memory (runs_here x c.args.cpu.now plan s m t h runs) in
+    let f = facing x c.args.cpu.now plan s m t c.args.next o h runs c.top_mark.result k c.if-top_mark.false c.if-cpu.false in
+    let word : c.get-first.result ≡ f.word = same_Some _ _ (sym c.get-first.ensures ∙ f.there) in
+    let tag : f.word.tag ≡ 1 = ap (λ (w : Tagged). w.tag) (sym word) ∙ c.near_place-at.ensures.couple c.if-at-eq0.false in
+    let a = scene [] x c.args.cpu.now.core c.args.cpu.now.regs c.args.cpu.now.critical plan s m t o h.holds runs in
+    let stands : StandsFor a (c.args.cpu.now.regs.f + 1) (top t.frames).identity c.get-first.result f.first = subst (λ (w : Tagged). StandsFor a (c.args.cpu.now.regs.f + 1) (top t.frames).identity w f.first) (sym word) (first_stands x c.args.cpu.now plan s m t c.args.next o h runs c.top_mark.result k c.if-top_mark.false c.if-cpu.false tag) in
+    let leads = named_procedure c.args.cpu.now.core c.args.cpu.now.regs c.args.cpu.now.display c.get-first.result c.near_place-at.result (c.near_place-at.ensures.names c.if-at-eq0.false) c.get-word.result c.get-word.ensures (sym c.tag.ensures.value ∙ c.if-tag-ne7.false) (λ p fits e. none-some p (sym c.in-None.is ∙ c.from_word.ensures.known p fits e)) in
+    let e : EndMeets a c.args.next (Ok (end.Proc c.near_place-at.result)) (follow (here m t c.args.next) f.first) = leads a c.args.next (h.shows m t runs) (c.args.cpu.now.regs.f + 1) (top t.frames).identity f.first stands in
+    let p = proc_found a c.args.next c.near_place-at.result (follow (here m t c.args.next) f.first) e in
+    let (name, fits, is) = c.near_place-at.ensures.word c.if-at-eq0.false in
+    let disp : c.from.result ≡ (couple name.couple c.args.cpu.now.regs.level).disp = near_disp name c.get-first.result c.bits.result c.args.cpu.now.regs.level c.couple_at-offset.result c.from.result is c.bits.ensures.value c.couple_at-offset.ensures c.from.ensures in
+    let home = named_home c.args.cpu.now.core c.args.cpu.now.regs c.args.cpu.now.display c.get-first.result c.near_place-at.result (c.near_place-at.ensures.names c.if-at-eq0.false) c.get-word.result c.get-word.ensures (sym c.tag.ensures.value ∙ c.if-tag-ne7.false) (λ i small e. none-some i (sym c.in-None.is ∙ c.from_word.ensures.known i small e)) name fits is a c.args.next (h.shows m t runs) p.f p.segment p.level p.place p.procedure in
+    (a, c.args.next, c.near_place-at.result, p.f, p.segment, p.level, p.place, p.procedure, (omega (arith, disp, home)))
+
+pub enter-step-requires-clause-home : goal.enter-step-requires-clause-home
+enter-step-requires-clause-home c = λ b f segment level place e.
+    let (name, fits, is) = c.near_place-at.ensures.word c.if-at-eq0.false in
+    let disp : c.from.result ≡ (couple name.couple c.args.cpu.now.regs.level).disp = near_disp name c.get-first.result c.bits.result c.args.cpu.now.regs.level c.couple_at-offset.result c.from.result is c.bits.ensures.value c.couple_at-offset.ensures c.from.ensures in
+    let home = named_home c.args.cpu.now.core c.args.cpu.now.regs c.args.cpu.now.display c.get-first.result c.near_place-at.result (c.near_place-at.ensures.names c.if-at-eq0.false) c.get-word.result c.get-word.ensures (sym c.tag.ensures.value ∙ c.if-tag-ne7.false) (λ i small e. none-some i (sym c.in-None.is ∙ c.from_word.ensures.known i small e)) name fits is b c.args.next (e.stands.shows b.member b.task b.running) f segment level place e.procedure in
+    c.enclosure_at-home.ensures.home b c.args.next c.near_place-at.result f segment level place e.procedure (omega (arith, disp, home))
 
 pub enter-step-requires-clause-procedure : goal.enter-step-requires-clause-procedure
 enter-step-requires-clause-procedure c =
