@@ -30,3 +30,4 @@ pub mod Segments
 pub mod Sites
 pub mod Entering
 pub mod Environments
+pub mod Nears

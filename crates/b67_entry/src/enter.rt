@@ -1,6 +1,6 @@
 //! MKST, ENTR, and the accidental entry of a procedure.
 
-ghost use Rattle.std.specs.Prelude.{◌≡◌, ◌≢◌, ℕ, not, ◌==◌, ◌+◌, ◌<◌, true, List, Some, None, slice_get};
+ghost use Rattle.std.specs.Prelude.{◌≡◌, ◌≢◌, ℕ, not, ◌==◌, ◌+◌, ◌*◌, ◌<◌, true, List, Some, None, slice_get};
 ghost use Rattle.b67_ctl.specs.Layout.{IsPlace, IsPcw, pcw_word};
 ghost use Rattle.b67_ctl.specs.declared.programs.Pcw.{Pcw};
 ghost use Rattle.b67_ctl.specs.declared.registers.Regs.{Regs};
@@ -17,16 +17,19 @@ ghost use Rattle.b67_layout.specs.Meets.{RunsSome, ForEach, Meets, here};
 ghost use Rattle.b67_exec_cells.specs.Tops.{StaysInSegment};
 ghost use Rattle.b67_refer.specs.RunningContext.{RunningContext, IsShown};
 ghost use Rattle.b67_refer.specs.Displays.{HoldsEnvironment, EntersOver};
-ghost use Rattle.b67_refer.specs.Own.{LeadsTo};
-ghost use Rattle.b67_refer.specs.declared.ends.End.TheVariants as end;
+ghost use Rattle.b67_refer.specs.Cells.{view};
+ghost use Rattle.b67_model.specs.Environment.{level_of_frame};
+ghost use Rattle.b67_model.specs.State.{frame};
 ghost use Rattle.b67_entry.specs.Procedures.{ReachesProc, CanEnter, EntersOrFaults, HoldsUnder, CallsWith, CallsOrMeets};
 ghost use Rattle.b67_model.specs.Words as Words;
 
 use b67_core::Core;
-use b67_ctl::{Mscw, Pcw, Rcw, Regs};
-use b67_refer::{Activation, End, chase, enclosure_of, mcp_end, near_place, rebuild_entered};
+use b67_ctl::{IntrinsicPcw, Mscw, Pcw, Rcw, Regs};
+use b67_refer::{
+    Activation, Enclosure, End, chase, couple_at, enclosure_at, enclosure_of, near_place, rebuild_entered,
+};
 use b67_stack::{Cpu, Step};
-use b67_word::{Fault, Place, Word};
+use b67_word::{Fault, Place};
 
 /// MKST: puts a mark on the stack, or faults if the stack is as high as its slot. The task goes on at `next`.
 #[inline]
@@ -85,21 +88,23 @@ fn begin(cpu: &mut Cpu, procedure: Pcw, under: u32, known: u8)
     rebuild_entered(&cpu.core, &cpu.regs, &mut cpu.display, known, under);
 }
 
-/// The top activation record, which is marked, enters the procedure of a cell that its first cell refers to: that cell
-/// becomes the return to `next`.
+/// The top activation record, which is marked, enters the procedure of a cell that its first cell refers to and that lies in the
+/// activation record `home`: the first cell becomes the return to `next`.
 ///
 /// INVALID OPERAND, with nothing changed, if the procedure's level isn't the next one above that of its cell's
 /// activation record.
 #[inline(always)]
-fn enter(cpu: &mut Cpu, cell: u32, next: Place) -> Step
+fn enter(cpu: &mut Cpu, cell: u32, home: Enclosure, next: Place) -> Step
     requires procedure { (a : RunningContext cpu.old.core cpu.old.regs) × (f : ℕ) × (segment : ℕ) × (level : ℕ) × (place : Place) × (reference : Words.Word) × (arguments : List Words.Word)
         × ReachesProc cpu.old a next cell f segment level place × CallsWith a.task reference arguments }
+    requires home { (a : RunningContext cpu.old.core cpu.old.regs) (f segment level : ℕ) (place : Place) → ReachesProc cpu.old a next cell f segment level place
+        → home.record ≡ record { stack = (view a f).stack; disp = (view a f).disp; level = level_of_frame (frame (here a.member a.task next) f) } }
+    requires mark { cpu.old.regs.stacks + home.record.stack * cpu.old.regs.stack_size + home.record.disp ≡ home.mark }
     requires next { IsPlace next }
     ensures row { (a : RunningContext cpu.old.core cpu.old.regs) (f segment level : ℕ) (place : Place) (reference : Words.Word) (arguments : List Words.Word)
         → ReachesProc cpu.old a next cell f segment level place → CallsWith a.task reference arguments
         → Meets a.storage a.plan a.session a.member result cpu.old cpu.new (rows.enters (here a.member a.task next) arguments (AtProc f segment level place)) }
 {
-    let home = enclosure_of(&cpu.core, &cpu.regs, cell);
     let env = home.record;
     let procedure = procedure_at(&cpu.core, cell);
     if env.level + 1 != procedure.level {
@@ -118,26 +123,8 @@ fn enter(cpu: &mut Cpu, cell: u32, next: Place) -> Step
     Step::Done
 }
 
-/// The core address of the procedure's cell to which a word leads, if the word is that of a couple that names this cell, and the
-/// cell is near. Else 0: the word may lead anywhere.
-#[inline(always)]
-fn near_procedure(cpu: &Cpu, w: Word) -> u32
-    requires { (a : RunningContext cpu.now.core cpu.now.regs) × IsShown a cpu.now.display }
-    ensures leads { result ≢ 0 → LeadsTo cpu.now.core cpu.now.regs cpu.now.display w (end.Proc result) }
-    ensures couple { result ≢ 0 → w.tag ≡ 1 }
-{
-    let at = near_place(&cpu.core, &cpu.regs, &cpu.display, w);
-    if at == 0 {
-        return 0;
-    }
-    match Pcw::from_word(cpu.core.get(at)) {
-        Some(_) => at,
-        None => 0,
-    }
-}
-
-/// ENTR, as `entr` makes it, where the reference is a couple that names the cell of a procedure near by. None, with nothing
-/// changed, if it may lead elsewhere.
+/// ENTR, as `entr` makes it, where the reference is a couple that names the near cell of a procedure or of an intrinsic. None, with
+/// nothing changed, if it may lead elsewhere.
 #[inline(always)]
 pub fn entr_near(cpu: &mut Cpu, next: Place) -> Option<Step>
     requires runs { RunsSome cpu.old }
@@ -152,36 +139,22 @@ pub fn entr_near(cpu: &mut Cpu, next: Place) -> Option<Step>
         return None;
     }
     let first = cpu.core.get(cpu.regs.f + 1);
-    let cell = near_procedure(cpu, first);
-    if cell == 0 {
+    let at = near_place(&cpu.core, &cpu.regs, &cpu.display, first);
+    if at == 0 {
         return None;
     }
-    let step = enter(cpu, cell, next);
-    Some(step)
-}
-
-/// The number of the intrinsic that ENTR calls, if the first cell of the marked activation record on top is a couple that names it.
-/// Else 0: ENTR may call or enter anything, or fault.
-#[inline(always)]
-pub fn intrinsic_called(cpu: &Cpu, next: Place) -> u8
-    requires runs { RunsSome cpu.now }
-    requires next { IsPlace next }
-    ensures { result ≢ 0 → ForEach cpu.now (λ x plan s m t. called_on (here m t next) (top_of (here m t next)).standing ≡ Some result) }
-{
-    if cpu.top_mark().entered {
-        return 0;
+    let word = cpu.core.get(at);
+    if word.tag() != 7 {
+        return None;
     }
-    if cpu.regs.s == cpu.regs.f {
-        return 0;
-    }
-    let first = cpu.core.get(cpu.regs.f + 1);
-    let end = match mcp_end(&cpu.core, &cpu.regs, &cpu.display, first) {
-        Some(end) => end,
-        None => return 0,
-    };
-    match end {
-        End::Intrinsic(n) => n,
-        _ => 0,
+    match IntrinsicPcw::from_word(word) {
+        Some(p) => Some(Step::Call(p.number as u8)),
+        None => {
+            let offset = couple_at(first.bits() as u16, cpu.regs.level).disp;
+            let home = enclosure_at(&cpu.core, &cpu.regs, at - u32::from(offset));
+            let step = enter(cpu, at, home, next);
+            Some(step)
+        }
     }
 }
 
@@ -204,7 +177,10 @@ pub fn entr(cpu: &mut Cpu, next: Place) -> Step
         return Step::Fault(Fault::InvalidOperand);
     }
     match chase(&cpu.core, &cpu.regs, &cpu.display, first) {
-        Ok(End::Proc(cell)) => enter(cpu, cell, next),
+        Ok(End::Proc(cell)) => {
+            let home = enclosure_of(&cpu.core, &cpu.regs, cell);
+            enter(cpu, cell, home, next)
+        }
         Ok(End::Intrinsic(n)) => Step::Call(n),
         Ok(End::Cell(_)) => Step::Fault(Fault::InvalidOperand),
         Ok(End::Element { .. }) => Step::Fault(Fault::InvalidOperand),

@@ -12,7 +12,7 @@ mod leave;
 mod refusals;
 mod returns;
 
-pub use enter::{accident, accident_on, entr, entr_near, intrinsic_called, mkst};
+pub use enter::{accident, accident_on, entr, entr_near, mkst};
 pub use leave::{caller, exit, is_critical};
 pub use refusals::refusal;
 pub use returns::retn;

@@ -1,5 +1,5 @@
 -- Where the stacks begin that a word may name.
-use Rattle.std.proofs.Common.{◌≡◌, ℕ, ◌+◌, ◌-◌, ◌*◌, ◌<◌, ◌≤◌, ◌^◌, ◌∙◌, arith, ⊎_elim, List, length}
+use Rattle.std.proofs.Common.{◌≡◌, ℕ, ◌+◌, ◌*◌, ◌<◌, ◌≤◌, ◌^◌, arith, List, length}
 use Rattle.b67_word.specs.Tagged.{Tagged}
 use Rattle.b67_ctl.specs.declared.registers.Regs.{Regs}
 use Rattle.b67_stack.specs.MachineView.{MachineView}

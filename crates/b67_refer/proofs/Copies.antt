@@ -10,7 +10,6 @@ use Rattle.b67_ctl.specs.declared.descriptors.DataDesc.{DataDesc}
 use Rattle.b67_ctl.specs.Areas.{area_head_word, IsAreaHead}
 use Rattle.b67_area.specs.declared.Info.{Info}
 use Rattle.b67_area.specs.declared.Kind.{Kind}
-use Rattle.b67_area.specs.declared.Kind.TheVariants as kind
 use Rattle.b67_area.specs.Spans.{Span, Area, Hole, area_at}
 use Rattle.b67_area.specs.Words.{kind_number, head_word}
 use Rattle.b67_area.specs.Directory.{IsInfo, AreSpans, Laid}

@@ -1,5 +1,5 @@
 -- What the words of cells come to, and one turn of a chain of references.
-use Rattle.std.proofs.Common.{◌≡◌, ℕ, ◌+◌, ◌*◌, ◌<◌, ◌≤◌, ◌^◌, List, Some, None, Result, Ok, Err, refl, sym, ◌∙◌, ap, arith, true, false, subst}
+use Rattle.std.proofs.Common.{◌≡◌, ℕ, List, Some, None, Result, Ok, Err, refl, sym, ◌∙◌, ap, arith, true, false, subst}
 use Rattle.std.specs.List.{slice_get}
 use Rattle.std.proofs.lemmas.Bool.{true≢false, false≢true}
 use Rattle.b67_word.specs.Tagged.{Tagged}
@@ -8,7 +8,7 @@ use Rattle.b67_ctl.specs.declared.registers.Regs.{Regs}
 use Rattle.b67_ctl.specs.declared.descriptors.DataDesc.{DataDesc}
 use Rattle.b67_ctl.specs.Descriptors.{data_word, IsDataDesc}
 use Rattle.b67_model.specs.Words as Words
-use Rattle.b67_model.specs.Common.{Word, Operand, Name, Ref, Row, Element, Original, Proc, Intrinsic, Answer, Stops, element_end, link_at, NamesEntered, NamesArray, OwnsArray}
+use Rattle.b67_model.specs.Common.{Word, Operand, Name, Ref, Row, Element, Original, Proc, Intrinsic, Answer, Stops, element_end, link_at, follow, NamesEntered, NamesArray, OwnsArray}
 use Rattle.b67_model.specs.Chase as Chase
 use Rattle.b67_layout.specs.Meets.{here}
 use Rattle.b67_stack.specs.Shapes.{Copied, copy_desc, IsCopy}
@@ -59,28 +59,20 @@ module _ (core : List Tagged) (r : Regs) (a : LiveContext core r) where
     end_row w d original (row b e c i h o) z y found = let P : Word → Type 0 = λ x. LinkMeets a q (Ok (Some (end.Array original))) (link_at (here a.member a.runner q) f offset x) in subst P (sym e) (record { home = found (a.plan.home a.member.constants.number b) h; names = o })
     end_row w d original (item b x e c i k h o) z y found = absurd (true≢false (sym i ∙ y))
 
-    pub end_item : (w : Word) (d : DataDesc) (original : ℕ) (found : Result End Fault) → Described at f w d → d.copy ≡ true → d.indexed ≡ true → ((home : ℕ) → IsCopyOf core d home → original ≡ home)
-        → ((n : ℕ) → original ≡ a.plan.home a.member.constants.number n → NamesArray a.member.progress.job.arrays (reach a) n → EndMeets a q found (element_end (here a.member a.runner q) n d.length))
+    pub end_item : (w : Word) (d : DataDesc) (found : Result End Fault) → Described at f w d → d.copy ≡ true → d.indexed ≡ true → EndMeets a q found (follow (here a.member a.runner q) w)
         → LinkMeets a q (on_link found) (link_at (here a.member a.runner q) f offset w)
-    end_item w d original found (own b e c h o) z y is each = absurd (false≢true (sym c ∙ z))
-    end_item w d original found (row b e c i h o) z y is each = absurd (false≢true (sym i ∙ y))
-    end_item w d original found (item b x e c i k h o) z y is each =
-        let m = each b (is (a.plan.home a.member.constants.number b) h) o in
-        let E : ℕ → Type 0 = λ n. EndMeets a q found (element_end (here a.member a.runner q) b n) in
+    end_item w d found (own b e c h o) z y m = absurd (false≢true (sym c ∙ z))
+    end_item w d found (row b e c i h o) z y m = absurd (false≢true (sym i ∙ y))
+    end_item w d found (item b x e c i k h o) z y m =
+        let F : Word → Type 0 = λ v. EndMeets a q found (follow (here a.member a.runner q) v) in
         let P : Word → Type 0 = λ v. LinkMeets a q (on_link found) (link_at (here a.member a.runner q) f offset v) in
-        subst P (sym e) (linked found (element_end (here a.member a.runner q) b x) (subst E k m))
+        subst P (sym e) (linked found (element_end (here a.member a.runner q) b x) (subst F e m))
       where
         linked : (r : Result End Fault) (end : Answer Chase.End) → EndMeets a q r end → LinkMeets a q (on_link r) (Stops end)
         linked (Ok r) (Ok end) m = m
         linked (Err x) (Err y) m = m
         linked (Ok r) (Err y) m = absurd m
         linked (Err x) (Ok end) m = absurd m
-
-  pub item_of : (at owner : ℕ) (w : Word) (d : DataDesc) (original : ℕ) → Described at owner w d → d.copy ≡ true → d.indexed ≡ true → ((home : ℕ) → IsCopyOf core d home → original ≡ home)
-      → (n : ℕ) × (original ≡ a.plan.home a.member.constants.number n) × NamesArray a.member.progress.job.arrays (reach a) n
-  item_of at owner w d original (own b e c h o) z y is = absurd (false≢true (sym c ∙ z))
-  item_of at owner w d original (row b e c i h o) z y is = absurd (false≢true (sym i ∙ y))
-  item_of at owner w d original (item b x e c i k h o) z y is = (b, is (a.plan.home a.member.constants.number b) h, o)
 
   pub copied : (at owner : ℕ) (w : Word) (d : DataDesc) → Described at owner w d → d.copy ≡ true → (home : ℕ) × IsCopyOf core d home
   copied at owner w d h z = grind arith

@@ -1,9 +1,9 @@
 -- The top of the stack in which an address is, and the frames whose marks are there.
 use Rattle.std.proofs.Common.{◌≡◌, ℕ, ◌+◌, ◌-◌, ◌*◌, ◌/◌, ◌<◌, ◌≤◌, ◌^◌, List, Some, refl, sym, ◌∙◌, ap, arith, ⊎_elim, length, get_or, true, false, Ok, Err}
-use Rattle.std.specs.Prelude.{nat_le}
+use Rattle.std.specs.Prelude.{nat_le, nat_lt}
 use Rattle.std.specs.List.{slice_get}
 use Rattle.std.proofs.lemmas.Nat.{div-mul-add}
-use Rattle.std.proofs.lemmas.Bool.{cases_eq, cases_lt, lt-leb, le-leb}
+use Rattle.std.proofs.lemmas.Bool.{cases_eq, cases_lt, lt-leb, le-leb, ltb-true, ltb-false}
 use Rattle.std.proofs.lemmas.Option.{get_or_from_slice_get}
 use Rattle.b67_word.specs.Tagged.{Tagged}
 use Rattle.b67_word.specs.declared.couples.Place.{Place}
@@ -18,12 +18,16 @@ use Rattle.b67_layout.specs.Common.{spot_in, head, frame_address, here}
 use Rattle.b67_refer.proofs.Slots.{has_slot}
 use Rattle.b67_layout.proofs.Frames.{height-is}
 use Rattle.b67_refer.specs.RunningContext.{RunningContext, LiveContext, IsShown}
-use Rattle.b67_refer.specs.LiveCells.{IsTop, IsUnder}
+use Rattle.b67_refer.specs.LiveCells.{IsOfSlot, IsTop, IsUnder}
 use Rattle.b67_refer.proofs.Bases.{stacks_is, size_is, slot_inside, dictionary_is, dictionary_low}
 use Rattle.b67_refer.proofs.Seats.{seat}
 use Rattle.b67_refer.proofs.Rule.{seat_address}
 use Rattle.b67_refer.proofs.Fixed.{mcp_address, dictionary_home, dictionary_high}
 use Rattle.b67_refer.proofs.Chains.{level, level_is, level_at, own_level, base_level, frame_at_same}
+
+-- a frame's kind by a comparison
+pub kind_by : (x y f : ℕ) → (x < y → 1 < f) → (y ≤ x → f ≤ 1) → IsOfSlot (nat_lt x y) f
+kind_by x y f own few = ((λ t. own (ltb-true x y t)), (λ t. few (ltb-false x y t)))
 
 pub one_word : (spot : ℕ → StackPlace) (s : Standing) → 1 ≤ head_size (head spot s)
 one_word spot s = grind arith
@@ -157,6 +161,10 @@ module _ (core : List Tagged) (r : Regs) (a : RunningContext core r) where
 
     pub names_base : c.level ≤ 1 → (frame_at (here a.member a.task q) c.level).identity ≤ 1
     names_base few = base_level core r a q c.level few
+
+    -- above level 1 the record is a task's
+    pub names_kind : c.level ≤ r.level → IsOfSlot (nat_lt 1 c.level) (frame_at (here a.member a.task q) c.level).identity
+    names_kind low = kind_by 1 c.level (frame_at (here a.member a.task q) c.level).identity (λ high. names_own high low) names_base
 
     pub display_at : c.level ≤ r.level → get_or display c.level 0 ≡ frame_address a.plan a.member a.task (frame_at (here a.member a.task q) c.level).identity
     display_at low =

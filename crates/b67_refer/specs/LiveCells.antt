@@ -25,6 +25,10 @@ abbrev pub IsPlain : List Tagged → (from to : ℕ) → Bool → Type 0
 IsPlain core from to true = (k : ℕ) (w : Tagged) → from ≤ k → k ≤ to → slice_get core k ≡ Some w → w.tag ≡ 3 → ⊥
 IsPlain core from to false = (k : ℕ) × (w : Tagged) × (from ≤ k) × (k ≤ to) × (slice_get core k ≡ Some w) × (w.tag ≡ 3)
 
+-- whether a frame is a task's, so that its mark lies in a slot; else it is the MCP or the dictionary
+abbrev pub IsOfSlot : Bool → (f : ℕ) → Type 0
+IsOfSlot of_slot f = (of_slot ≡ true → 1 < f) × (of_slot ≡ false → f ≤ 1)
+
 module _ {core : List Tagged} {r : Regs} (a : LiveContext core r) where
   -- what the task may name, and where the frames are
   abbrev pub reach : List Known

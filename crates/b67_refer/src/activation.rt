@@ -102,15 +102,15 @@ pub struct Enclosure {
     pub mark: u32,
 }
 
-/// The activation record in which the cell of a procedure lies, and where its mark stands.
+/// The activation record whose mark stands at an address, in which the cell of a procedure lies.
 #[inline(always)]
-pub fn enclosure_of(core: &Core, regs: &Regs, cell: u32) -> Enclosure
-    requires { (a : RunningContext core.now regs.now) × (q : Place) × (f : ℕ) × (segment : ℕ) × (level : ℕ) × (place : Place) × IsProcAt a q cell f segment level place }
-    ensures home { (a : RunningContext core.now regs.now) (q : Place) (f segment level : ℕ) (place : Place) → IsProcAt a q cell f segment level place
+pub fn enclosure_at(core: &Core, regs: &Regs, mark: u32) -> Enclosure
+    requires { (a : RunningContext core.now regs.now) × (q : Place) × (cell : ℕ) × (f : ℕ) × (segment : ℕ) × (level : ℕ) × (place : Place) × IsProcAt a q cell f segment level place
+        × (mark ≡ frame_at_core a f) }
+    ensures home { (a : RunningContext core.now regs.now) (q : Place) (cell f segment level : ℕ) (place : Place) → IsProcAt a q cell f segment level place → mark ≡ frame_at_core a f
         → result.record ≡ record { stack = (view a f).stack; disp = (view a f).disp; level = level_of_frame (frame (here a.member a.task q) f) } }
     ensures mark { regs.now.stacks + result.record.stack * regs.now.stack_size + result.record.disp ≡ result.mark }
 {
-    let mark = mark_under(core, regs, cell);
     let spot = spot_of(regs, mark);
     Enclosure {
         record: Activation {
@@ -120,4 +120,16 @@ pub fn enclosure_of(core: &Core, regs: &Regs, cell: u32) -> Enclosure
         },
         mark,
     }
+}
+
+/// The activation record in which the cell of a procedure lies, and where its mark stands.
+#[inline(always)]
+pub fn enclosure_of(core: &Core, regs: &Regs, cell: u32) -> Enclosure
+    requires { (a : RunningContext core.now regs.now) × (q : Place) × (f : ℕ) × (segment : ℕ) × (level : ℕ) × (place : Place) × IsProcAt a q cell f segment level place }
+    ensures home { (a : RunningContext core.now regs.now) (q : Place) (f segment level : ℕ) (place : Place) → IsProcAt a q cell f segment level place
+        → result.record ≡ record { stack = (view a f).stack; disp = (view a f).disp; level = level_of_frame (frame (here a.member a.task q) f) } }
+    ensures mark { regs.now.stacks + result.record.stack * regs.now.stack_size + result.record.disp ≡ result.mark }
+{
+    let mark = mark_under(core, regs, cell);
+    enclosure_at(core, regs, mark)
 }

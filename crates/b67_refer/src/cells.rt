@@ -1,4 +1,4 @@
-//! The cell at an offset of an activation record. `near_cell` is what needs no call; `slot_cell` and `base_cell` find each cell.
+//! The cell at an offset of an activation record. `near_cell` is what needs no call; `record_cell` finds each cell.
 
 ghost use Rattle.std.specs.Prelude.{◌≡◌, ◌≢◌, ℕ, ◌+◌, ◌^◌, ◌<◌, ◌≤◌, Bool, List, Result, Ok, length};
 ghost use Rattle.b67_word.specs.Tagged.{Tagged};
@@ -129,33 +129,33 @@ fn has_far_cell(core: &Core, regs: &Regs, base: u32, offset: u16) -> bool
     true
 }
 
-/// The cell at an offset of an activation record whose mark is at an address of a slot.
+/// The cell at an offset of the activation record whose mark is at an address: a task's record, in a slot, if `of_slot` says so; else
+/// the dictionary, or the MCP, whose mark is at address 0. INVALID ADDRESS exactly if there is no such cell.
 #[inline(always)]
-pub(crate) fn slot_cell(core: &Core, regs: &Regs, base: u32, offset: u16) -> Result<u32, Fault>
-    requires { (a : LiveContext core.now regs.now) × (f : ℕ) × NamesEntered (live.reach a) f × (1 < f) × (base ≡ live.frame_at_core a f) }
-    ensures { (a : LiveContext core.now regs.now) (q : Place) (f : ℕ) → NamesEntered (live.reach a) f → 1 < f → base ≡ live.frame_at_core a f
+pub(crate) fn record_cell(
+    core: &Core,
+    regs: &Regs,
+    base: u32,
+    offset: u16,
+    of_slot: bool,
+) -> Result<u32, Fault>
+    requires { (a : LiveContext core.now regs.now) × (f : ℕ) × NamesEntered (live.reach a) f × (base ≡ live.frame_at_core a f) × live.IsOfSlot of_slot f }
+    ensures { (a : LiveContext core.now regs.now) (q : Place) (f : ℕ) → NamesEntered (live.reach a) f → base ≡ live.frame_at_core a f → live.IsOfSlot of_slot f
         → live.CellMeets a q f offset result (cell (here a.member a.task q) f offset) }
 {
-    if offset < 2 {
-        return Err(Fault::InvalidAddress);
+    if of_slot {
+        if offset < 2 {
+            return Err(Fault::InvalidAddress);
+        }
+        let near = near_cell(core, regs, base, offset);
+        if near != 0 {
+            return Ok(near);
+        }
+        if !has_far_cell(core, regs, base, offset) {
+            return Err(Fault::InvalidAddress);
+        }
+        return Ok(base + u32::from(offset));
     }
-    let at = near_cell(core, regs, base, offset);
-    if at != 0 {
-        return Ok(at);
-    }
-    if !has_far_cell(core, regs, base, offset) {
-        return Err(Fault::InvalidAddress);
-    }
-    Ok(base + u32::from(offset))
-}
-
-/// The cell at an offset of the dictionary, or of the MCP, whose mark is at address 0.
-#[inline(always)]
-pub(crate) fn base_cell(core: &Core, regs: &Regs, base: u32, offset: u16) -> Result<u32, Fault>
-    requires { (a : LiveContext core.now regs.now) × (f : ℕ) × NamesEntered (live.reach a) f × (f ≤ 1) × (base ≡ live.frame_at_core a f) }
-    ensures { (a : LiveContext core.now regs.now) (q : Place) (f : ℕ) → NamesEntered (live.reach a) f → f ≤ 1 → base ≡ live.frame_at_core a f
-        → live.CellMeets a q f offset result (cell (here a.member a.task q) f offset) }
-{
     if base == 0 {
         if offset < FIRST_INTRINSIC || offset > LAST_INTRINSIC {
             return Err(Fault::InvalidAddress);

@@ -11,10 +11,9 @@ ghost use Rattle.b67_layout.specs.Meets.{here};
 ghost use Rattle.b67_refer.specs.RunningContext.{RunningContext, IsShown, live_of};
 ghost use Rattle.b67_refer.specs.LiveCells as live;
 ghost use Rattle.b67_refer.specs.Cells.{FindsCell};
-ghost use Rattle.b67_refer.specs.Own.{NamesCell, LeadsTo};
-ghost use Rattle.b67_refer.specs.declared.ends.End.TheVariants as end;
+ghost use Rattle.b67_refer.specs.Own.{NamesCell};
 
-use crate::cells::{base_cell, slot_cell, top_cell, under_cell};
+use crate::cells::{record_cell, top_cell, under_cell};
 use b67_core::Core;
 use b67_ctl::{Irw, Regs};
 use b67_word::{Couple, Fault, Word};
@@ -64,8 +63,8 @@ fn mark_over(regs: &Regs, display: &[u32; 32], level: u8) -> u32
     }
 }
 
-/// The core address of the cell that a couple's word names, if it is near. Else 0: the word may name another cell, or none. Nothing
-/// is called.
+/// The core address of the cell that a couple's word names, if it is near: in the dictionary or the MCP, in the top record, or under a
+/// mark near by. Else 0: the word may name another cell, or none. Nothing is called.
 #[inline(always)]
 pub fn near_place(core: &Core, regs: &Regs, display: &[u32; 32], w: Word) -> u32
     requires { (a : RunningContext core.now regs.now) × IsShown a display.now }
@@ -88,26 +87,12 @@ pub fn near_place(core: &Core, regs: &Regs, display: &[u32; 32], w: Word) -> u32
         return top;
     }
     if c.level < 2 {
-        return 0;
+        return match record_cell(core, regs, base, c.disp, false) {
+            Ok(at) => at,
+            Err(_) => 0,
+        };
     }
     under_cell(core, regs, base, mark_over(regs, display, c.level), c.disp)
-}
-
-/// The core address of the operand's cell that a couple's word names, if it is near. Else 0: the word may lead anywhere.
-#[inline(always)]
-pub fn near_operand(core: &Core, regs: &Regs, display: &[u32; 32], w: Word) -> u32
-    requires { (a : RunningContext core.now regs.now) × IsShown a display.now }
-    ensures leads { result ≢ 0 → LeadsTo core.now regs.now display.now w (end.Cell result) }
-    ensures couple { result ≢ 0 → w.tag ≡ 1 }
-{
-    let at = near_place(core, regs, display, w);
-    if at == 0 {
-        return 0;
-    }
-    if core.get(at).tag() != 0 {
-        return 0;
-    }
-    at
 }
 
 /// The core address of the cell that a couple names in the running environment. INVALID ADDRESS exactly if the level
@@ -122,9 +107,5 @@ pub fn cell_of(core: &Core, regs: &Regs, display: &[u32; 32], c: Couple) -> Resu
     if c.level > regs.level {
         return Err(Fault::InvalidAddress);
     }
-    let base = display[c.level as usize];
-    if c.level > 1 {
-        return slot_cell(core, regs, base, c.disp);
-    }
-    base_cell(core, regs, base, c.disp)
+    record_cell(core, regs, display[c.level as usize], c.disp, c.level > 1)
 }

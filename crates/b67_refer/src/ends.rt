@@ -1,17 +1,15 @@
 //! The end of a chain of references.
 
-ghost use Rattle.std.specs.Prelude.{◌≡◌, ◌≢◌, ℕ, Result, Option, Some, Ok, slice_get};
+ghost use Rattle.std.specs.Prelude.{◌≡◌, ◌≢◌, ℕ, Some, Ok};
 ghost use Rattle.b67_word.specs.Tagged.{Tagged};
 ghost use Rattle.b67_word.specs.declared.couples.Place.{Place};
 ghost use Rattle.b67_model.specs.Words as Words;
-ghost use Rattle.b67_model.specs.Cells.{place_of};
-ghost use Rattle.b67_model.specs.Chase.{Leads, element_end, link_at, chase_on, follow};
-ghost use Rattle.b67_model.specs.InOrder.{NamesArray};
+ghost use Rattle.b67_model.specs.Chase.{Leads, link_at, chase_on, follow};
 ghost use Rattle.b67_layout.specs.Meets.{here};
 ghost use Rattle.b67_refer.specs.RunningContext.{RunningContext, LiveContext, IsShown, live_of, running_of, FromEither};
-ghost use Rattle.b67_refer.specs.LiveCells.{reach, StandsFor, IsCellAt, FindsCell};
+ghost use Rattle.b67_refer.specs.LiveCells.{StandsFor, IsCellAt};
 ghost use Rattle.b67_refer.specs.LiveEnds.{IsReference, EndMeets, LinkMeets};
-ghost use Rattle.b67_refer.specs.Ends.{IsCopyOf, HasTagAt};
+ghost use Rattle.b67_refer.specs.Ends.{IsCopyOf};
 ghost use Rattle.b67_refer.specs.Own.{NamesCell, FollowsTo, LeadsTo};
 
 use crate::couples::{cell_of, couple_at, near_place};
@@ -47,20 +45,6 @@ pub fn owner(core: &Core, copy: DataDesc) -> u32
     AreaHead::read(core.get(copy.address - 1)).owner
 }
 
-/// The element of an array at an index. INVALID INDEX if the array, as it is now, is no longer than the index.
-#[inline(always)]
-pub(crate) fn element_at(core: &Core, regs: &Regs, original: u32, index: u32) -> Result<End, Fault>
-    requires { (a : LiveContext core.now regs.now) × (n : ℕ) × (original ≡ a.plan.home a.member.constants.number n) × NamesArray a.member.progress.job.arrays (reach a) n }
-    ensures { (a : LiveContext core.now regs.now) (q : Place) (n : ℕ) → original ≡ a.plan.home a.member.constants.number n
-        → NamesArray a.member.progress.job.arrays (reach a) n → EndMeets a q result (element_end (here a.member a.runner q) n index) }
-{
-    let d = DataDesc::read(core.get(original));
-    if index >= d.length {
-        return Err(Fault::InvalidIndex);
-    }
-    Ok(End::Element { original, index })
-}
-
 /// The element to which an element copy leads. INVALID INDEX if the array, as it is now, is no longer than the index, INVALID
 /// OPERAND if the word is neither an element copy nor a reference.
 #[inline(always)]
@@ -77,28 +61,13 @@ pub fn element_of(core: &Core, regs: &Regs, w: Word) -> Result<End, Fault>
         return Err(Fault::InvalidOperand);
     }
     let original = owner(core, copy);
-    element_at(core, regs, original, copy.length)
-}
-
-/// The end at an array's descriptor in a cell.
-#[inline(always)]
-fn array_end(core: &Core, regs: &Regs, at: u32) -> Result<Option<End>, Fault>
-    requires { (a : LiveContext core.now regs.now) × (q : Place) × (f : ℕ) × (offset : ℕ) × (w : Words.Word) × IsCellAt a q at f offset w × HasTagAt core.now at 5 }
-    ensures { (a : LiveContext core.now regs.now) (q : Place) (f offset : ℕ) (w : Words.Word) → IsCellAt a q at f offset w → HasTagAt core.now at 5
-        → LinkMeets a q result (link_at (here a.member a.runner q) f offset w) }
-{
-    let d = DataDesc::read(core.get(at));
-    if !d.copy {
-        return Ok(Some(End::Array(at)));
+    if copy.length >= DataDesc::read(core.get(original)).length {
+        return Err(Fault::InvalidIndex);
     }
-    let original = owner(core, d);
-    if !d.indexed {
-        return Ok(Some(End::Array(original)));
-    }
-    match element_at(core, regs, original, d.length) {
-        Ok(end) => Ok(Some(end)),
-        Err(fault) => Err(fault),
-    }
+    Ok(End::Element {
+        original,
+        index: copy.length,
+    })
 }
 
 /// What the word in a cell comes to: an end, or None if it is a reference. INVALID OPERAND exactly if it is
@@ -117,7 +86,17 @@ fn end_at(core: &Core, regs: &Regs, at: u32) -> Result<Option<End>, Fault>
         return Ok(None);
     }
     if w.tag() == 5 {
-        return array_end(core, regs, at);
+        let d = DataDesc::read(w);
+        if !d.copy {
+            return Ok(Some(End::Array(at)));
+        }
+        if !d.indexed {
+            return Ok(Some(End::Array(owner(core, d))));
+        }
+        return match element_of(core, regs, w) {
+            Ok(end) => Ok(Some(end)),
+            Err(fault) => Err(fault),
+        };
     }
     if w.tag() != 7 {
         return Err(Fault::InvalidOperand);
@@ -128,19 +107,6 @@ fn end_at(core: &Core, regs: &Regs, at: u32) -> Result<Option<End>, Fault>
             Ok(Some(End::Intrinsic(number)))
         }
         None => Ok(Some(End::Proc(at))),
-    }
-}
-
-/// The cell that a reference's word names.
-#[inline(always)]
-fn named_cell(core: &Core, regs: &Regs, display: &[u32; 32], w: Word) -> Result<u32, Fault>
-    requires { (a : LiveContext core.now regs.now) × IsShown (running_of a) display.now × (at : ℕ) × (owner : ℕ) × (v : Words.Word) × StandsFor a at owner w v × IsReference v }
-    ensures { (a : LiveContext core.now regs.now) (q : Place) → IsShown (running_of a) display.now → (at owner : ℕ) (v : Words.Word) → StandsFor a at owner w v
-        → IsReference v → FromEither (λ (b : LiveContext core.now regs.now). FindsCell b q result (place_of (here a.member a.runner q) v)) a }
-{
-    match Irw::from_word(w) {
-        Some(r) => cell_of(core, regs, display, couple_at(r.couple, regs.level)),
-        None => cell_at(core, regs, Sirw::read(w)),
     }
 }
 
@@ -159,7 +125,11 @@ fn chase_reference(
 {
     let mut w = w;
     for _i in 0..links {
-        let at = match named_cell(core, regs, display, w) {
+        let named = match Irw::from_word(w) {
+            Some(r) => cell_of(core, regs, display, couple_at(r.couple, regs.level)),
+            None => cell_at(core, regs, Sirw::read(w)),
+        };
+        let at = match named {
             Ok(at) => at,
             Err(fault) => return Err(fault),
         };
@@ -183,31 +153,6 @@ pub fn near_end(core: &Core, regs: &Regs, display: &[u32; 32], w: Word) -> Optio
     if at == 0 {
         return None;
     }
-    match end_at(core, regs, at) {
-        Ok(end) => end,
-        Err(_) => None,
-    }
-}
-
-/// Where a couple's word leads that names a cell of level 0, which holds an intrinsic. Else None: the word may lead anywhere.
-#[inline(always)]
-pub fn mcp_end(core: &Core, regs: &Regs, display: &[u32; 32], w: Word) -> Option<End>
-    requires { (a : RunningContext core.now regs.now) × IsShown a display.now }
-    ensures leads { (end : End) → result ≡ Some end → LeadsTo core.now regs.now display.now w end }
-    ensures couple { (end : End) → result ≡ Some end → w.tag ≡ 1 }
-{
-    let name = match Irw::from_word(w) {
-        Some(name) => name,
-        None => return None,
-    };
-    let c = couple_at(name.couple, regs.level);
-    if c.level > 0 {
-        return None;
-    }
-    let at = match cell_of(core, regs, display, c) {
-        Ok(at) => at,
-        Err(_) => return None,
-    };
     match end_at(core, regs, at) {
         Ok(end) => end,
         Err(_) => None,

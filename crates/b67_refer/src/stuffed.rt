@@ -12,7 +12,7 @@ ghost use Rattle.b67_refer.specs.Cells.{StandsFor};
 ghost use Rattle.b67_refer.specs.Own.{EndsAt};
 ghost use Rattle.b67_refer.specs.declared.ends.End.TheVariants as end;
 
-use crate::cells::{base_cell, near_cell, slot_cell};
+use crate::cells::{near_cell, record_cell};
 use crate::environment::address_of;
 use b67_core::Core;
 use b67_ctl::{Irw, Regs, SLOTS, Sirw};
@@ -28,10 +28,7 @@ pub fn cell_at(core: &Core, regs: &Regs, r: Sirw) -> Result<u32, Fault>
         → live.CellMeets a q f r.offset result (cell (here a.member a.task q) f r.offset) }
 {
     let base = address_of(core, regs, r.stack, r.disp);
-    if r.stack < u16::from(SLOTS) {
-        return slot_cell(core, regs, base, r.offset);
-    }
-    base_cell(core, regs, base, r.offset)
+    record_cell(core, regs, base, r.offset, r.stack < u16::from(SLOTS))
 }
 
 /// The core address of the operand's cell that a stuffed reference names, if it is near. Else 0: the word may be another one, or

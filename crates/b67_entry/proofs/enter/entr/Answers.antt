@@ -68,6 +68,20 @@ chase-requires c =
     let stands : StandsFor a (c.args.cpu.now.regs.f + 1) (top t.frames).identity c.get-first.result f.first = subst (λ (w : Tagged). StandsFor a (c.args.cpu.now.regs.f + 1) (top t.frames).identity w f.first) (sym word) (first_stands x c.args.cpu.now plan s m t c.args.next o h runs c.top_mark.result k c.if-top_mark.false c.if-cpu.false tag) in
     (live_of a, h.shows m t runs, c.args.cpu.now.regs.f + 1, (top t.frames).identity, f.first, stands)
 
+pub enclosure_of-home-requires : goal.enclosure_of-home-requires
+enclosure_of-home-requires c =
+    let r = c.requires.runs in let x = r.storage in let plan = r.plan in let s = r.session in let m = r.member in let t = r.task in let o = r.ordered in let h = r.stands in let runs = r.running in
+    let k = c.top_mark.ensures x (machine_view plan s.jobs) (stack_of_task plan m.constants.number m.progress.job plan.running t) h.holds.memory (runs_here x c.args.cpu.now plan s m t h runs) in
+    let f = facing x c.args.cpu.now plan s m t c.args.next o h runs c.top_mark.result k c.if-top_mark.false c.if-cpu.false in
+    let word : c.get-first.result ≡ f.word = same_Some _ _ (sym c.get-first.ensures ∙ f.there) in
+    let tag : f.word.tag ≡ 1 = ap (λ (w : Tagged). w.tag) (sym word) ∙ sym c.tag.ensures.value ∙ c.if-tag-ne1.false in
+    let a = scene [] x c.args.cpu.now.core c.args.cpu.now.regs c.args.cpu.now.critical plan s m t o h.holds runs in
+    let stands : StandsFor a (c.args.cpu.now.regs.f + 1) (top t.frames).identity c.get-first.result f.first = subst (λ (w : Tagged). StandsFor a (c.args.cpu.now.regs.f + 1) (top t.frames).identity w f.first) (sym word) (first_stands x c.args.cpu.now plan s m t c.args.next o h runs c.top_mark.result k c.if-top_mark.false c.if-cpu.false tag) in
+    let e = c.chase.ensures.running a c.args.next (h.shows m t runs) (c.args.cpu.now.regs.f + 1) (top t.frames).identity f.first stands in
+    let e' : EndMeets a c.args.next (Ok (end.Proc c.in-Ok-Proc.cell)) (follow (here m t c.args.next) f.first) = subst (λ z. EndMeets a c.args.next z (follow (here m t c.args.next) f.first)) (c.in-Ok-Proc.is ∙ ap Ok c.in-Ok-Proc.field-0-is) e in
+    let p = proc_found a c.args.next c.in-Ok-Proc.cell (follow (here m t c.args.next) f.first) e' in
+    (a, c.args.next, p.f, p.segment, p.level, p.place, p.procedure)
+
 pub enter-requires-clause-procedure : goal.enter-requires-clause-procedure
 enter-requires-clause-procedure c =
     let r = c.requires.runs in let x = r.storage in let plan = r.plan in let s = r.session in let m = r.member in let t = r.task in let o = r.ordered in let h = r.stands in let runs = r.running in
@@ -81,6 +95,12 @@ enter-requires-clause-procedure c =
     let e' : EndMeets a c.args.next (Ok (end.Proc c.in-Ok-Proc.cell)) (follow (here m t c.args.next) f.first) = subst (λ z. EndMeets a c.args.next z (follow (here m t c.args.next) f.first)) (c.in-Ok-Proc.is ∙ ap Ok c.in-Ok-Proc.field-0-is) e in
     let p = proc_found a c.args.next c.in-Ok-Proc.cell (follow (here m t c.args.next) f.first) e' in
     (a, p.f, p.segment, p.level, p.place, f.first, f.arguments, record { ordered = o; stands = h; procedure = p.procedure }, calling x c.args.cpu.now plan s m t c.args.next o h runs c.top_mark.result k c.if-top_mark.false c.if-cpu.false tag)
+
+pub enter-requires-clause-home : goal.enter-requires-clause-home
+enter-requires-clause-home c = λ a f segment level place e. c.enclosure_of-home.ensures.home a c.args.next f segment level place e.procedure
+
+pub enter-requires-clause-mark : goal.enter-requires-clause-mark
+enter-requires-clause-mark c = c.enclosure_of-home.ensures.mark
 
 pub returns-in-Ok-Proc : goal.returns-in-Ok-Proc
 returns-in-Ok-Proc c = record {

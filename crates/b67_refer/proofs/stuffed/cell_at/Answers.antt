@@ -1,7 +1,13 @@
-use Rattle.std.proofs.Common.{◌∙◌, sym, ap, arith, subst}
+use Rattle.std.proofs.Common.{◌≡◌, ℕ, List, ◌∙◌, sym, ap, arith, subst}
+use Rattle.std.specs.Prelude.{nat_lt}
+use Rattle.b67_word.specs.Tagged.{Tagged}
+use Rattle.b67_ctl.specs.declared.registers.Regs.{Regs}
+use Rattle.b67_model.specs.Common.{NamesEntered}
 use Rattle.b67_stack.specs.Stacks.{StackPlace}
 use Rattle.b67_layout.specs.Placement.{address_of}
-use Rattle.b67_refer.specs.RunningContext.{IsStackOf}
+use Rattle.b67_refer.specs.RunningContext.{LiveContext, IsStackOf}
+use Rattle.b67_refer.specs.LiveCells.{reach, view, IsOfSlot}
+use Rattle.b67_refer.proofs.Unders.{kind_by}
 use Rattle.b67_refer.proofs.Marks.{stack_known, own_stack, base_stack}
 use Rattle.b67_refer.proofs.stuffed.cell_at.Goals as goal
 
@@ -10,28 +16,19 @@ address_of-base-requires c =
     let (a, f, n, e) = c.requires in
     (a, subst (λ (z : StackPlace). IsStackOf a z.stack) e (stack_known c.args.core.now c.args.regs.now a f n.standing n.among))
 
-pub slot_cell-requires : goal.slot_cell-requires
-slot_cell-requires c =
+-- a stack whose number is that of a slot holds records of tasks, and the others hold the MCP and the dictionaries
+kind : (core : List Tagged) (r : Regs) (a : LiveContext core r) (f stack disp slots : ℕ) → NamesEntered (reach a) f → view a f ≡ record { stack = stack; disp = disp } → slots ≡ 120 → IsOfSlot (nat_lt stack slots) f
+kind core r a f stack disp slots n e few =
+    let is : (view a f).stack ≡ stack = ap (λ (z : StackPlace). z.stack) e in
+    kind_by stack slots f (λ low. own_stack core r a f (omega (arith, is, low, few))) (λ high. base_stack core r a f n.standing n.among (omega (arith, is, high, few)))
+
+pub record_cell-requires : goal.record_cell-requires
+record_cell-requires c =
     let (a, f, n, e) = c.requires in
     let k = subst (λ (z : StackPlace). IsStackOf a z.stack) e (stack_known c.args.core.now c.args.regs.now a f n.standing n.among) in
-    let own = own_stack c.args.core.now c.args.regs.now a f (omega (arith, ap (λ (z : StackPlace). z.stack) e, c.if-r-from.true, c.from.ensures)) in
-    (a, f, n, own, c.address_of-base.ensures a k ∙ ap (address_of a.plan) (sym e))
-
-pub returns-then-r-from : goal.returns-then-r-from
-returns-then-r-from c = λ a q f n e.
-    let k = subst (λ (z : StackPlace). IsStackOf a z.stack) e (stack_known c.args.core.now c.args.regs.now a f n.standing n.among) in
-    let own = own_stack c.args.core.now c.args.regs.now a f (omega (arith, ap (λ (z : StackPlace). z.stack) e, c.if-r-from.true, c.from.ensures)) in
-    c.slot_cell.ensures a q f n own (c.address_of-base.ensures a k ∙ ap (address_of a.plan) (sym e))
-
-pub base_cell-requires : goal.base_cell-requires
-base_cell-requires c =
-    let (a, f, n, e) = c.requires in
-    let k = subst (λ (z : StackPlace). IsStackOf a z.stack) e (stack_known c.args.core.now c.args.regs.now a f n.standing n.among) in
-    let few = base_stack c.args.core.now c.args.regs.now a f n.standing n.among (omega (arith, ap (λ (z : StackPlace). z.stack) e, c.if-r-from.false, c.from.ensures)) in
-    (a, f, n, few, c.address_of-base.ensures a k ∙ ap (address_of a.plan) (sym e))
+    (a, f, n, c.address_of-base.ensures a k ∙ ap (address_of a.plan) (sym e), kind c.args.core.now c.args.regs.now a f c.args.r.stack c.args.r.disp c.from.result n e c.from.ensures)
 
 pub returns : goal.returns
 returns c = λ a q f n e.
     let k = subst (λ (z : StackPlace). IsStackOf a z.stack) e (stack_known c.args.core.now c.args.regs.now a f n.standing n.among) in
-    let few = base_stack c.args.core.now c.args.regs.now a f n.standing n.among (omega (arith, ap (λ (z : StackPlace). z.stack) e, c.if-r-from.false, c.from.ensures)) in
-    c.base_cell.ensures a q f n few (c.address_of-base.ensures a k ∙ ap (address_of a.plan) (sym e))
+    c.record_cell.ensures a q f n (c.address_of-base.ensures a k ∙ ap (address_of a.plan) (sym e)) (kind c.args.core.now c.args.regs.now a f c.args.r.stack c.args.r.disp c.from.result n e c.from.ensures)
