@@ -10,7 +10,7 @@ use Rattle.b67_layout.specs.Common.{RunsSome, here}
 use Rattle.b67_exec_cells.specs.Tops.{StaysInSegment}
 use Rattle.b67_exec.specs.Operators.{CutsRecord}
 use Rattle.b67_exec.specs.Near.{SaysDone}
-use Rattle.b67_exec.specs.Far.{RowAnswers, RowMade, RowRefused, MadeOn, MadeAway, MadeWent, MadeLeaving, SaysOn, SaysAway, SaysMade, ShortlyOn, ShortlyAway, OnShortly, AwayShortly, WentShortly, LeavesShortly}
+use Rattle.b67_exec.specs.Far.{RowAnswers, RowMade, RowRefused, MadeOn, MadeAway, MadeWent, MadeLeaving, SaysOn, SaysAway, SaysMade, ShortlyOn, ShortlyAway, OnShortly, WentShortly, LeavesShortly}
 use Rattle.b67_exec.specs.declared.apart.Went.{Went}
 use Rattle.b67_exec.specs.declared.apart.Went.TheVariants as wents
 use Rattle.b67_exec.proofs.Nears.{unmade}
@@ -47,9 +47,6 @@ module _ (op : Op) (next : Place) (old new : Cpu) (r : RunsSome old) where
   pub on_shortly : (step : Step) (made : Bool) → SaysMade step made → RowAnswers op next old new step → (step ≡ Done → StaysInSegment old new next) → OnShortly op next old made new
   on_shortly step made done each stays = grind (arith, same)
 
-  pub away_shortly : (step : Step) (made : Bool) → SaysMade step made → RowAnswers op next old new step → AwayShortly op next old made new
-  away_shortly step made done each = grind (arith, same)
-
   pub stayed_shortly : (step : Step) (went : Went) → ShortlyOn step went → RowAnswers op next old new step → (step ≡ Done → StaysInSegment old new next) → WentShortly op next old went new
   stayed_shortly step went done each stays = grind (arith, same)
 
@@ -70,12 +67,6 @@ on_rest op next old new made is m = grind arith
 
 pub on_short : (op : Op) (next : Place) (old new : Cpu) (made : Bool) → made ≡ true → OnShortly op next old made new → RowMade op next old new × StaysInSegment old new next
 on_short op next old new made is m = grind arith
-
-pub away_rest : (op : Op) (next : Place) (old new : Cpu) (made : Bool) → made ≡ false → AwayShortly op next old made new → new ≡ old
-away_rest op next old new made is m = grind arith
-
-pub away_short : (op : Op) (next : Place) (old new : Cpu) (made : Bool) → made ≡ true → AwayShortly op next old made new → RowMade op next old new
-away_short op next old new made is m = grind arith
 
 pub leaving_rest : (op : Op) (old new : Cpu) (made : Bool) → made ≡ false → LeavesShortly op old made new → new ≡ old
 leaving_rest op old new made is m = grind arith

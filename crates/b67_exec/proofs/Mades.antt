@@ -16,7 +16,7 @@ use Rattle.b67_layout.proofs.Fresh.{running_in_order}
 use Rattle.b67_exec_cells.proofs.Codes.{present}
 use Rattle.b67_exec_cells.proofs.Put.{room}
 use Rattle.b67_layout_step.specs.Keeping.{is_leaving}
-use Rattle.b67_exec.specs.Operators.{is_on_top, goes_behind, may_enter, leaves_record}
+use Rattle.b67_exec.specs.Operators.{is_on_top, goes_behind, store_code, leaves_record}
 use Rattle.b67_exec.specs.declared.reader.Reader.{Reader}
 use Rattle.b67_exec.specs.declared.apart.Went.{Went}
 use Rattle.b67_exec.specs.declared.apart.Went.TheVariants as wents
@@ -35,8 +35,8 @@ top_stays code top = grind arith
 pub behind_stays : (code : Code) → goes_behind code ≡ true → is_leaving (Plain code) ≡ false
 behind_stays code goes = grind arith
 
-pub entering_stays : (code : Code) → may_enter code ≡ true → is_leaving (Plain code) ≡ false
-entering_stays code enters = grind arith
+pub store_stays : (keeps : Bool) → is_leaving (Plain (store_code keeps)) ≡ false
+store_stays keeps = grind arith
 
 -- ---- what was read and made
 

@@ -1,8 +1,7 @@
 -- Stores and loads through references that need no search, as the rows of their operators.
-use Rattle.std.proofs.Common.{◌≡◌, ℕ, Bool, true, false, List, [], ◌∷◌, ◌++◌, length, Ok, refl, sym, subst, ◌⊎◌, ⊎_elim, arith}
+use Rattle.std.proofs.Common.{◌≡◌, ℕ, Bool, true, false, List, [], ◌∷◌, ◌++◌, length, Ok, refl, sym, subst}
 use Rattle.b67_word.specs.Tagged.{Tagged}
 use Rattle.b67_word.specs.declared.couples.Place.{Place}
-use Rattle.b67_model.specs.declared.operators.Code.{Code}
 use Rattle.b67_model.specs.declared.operators.Code.TheVariants as codes
 use Rattle.b67_model.specs.declared.operators.Op.TheVariants.{Plain}
 use Rattle.b67_model.specs.Chase as Chase
@@ -10,6 +9,7 @@ use Rattle.b67_model.specs.Common.{Answer, ◌>>=◌, Session, SessionJob, Task,
 use Rattle.b67_model.specs.Rows as rows
 use Rattle.b67_stack.specs.declared.Cpu.{Cpu}
 use Rattle.b67_stack.specs.declared.Step.{Step}
+use Rattle.b67_stack.specs.declared.Step.TheVariants.{Done}
 use Rattle.b67_stack.specs.Represents.{Storage}
 use Rattle.b67_layout.specs.Common.{ForEach, here, IsInOrderButCounts, IsMade, IsRunning, Meets, Placement, RepresentsSession, RunsSome, cells}
 use Rattle.b67_layout.specs.Tops.{GivesTop}
@@ -18,30 +18,20 @@ use Rattle.b67_refer.specs.Own.{LeadsTo}
 use Rattle.b67_exec_cells.specs.Tops.{NoOriginals, StaysInSegment}
 use Rattle.b67_fetch.specs.Fetches.{FindsEnd, IsEnd, SomeEnd, EntersOrMeets, is_procedure_end, value_at_end}
 use Rattle.b67_fetch.proofs.Values.{here_scene, here_shown, followed_stands, finds_end, some_end, top_followed, followed_plain, load_row}
-use Rattle.b67_exec.specs.Far.{RowAnswers, OnShortly}
+use Rattle.b67_exec.specs.Operators.{store_code}
+use Rattle.b67_exec.specs.Far.{RowAnswers, RowMade}
 use Rattle.b67_exec.proofs.Entered.{met_at}
 
 module _ (next : Place) (old new : Cpu) where
-  -- what a store made
-  abbrev Stored : Bool → Type 0
-  Stored keeps = ForEach old (λ x plan s m t. IsMade x plan s m old new (rows.store keeps (here m t next) (cells_of (here m t next))))
+  -- what a store answers is the row of STOD or STON
+  pub store_answers : (keeps : Bool) (answered : Step) → ForEach old (λ x plan s m t. Meets x plan s m answered old new (rows.store keeps (here m t next) (cells_of (here m t next)))) → RowAnswers (Plain (store_code keeps)) next old new answered
+  store_answers true answered each = each
+  store_answers false answered each = each
 
-  stod_made : (made : Bool) → (made ≡ true → Stored false) → (made ≡ true → StaysInSegment old new next) → (made ≡ false → new ≡ old) → OnShortly (Plain codes.Stod) next old made new
-  stod_made made each stays rest = grind arith
-
-  ston_made : (made : Bool) → (made ≡ true → Stored true) → (made ≡ true → StaysInSegment old new next) → (made ≡ false → new ≡ old) → OnShortly (Plain codes.Ston) next old made new
-  ston_made made each stays rest = grind arith
-
-  -- either of the two
-  pub store_made : (code : Code) (keeps made : Bool) → ((code ≡ codes.Stod) × (keeps ≡ false)) ⊎ ((code ≡ codes.Ston) × (keeps ≡ true)) → (made ≡ true → Stored keeps) → (made ≡ true → StaysInSegment old new next) → (made ≡ false → new ≡ old)
-      → OnShortly (Plain code) next old made new
-  store_made code keeps made which each stays rest =
-      let P : Code → Type 0 = λ k. OnShortly (Plain k) next old made new in
-      let Q : Bool → Type 0 = λ b. made ≡ true → Stored b in
-      ⊎_elim
-      (λ z. subst P (sym z.0) (stod_made made (subst Q z.1 each) stays rest))
-      (λ z. subst P (sym z.0) (ston_made made (subst Q z.1 each) stays rest))
-      which
+  -- so is what it made by a short way
+  pub store_made : (keeps : Bool) → ForEach old (λ x plan s m t. IsMade x plan s m old new (rows.store keeps (here m t next) (cells_of (here m t next)))) → StaysInSegment old new next
+      → RowMade (Plain (store_code keeps)) next old new × StaysInSegment old new next
+  store_made keeps each stays = (store_answers keeps Done each, stays)
 
 -- LOAD where the top cell leads to an operand's cell
 module _ (old : Cpu) (next : Place) (w : Tagged) (at : ℕ) (leads : LeadsTo old.core old.regs old.display w (end.Cell at)) where

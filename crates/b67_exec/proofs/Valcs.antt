@@ -17,6 +17,7 @@ use Rattle.b67_refer.specs.declared.ends.End.TheVariants as end
 use Rattle.b67_refer.specs.RunningContext.{RunningContext}
 use Rattle.b67_refer.specs.Cells.{StandsFor}
 use Rattle.b67_refer.specs.Ends.{EndMeets}
+use Rattle.b67_refer.specs.Own.{FollowsTo}
 use Rattle.b67_entry.specs.Procedures.{ReachesProc}
 use Rattle.b67_entry.proofs.Evaluating.{fault_end, proc_end}
 use Rattle.b67_exec_cells.specs.Tops.{NoOriginals}
@@ -40,7 +41,7 @@ module _ (cpu : Cpu) (couple : ℕ) (next : Place) (w : Tagged) (small : couple 
   pub couple_stands : (q : RunsSome cpu) → StandsFor (here_scene q.storage cpu q.plan q.session q.member q.task q.ordered q.stands q.running) 0 0 w (Name couple)
   couple_stands q = followed_stands q.storage cpu q.plan q.session q.member q.task q.ordered q.stands q.running w (Name couple) (couple_followed q.storage q.plan q.member q.task couple w small is)
 
-  module _ (found : Result End Fault) (chased : Chased cpu w found) where
+  module _ (found : Result End Fault) (chased : FollowsTo cpu.core cpu.regs cpu.display w found) where
     module _ (x : Storage) (plan : Placement) (s : Session) (m : SessionJob) (t : Task) (ordered : IsInOrderButCounts s) (h : RepresentsSession x cpu plan s) (runs : IsRunning plan s.jobs m t) where
       abbrev a : RunningContext cpu.core cpu.regs
       a = here_scene x cpu plan s m t ordered h runs

@@ -75,10 +75,6 @@ abbrev pub OnShortly : Op → Place → Cpu → Bool → Cpu → Type 0
 OnShortly op next old true new = RowMade op next old new × StaysInSegment old new next
 OnShortly op next old false new = new ≡ old
 
-abbrev pub AwayShortly : Op → Place → Cpu → Bool → Cpu → Type 0
-AwayShortly op next old true new = RowMade op next old new
-AwayShortly op next old false new = new ≡ old
-
 abbrev pub WentShortly : Op → Place → Cpu → Went → Cpu → Type 0
 WentShortly op next old went.On new = RowMade op next old new × StaysInSegment old new next
 WentShortly op next old went.Away new = RowMade op next old new

@@ -76,12 +76,10 @@ goes_behind codes.Mkst = true
 goes_behind codes.Stff = true
 goes_behind _ = false
 
--- those that enter a procedure where a reference ends at one, and else go on behind them
-abbrev pub may_enter : Code → Bool
-may_enter codes.Load = true
-may_enter codes.Stod = true
-may_enter codes.Ston = true
-may_enter _ = false
+-- the store that keeps its operand or takes it off: STON, STOD
+abbrev pub store_code : Bool → Code
+store_code true = codes.Ston
+store_code false = codes.Stod
 
 -- those that are read whole, not syllable after syllable, as branches are to a place outside the segment
 abbrev pub is_read_whole : Op → Bool

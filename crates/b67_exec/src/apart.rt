@@ -7,18 +7,18 @@ ghost use Rattle.b67_model.specs.declared.operators.Op.TheVariants.{Plain, Valc}
 ghost use Rattle.b67_model.specs.declared.operators.Code.TheVariants as codes;
 ghost use Rattle.b67_layout.specs.Meets.{RunsSome};
 ghost use Rattle.b67_refer.specs.Own.{NamesCell};
-ghost use Rattle.b67_exec.specs.Operators.{is_on_top};
+ghost use Rattle.b67_exec.specs.Operators.{is_on_top, store_code};
 ghost use Rattle.b67_exec.specs.Near.{SaysDone};
-ghost use Rattle.b67_exec.specs.Far.{MadeOn, MadeAway, MadeWent, MadeLeaving, SaysOn, SaysAway, SaysMade, ShortlyOn, ShortlyAway, OnShortly, WentShortly, AwayShortly, LeavesShortly};
+ghost use Rattle.b67_exec.specs.Far.{MadeOn, MadeAway, MadeWent, MadeLeaving, SaysOn, SaysAway, SaysMade, ShortlyOn, ShortlyAway, OnShortly, WentShortly, LeavesShortly};
 
 use crate::entering::enter_in_place;
 use crate::entering_under::enter;
 use crate::operators::on_top;
 use crate::short_ways::{indexes_own, takes_own};
 use b67_ctl::Irw;
-use b67_entry::{accident, entr, entr_near, exit, intrinsic_called, retn};
+use b67_entry::{accident, entr, entr_near, exit, retn};
 use b67_exec_cells::top_cell;
-use b67_fetch::{Stored, indx, nxlv, stff, stff_named, store, value};
+use b67_fetch::{indx, nxlv, stff, stff_named, store, value};
 use b67_model::Code;
 use b67_refer::{End, chase, chase_from, near_place};
 use b67_stack::{Cpu, Step};
@@ -237,27 +237,15 @@ pub(crate) fn makes_load(cpu: &mut Cpu, next: Place, why: &mut Step) -> Went
     }
 }
 
-/// STOD.
+/// STOD, or STON, which keeps the operand.
 #[inline(never)]
-pub(crate) fn makes_stod(cpu: &mut Cpu, next: Place, why: &mut Step) -> Went
+pub(crate) fn makes_store(cpu: &mut Cpu, keeps: bool, next: Place, why: &mut Step) -> Went
     requires { RunsSome cpu.old }
-    ensures { MadeWent (Plain codes.Stod) next cpu.old result cpu.new why.new }
+    ensures { MadeWent (Plain (store_code keeps)) next cpu.old result cpu.new why.new }
 {
-    match store(cpu, false, next) {
-        Stored::Made(step) => stayed(step, why),
-        Stored::Procedure(cell) => entered(enter(cpu, cell), why),
-    }
-}
-
-/// STON.
-#[inline(never)]
-pub(crate) fn makes_ston(cpu: &mut Cpu, next: Place, why: &mut Step) -> Went
-    requires { RunsSome cpu.old }
-    ensures { MadeWent (Plain codes.Ston) next cpu.old result cpu.new why.new }
-{
-    match store(cpu, true, next) {
-        Stored::Made(step) => stayed(step, why),
-        Stored::Procedure(cell) => entered(enter(cpu, cell), why),
+    match store(cpu, keeps, next) {
+        Ok(step) => stayed(step, why),
+        Err(cell) => entered(enter(cpu, cell), why),
     }
 }
 
@@ -272,31 +260,16 @@ fn makes_far_entr(cpu: &mut Cpu, next: Place, why: &mut Step) -> bool
     is_done(step, why)
 }
 
-/// ENTR, first as the call of an intrinsic by its couple, which isn't made here: so no register need be kept for the general case.
+/// ENTR, first by the way that follows no chain, as most are made: so no register need be kept for the general case.
 #[inline(never)]
-pub(crate) fn calls_or_enters(cpu: &mut Cpu, next: Place, why: &mut Step) -> bool
+pub(crate) fn makes_entr(cpu: &mut Cpu, next: Place, why: &mut Step) -> bool
     requires runs { RunsSome cpu.old }
     requires next { IsPlace next }
     ensures { MadeAway (Plain codes.Entr) next cpu.old result cpu.new why.new }
 {
-    let n = intrinsic_called(cpu, next);
-    if n != 0 {
-        *why = Step::Call(n);
-        return false;
-    }
-    makes_far_entr(cpu, next, why)
-}
-
-/// ENTR of a procedure that lies near by, as most do that are called, and whether it was made: no chain is followed.
-#[inline(never)]
-pub(crate) fn makes_entr(cpu: &mut Cpu, next: Place) -> bool
-    requires runs { RunsSome cpu.old }
-    requires next { IsPlace next }
-    ensures { AwayShortly (Plain codes.Entr) next cpu.old result cpu.new }
-{
     match entr_near(cpu, next) {
-        Some(step) => is_made(step),
-        None => false,
+        Some(step) => is_done(step, why),
+        None => makes_far_entr(cpu, next, why),
     }
 }
 

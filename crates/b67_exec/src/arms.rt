@@ -11,24 +11,25 @@ ghost use Rattle.b67_stack.specs.declared.Step.TheVariants as answers;
 ghost use Rattle.b67_word.specs.declared.faults.Fault.TheVariants.{InvalidOperator};
 ghost use Rattle.b67_layout.specs.Meets.{here, Meets, RunsSome, ForEach};
 ghost use Rattle.b67_layout_step.specs.Keeping.{is_leaving};
-ghost use Rattle.b67_exec.specs.Operators.{moves_cells, is_on_top, goes_behind, may_enter, BeginsWhole};
+ghost use Rattle.b67_exec.specs.Operators.{moves_cells, is_on_top, goes_behind, store_code, BeginsWhole};
 ghost use Rattle.b67_exec.specs.Near.{ReaderBehind, WentOn, MadeNear, Makes, outcome_of, code_of_numbers, word_op, branch_op};
 ghost use Rattle.b67_exec.specs.Far.{MadeOn, MadeAway, MadeWent, MadeLeaving, LeavesBy, LeadsTo};
 
 use crate::apart::{
-    Went, calls_or_enters, is_done, makes_entr, makes_exit, makes_far_stff, makes_far_valc,
-    makes_indx, makes_last_exit, makes_last_retn, makes_load, makes_nxlv, makes_plain, makes_retn,
-    makes_stff, makes_stod, makes_ston,
+    Went, is_done, makes_entr, makes_exit, makes_far_stff, makes_far_valc, makes_indx,
+    makes_last_exit, makes_last_retn, makes_load, makes_nxlv, makes_plain, makes_retn, makes_stff,
+    makes_store,
 };
 use crate::firsts::{Near, near_of};
 use crate::operators::makes_whole;
 use crate::reader::{Reader, after, at_word, behind, first, next_word, place, reader_to};
-use crate::short_ways::{evaluates_own, stores_own};
+use crate::short_ways::{evaluates_own, loads_own};
 use b67_arith::Numeric;
 use b67_entry::mkst;
 use b67_exec_cells::{
     branch_to, dlet, drop_cells, dupl, exch, literal, mpcw, namc, on_numbers, top_cell,
 };
+use b67_fetch::store_near;
 use b67_model::Code;
 use b67_stack::{Cpu, Step};
 use b67_word::{Fault, Place};
@@ -412,50 +413,38 @@ fn evaluates(cpu: &mut Cpu, reader: &mut Reader, why: &mut Step) -> Made
     goes(went, reader, next)
 }
 
-/// LOAD, STOD or STON, and what became of it.
+/// LOAD.
 #[inline(always)]
-fn makes_fetch(cpu: &mut Cpu, code: Code, next: Place, why: &mut Step) -> Went
-    requires runs { RunsSome cpu.old }
-    requires enters { may_enter code ≡ true }
-    ensures { MadeWent (ops.Plain code) next cpu.old result cpu.new why.new }
-{
-    match code {
-        Code::Load => makes_load(cpu, next, why),
-        Code::Stod => makes_stod(cpu, next, why),
-        Code::Ston => makes_ston(cpu, next, why),
-        _ => unreachable!(),
-    }
-}
-
-/// LOAD, STOD or STON.
-#[inline(always)]
-fn fetches(cpu: &mut Cpu, reader: &mut Reader, code: Code, why: &mut Step) -> Made
+fn loads(cpu: &mut Cpu, reader: &mut Reader, why: &mut Step) -> Made
     requires runs { RunsSome cpu.old }
     requires stands { ReaderBehind cpu.old reader.old 0 }
-    requires begins { form_of (reader.old.bits / 2 ^ 56) ≡ Some (Alone code) }
-    requires enters { may_enter code ≡ true }
+    requires begins { form_of (reader.old.bits / 2 ^ 56) ≡ Some (Alone codes.Load) }
     ensures { Makes cpu.old reader.old result cpu.new reader.new why.new }
 {
     let next = after(cpu, *reader);
-    if stores_own(cpu, code, place(next)) {
+    if loads_own(cpu, place(next)) {
         *reader = next;
         return Made::On;
     }
-    let went = makes_fetch(cpu, code, place(next), why);
+    let went = makes_load(cpu, place(next), why);
     goes(went, reader, next)
 }
 
-/// ENTR, and whether it was made: the short way, and then the long one.
+/// STOD, or STON, which keeps the operand.
 #[inline(always)]
-fn makes_any_entr(cpu: &mut Cpu, next: Place, why: &mut Step) -> bool
+fn stores(cpu: &mut Cpu, reader: &mut Reader, keeps: bool, why: &mut Step) -> Made
     requires runs { RunsSome cpu.old }
-    requires next { IsPlace next }
-    ensures { MadeAway (ops.Plain codes.Entr) next cpu.old result cpu.new why.new }
+    requires stands { ReaderBehind cpu.old reader.old 0 }
+    requires begins { form_of (reader.old.bits / 2 ^ 56) ≡ Some (Alone (store_code keeps)) }
+    ensures { Makes cpu.old reader.old result cpu.new reader.new why.new }
 {
-    if makes_entr(cpu, next) {
-        return true;
+    let next = after(cpu, *reader);
+    if store_near(cpu, keeps, place(next)) {
+        *reader = next;
+        return Made::On;
     }
-    calls_or_enters(cpu, next, why)
+    let went = makes_store(cpu, keeps, place(next), why);
+    goes(went, reader, next)
 }
 
 /// ENTR.
@@ -467,7 +456,7 @@ fn enters(cpu: &mut Cpu, reader: Reader, why: &mut Step) -> Made
     ensures { Makes cpu.old reader result cpu.new reader why.new }
 {
     let next = after(cpu, reader);
-    if makes_any_entr(cpu, place(next), why) {
+    if makes_entr(cpu, place(next), why) {
         Made::Away
     } else {
         Made::Not
@@ -573,9 +562,9 @@ pub fn operate(cpu: &mut Cpu, reader: &mut Reader, why: &mut Step) -> Made
         Near::Nxlv => on(stays(cpu, reader, Code::Nxlv, why)),
         Near::Mkst => on(stays(cpu, reader, Code::Mkst, why)),
         Near::Stff => on(stays(cpu, reader, Code::Stff, why)),
-        Near::Stod => fetches(cpu, reader, Code::Stod, why),
-        Near::Ston => fetches(cpu, reader, Code::Ston, why),
-        Near::Load => fetches(cpu, reader, Code::Load, why),
+        Near::Stod => stores(cpu, reader, false, why),
+        Near::Ston => stores(cpu, reader, true, why),
+        Near::Load => loads(cpu, reader, why),
         Near::Entr => enters(cpu, *reader, why),
         Near::Exit => exits(cpu, Code::Exit, why),
         Near::Retn => exits(cpu, Code::Retn, why),

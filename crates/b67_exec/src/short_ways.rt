@@ -5,15 +5,13 @@ ghost use Rattle.b67_model.specs.declared.operators.Op.TheVariants.{Plain, Valc}
 ghost use Rattle.b67_model.specs.declared.operators.Code.TheVariants as codes;
 ghost use Rattle.b67_ctl.specs.Layout.{IsPlace};
 ghost use Rattle.b67_layout.specs.Meets.{RunsSome};
-ghost use Rattle.b67_exec.specs.Operators.{may_enter};
 ghost use Rattle.b67_exec.specs.Far.{OnShortly, WentShortly};
 
 use crate::apart::{Went, has_stayed, is_made, makes_valc_from};
 use b67_ctl::Irw;
 use b67_exec_cells::top_cell;
-use b67_fetch::{indx_at, nxlv_at, own_item, store_own, value};
-use b67_model::Code;
-use b67_refer::{End, near_operand, near_place};
+use b67_fetch::{indx_at, nxlv_at, own_item, value};
+use b67_refer::{End, near_place};
 use b67_stack::Cpu;
 use b67_word::Place;
 
@@ -37,7 +35,7 @@ pub(crate) fn evaluates_own(cpu: &mut Cpu, couple: u16, next: Place) -> Went
 
 /// LOAD of a near operand, and whether it was made.
 #[inline(always)]
-fn loads_own(cpu: &mut Cpu, next: Place) -> bool
+pub(crate) fn loads_own(cpu: &mut Cpu, next: Place) -> bool
     requires { RunsSome cpu.old }
     ensures { OnShortly (Plain codes.Load) next cpu.old result cpu.new }
 {
@@ -45,27 +43,11 @@ fn loads_own(cpu: &mut Cpu, next: Place) -> bool
         Ok(word) => word,
         Err(_) => return false,
     };
-    let at = near_operand(&cpu.core, &cpu.regs, &cpu.display, w);
-    if at == 0 {
+    let at = near_place(&cpu.core, &cpu.regs, &cpu.display, w);
+    if at == 0 || cpu.core.get(at).tag() != 0 {
         return false;
     }
     is_made(value(cpu, 1, End::Cell(at), next))
-}
-
-/// LOAD, or STOD or STON of an operand, through such a reference, and whether it was made.
-#[inline(always)]
-pub(crate) fn stores_own(cpu: &mut Cpu, code: Code, next: Place) -> bool
-    requires runs { RunsSome cpu.old }
-    requires enters { may_enter code ≡ true }
-    ensures { OnShortly (Plain code) next cpu.old result cpu.new }
-{
-    let keeps = match code {
-        Code::Load => return loads_own(cpu, next),
-        Code::Stod => false,
-        Code::Ston => true,
-        _ => unreachable!(),
-    };
-    store_own(cpu, keeps, next)
 }
 
 /// INDX of an element of an array whose original is near, and whether it was made.

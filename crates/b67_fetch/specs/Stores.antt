@@ -16,8 +16,6 @@ use Rattle.b67_refer.specs.declared.ends.End.{End as EndAt}
 use Rattle.b67_refer.specs.declared.ends.End.TheVariants as end
 use Rattle.b67_refer.specs.Own.{LeadsTo}
 use Rattle.b67_exec_cells.specs.Elements.{HasElement}
-use Rattle.b67_fetch.specs.declared.storing.Stored.{Stored}
-use Rattle.b67_fetch.specs.declared.storing.Stored.TheVariants as came
 
 -- where a number among these cells is to be stored: where the other of the top two leads
 abbrev pub store_end : OperatorContext → List Word → Answer End
@@ -56,10 +54,10 @@ pub record StoresThrough (cpu : Cpu) (w : Tagged) (at : ℕ) : Type 0 where
   pub leads : LeadsTo cpu.core cpu.regs cpu.display w end
   pub there : StoresTo cpu end at
 
--- the step of a store
-abbrev pub store_step : Stored → Step
-store_step (came.Made made) = made
-store_step (came.Procedure cell) = step.Call PROCEDURE
+-- the step of a store, which answers the step, or the cell of the procedure that is still to be entered
+abbrev pub store_step : Result Step ℕ → Step
+store_step (Ok made) = made
+store_step (Err cell) = step.Call PROCEDURE
 
 -- of the two top words the upper one, or the lower one under an operand, leads to the procedure of a cell
 abbrev pub StoresInto : Cpu → (cell : ℕ) → Type 0
@@ -67,6 +65,6 @@ StoresInto cpu cell = (u v : Tagged) → slice_get cpu.core (cpu.regs.s - 1) ≡
     → (v.tag ≡ 0 → LeadsTo cpu.core cpu.regs cpu.display u (end.Proc cell)) × (v.tag ≢ 0 → LeadsTo cpu.core cpu.regs cpu.display v (end.Proc cell))
 
 -- a store comes to a procedure's cell if the reference leads there; else it calls nothing
-abbrev pub CameTo : Cpu → Stored → Type 0
-CameTo cpu (came.Made made) = (n : ℕ) → made ≢ step.Call n
-CameTo cpu (came.Procedure cell) = StoresInto cpu cell
+abbrev pub CameTo : Cpu → Result Step ℕ → Type 0
+CameTo cpu (Ok made) = (n : ℕ) → made ≢ step.Call n
+CameTo cpu (Err cell) = StoresInto cpu cell

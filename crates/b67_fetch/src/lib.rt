@@ -1,7 +1,8 @@
 //! References followed by operators: LOAD and VALC, INDX and NXLV, STFF, STOD and STON. Each promises its row; a procedure at
 //! the end of a reference is handed on.
 //!
-//! For `b67_exec`: `valc`, `load`, `indx`, `nxlv`, `stff`, `stod`, `ston` (`row`).
+//! For `b67_exec`: `load`, `value`, `indx`, `nxlv`, `stff`, `store` (`row`), and ways without a search: `own_item`, `indx_at`,
+//! `nxlv_at`, `stff_named`, `store_near`. By themselves: `valc`, `stod`, `ston` (`row`).
 //!
 //! Begin with `valc`, whose clause `row` is the rule of VALC.
 #![tactic(auto)]
@@ -15,6 +16,6 @@ mod stuffing;
 pub use b67_exec_cells::namc;
 pub use indexing::{indx, indx_at, nxlv, nxlv_at, own_item};
 pub use loading::{load, valc, value};
-pub use own::store_own;
-pub use storing::{Stored, stod, ston, store};
+pub use own::store_near;
+pub use storing::{stod, ston, store};
 pub use stuffing::{stff, stff_named};

@@ -10,7 +10,7 @@ ghost use Rattle.b67_fetch.specs.Stores.{StoresThrough};
 
 use crate::storing::{element_address, put};
 use b67_exec_cells::two_cells;
-use b67_refer::{End, element_of, near_operand, stuffed_operand};
+use b67_refer::{End, element_of, near_place, stuffed_operand};
 use b67_stack::Cpu;
 use b67_word::{Place, Word};
 
@@ -34,10 +34,10 @@ fn own_element(cpu: &Cpu, reference: Word) -> u32
     }
 }
 
-/// Stores as STOD does, or as STON if the operand is kept, where the cell under the top one is an operand, and the top one names a
+/// Stores as STOD does, or as STON if the operand is kept, where the cell under the top one is an operand, and the top one leads to a
 /// near operand's cell, or is a copy of a present array's element that may be written. Else nothing is changed. Whether it was made.
 #[inline(always)]
-pub fn store_own(cpu: &mut Cpu, keeps: bool, next: Place) -> bool
+pub fn store_near(cpu: &mut Cpu, keeps: bool, next: Place) -> bool
     requires { RunsSome cpu.old }
     ensures row { result ≡ true → ForEach cpu.old (λ x plan s m t. let h = here m t next in IsMade x plan s m cpu.old cpu.new (rows.store keeps h (cells_of h))) }
     ensures stays { result ≡ true → StaysInSegment cpu.old cpu.new next }
@@ -50,9 +50,9 @@ pub fn store_own(cpu: &mut Cpu, keeps: bool, next: Place) -> bool
     if lower.tag() != 0 {
         return false;
     }
-    let cell = near_operand(&cpu.core, &cpu.regs, &cpu.display, upper);
-    if cell != 0 {
-        put(cpu, cell, lower, keeps, next);
+    let near = near_place(&cpu.core, &cpu.regs, &cpu.display, upper);
+    if near != 0 && cpu.core.get(near).tag() == 0 {
+        put(cpu, near, lower, keeps, next);
         return true;
     }
     let stuffed = stuffed_operand(&cpu.core, &cpu.regs, upper);

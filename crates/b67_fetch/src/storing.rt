@@ -17,21 +17,14 @@ use b67_refer::{End, chase};
 use b67_stack::{Cpu, PROCEDURE, Step, What};
 use b67_word::{Fault, Place, Word};
 
-/// What a store came to: the step, or the cell of the procedure to which the reference leads, with nothing changed.
-#[derive(Clone, Copy, Debug)]
-pub enum Stored {
-    Made(Step),
-    Procedure(u32),
-}
-
 /// The step that a store is, where a procedure is still to be entered.
 #[inline(always)]
-fn step_of(stored: Stored) -> Step
+fn step_of(stored: Result<Step, u32>) -> Step
     ensures { result ≡ store_step stored }
 {
     match stored {
-        Stored::Made(step) => step,
-        Stored::Procedure(_) => Step::Call(PROCEDURE),
+        Ok(step) => step,
+        Err(_) => Step::Call(PROCEDURE),
     }
 }
 
@@ -71,9 +64,10 @@ pub(crate) fn put(cpu: &mut Cpu, at: u32, w: Word, keeps: bool, next: Place)
 }
 
 /// Stores the operand of the two top cells where the other one leads, and takes both off, or only the reference if
-/// the operand is kept.
+/// the operand is kept. `Ok` is the step. `Err` is the cell of the procedure at which the reference ends, with nothing changed:
+/// the caller then enters it.
 #[inline(always)]
-pub fn store(cpu: &mut Cpu, keeps: bool, next: Place) -> Stored
+pub fn store(cpu: &mut Cpu, keeps: bool, next: Place) -> Result<Step, u32>
     requires { RunsSome cpu.old }
     ensures row { ForEach cpu.old (λ x plan s m t. let h = here m t next in EntersOrMeets x plan s m (store_step result) cpu.old cpu.new (enters_at (store_end h (cells_of h))) (rows.store keeps h (cells_of h))) }
     ensures stays { store_step result ≡ Done → StaysInSegment cpu.old cpu.new next }
@@ -81,7 +75,7 @@ pub fn store(cpu: &mut Cpu, keeps: bool, next: Place) -> Stored
 {
     let (lower, upper) = match two_cells(cpu) {
         Ok(two) => two,
-        Err(fault) => return Stored::Made(Step::Fault(fault)),
+        Err(fault) => return Ok(Step::Fault(fault)),
     };
     let (reference, value) = if upper.tag() == 0 {
         (lower, upper)
@@ -89,25 +83,25 @@ pub fn store(cpu: &mut Cpu, keeps: bool, next: Place) -> Stored
         (upper, lower)
     };
     if value.tag() != 0 {
-        return Stored::Made(Step::Fault(Fault::InvalidOperand));
+        return Ok(Step::Fault(Fault::InvalidOperand));
     }
     let end = match chase(&cpu.core, &cpu.regs, &cpu.display, reference) {
         Ok(end) => end,
-        Err(fault) => return Stored::Made(Step::Fault(fault)),
+        Err(fault) => return Ok(Step::Fault(fault)),
     };
     let at = match end {
         End::Cell(at) => at,
         End::Element { original, index } => match element_address(cpu, original, index) {
             Ok(at) => at,
-            Err(step) => return Stored::Made(step),
+            Err(step) => return Ok(step),
         },
         End::Array(_) | End::Intrinsic(_) => {
-            return Stored::Made(Step::Fault(Fault::MemoryProtect));
+            return Ok(Step::Fault(Fault::MemoryProtect));
         }
-        End::Proc(cell) => return Stored::Procedure(cell),
+        End::Proc(cell) => return Err(cell),
     };
     put(cpu, at, value, keeps, next);
-    Stored::Made(Step::Done)
+    Ok(Step::Done)
 }
 
 /// Stores the operand of the two top cells where the other one leads, takes both off, and goes on at `next`. STACK

@@ -95,14 +95,14 @@ stays-requires-in-Mkst-clause-begins c = form_is c.near_of.result nears.Mkst c.f
 pub stays-requires-in-Stff-clause-begins : goal.stays-requires-in-Stff-clause-begins
 stays-requires-in-Stff-clause-begins c = form_is c.near_of.result nears.Stff c.first.result (c.args.reader.now.bits / 2 ^ 56) (Alone codes.Stff) c.near_of.ensures.form c.first.ensures c.in-Stff.is refl
 
-pub fetches-requires-clause-begins : goal.fetches-requires-clause-begins
-fetches-requires-clause-begins c = form_is c.near_of.result nears.Stod c.first.result (c.args.reader.now.bits / 2 ^ 56) (Alone codes.Stod) c.near_of.ensures.form c.first.ensures c.in-Stod.is refl
+pub stores-requires-clause-begins : goal.stores-requires-clause-begins
+stores-requires-clause-begins c = form_is c.near_of.result nears.Stod c.first.result (c.args.reader.now.bits / 2 ^ 56) (Alone codes.Stod) c.near_of.ensures.form c.first.ensures c.in-Stod.is refl
 
-pub fetches-requires-in-Ston-clause-begins : goal.fetches-requires-in-Ston-clause-begins
-fetches-requires-in-Ston-clause-begins c = form_is c.near_of.result nears.Ston c.first.result (c.args.reader.now.bits / 2 ^ 56) (Alone codes.Ston) c.near_of.ensures.form c.first.ensures c.in-Ston.is refl
+pub stores-requires-in-Ston-clause-begins : goal.stores-requires-in-Ston-clause-begins
+stores-requires-in-Ston-clause-begins c = form_is c.near_of.result nears.Ston c.first.result (c.args.reader.now.bits / 2 ^ 56) (Alone codes.Ston) c.near_of.ensures.form c.first.ensures c.in-Ston.is refl
 
-pub fetches-requires-in-Load-clause-begins : goal.fetches-requires-in-Load-clause-begins
-fetches-requires-in-Load-clause-begins c = form_is c.near_of.result nears.Load c.first.result (c.args.reader.now.bits / 2 ^ 56) (Alone codes.Load) c.near_of.ensures.form c.first.ensures c.in-Load.is refl
+pub loads-requires-clause-begins : goal.loads-requires-clause-begins
+loads-requires-clause-begins c = form_is c.near_of.result nears.Load c.first.result (c.args.reader.now.bits / 2 ^ 56) (Alone codes.Load) c.near_of.ensures.form c.first.ensures c.in-Load.is refl
 
 pub enters-requires-clause-begins : goal.enters-requires-clause-begins
 enters-requires-clause-begins c = form_is c.near_of.result nears.Entr c.first.result (c.args.reader.now.bits / 2 ^ 56) (Alone codes.Entr) c.near_of.ensures.form c.first.ensures c.in-Entr.is refl

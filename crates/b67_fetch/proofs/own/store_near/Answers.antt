@@ -3,29 +3,32 @@ use Rattle.b67_exec_cells.proofs.Put.{room}
 use Rattle.b67_fetch.proofs.Values.{here_scene, here_shown, followed_stands}
 use Rattle.b67_fetch.proofs.Items.{two_followed}
 use Rattle.b67_fetch.proofs.Owns.{own_inside, own_stored, operand_through, stuffed_through}
-use Rattle.b67_fetch.proofs.own.store_own.Goals as goal
+use Rattle.b67_fetch.proofs.own.store_near.Goals as goal
 
-pub near_operand-cell-requires : goal.near_operand-cell-requires
-near_operand-cell-requires c =
+pub near_place-near-requires : goal.near_place-near-requires
+near_place-near-requires c =
     let q = c.requires in (
       here_scene q.storage c.args.cpu.now q.plan q.session q.member q.task q.ordered q.stands q.running,
       here_shown q.storage c.args.cpu.now q.plan q.session q.member q.task q.ordered q.stands q.running,
     )
 
+pub get-requires : goal.get-requires
+get-requires c = c.near_place-near.ensures.inside c.if-near-ne0.true
+
 pub put-requires-clause-at : goal.put-requires-clause-at
 put-requires-clause-at c =
     let q = c.requires in
     own_inside q.storage c.args.cpu.now q.plan q.session q.member q.task q.ordered q.stands q.running c.args.next c.args.keeps c.in-Ok.two.0 c.in-Ok.two.1
-    (c.in-Ok.ensures.cells q.storage q.plan q.session q.member q.task q.ordered q.stands q.running) (sym c.tag.ensures.value ∙ c.if-tag-ne0.false) c.near_operand-cell.result
-    (operand_through c.args.cpu.now c.in-Ok.two.1 c.near_operand-cell.result (c.near_operand-cell.ensures.couple c.if-cell-ne0.true) (c.near_operand-cell.ensures.leads c.if-cell-ne0.true))
+    (c.in-Ok.ensures.cells q.storage q.plan q.session q.member q.task q.ordered q.stands q.running) (sym c.tag.ensures.value ∙ c.if-tag-ne0.false) c.near_place-near.result
+    (operand_through c.args.cpu.now c.in-Ok.two.1 c.near_place-near.result (c.near_place-near.ensures.couple c.if-near-ne0.true) (c.near_place-near.ensures.names c.if-near-ne0.true) c.get.result c.get.ensures (sym c.tag-then-near-ne0.ensures.value ∙ c.if-tag-eq0.true))
 
 pub put-requires-clause-top : goal.put-requires-clause-top
 put-requires-clause-top c = let r = c.requires in let g = room r.storage c.args.cpu.now r.plan r.session r.member r.task r.ordered r.stands r.running in omega (arith, g.last, g.under, g.inside)
 
-pub returns-then-cell-ne0-clause-row : goal.returns-then-cell-ne0-clause-row
-returns-then-cell-ne0-clause-row c = λ made x plan s m t o h runs.
-    own_stored x c.args.cpu.now plan s m t o h runs c.args.next c.args.keeps c.in-Ok.two.0 c.in-Ok.two.1 (c.in-Ok.ensures.cells x plan s m t o h runs) (sym c.tag.ensures.value ∙ c.if-tag-ne0.false) c.near_operand-cell.result
-    (operand_through c.args.cpu.now c.in-Ok.two.1 c.near_operand-cell.result (c.near_operand-cell.ensures.couple c.if-cell-ne0.true) (c.near_operand-cell.ensures.leads c.if-cell-ne0.true)) c.in-Ok.ensures.above c.put.new.cpu c.put.ensures
+pub returns-then-tag-eq0-clause-row : goal.returns-then-tag-eq0-clause-row
+returns-then-tag-eq0-clause-row c = λ made x plan s m t o h runs.
+    own_stored x c.args.cpu.now plan s m t o h runs c.args.next c.args.keeps c.in-Ok.two.0 c.in-Ok.two.1 (c.in-Ok.ensures.cells x plan s m t o h runs) (sym c.tag.ensures.value ∙ c.if-tag-ne0.false) c.near_place-near.result
+    (operand_through c.args.cpu.now c.in-Ok.two.1 c.near_place-near.result (c.near_place-near.ensures.couple c.if-near-ne0.true) (c.near_place-near.ensures.names c.if-near-ne0.true) c.get.result c.get.ensures (sym c.tag-then-near-ne0.ensures.value ∙ c.if-tag-eq0.true)) c.in-Ok.ensures.above c.put.new.cpu c.put.ensures
 
 pub stuffed_operand-stuffed-requires : goal.stuffed_operand-stuffed-requires
 stuffed_operand-stuffed-requires c =
