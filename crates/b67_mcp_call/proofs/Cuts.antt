@@ -1,24 +1,31 @@
 -- The machine without a call on its running stack represents the session without it.
-use Rattle.std.proofs.Common.{◌≡◌, ◌≢◌, ℕ, ◌+◌, List, [], ◌∷◌, map, refl, sym, ap, arith, false, subst}
-use Rattle.std.specs.List.{AllByRecursion}
+use Rattle.std.proofs.Common.{◌≡◌, ◌≢◌, ℕ, ◌+◌, ◌≤◌, List, [], ◌∷◌, map, Some, refl, sym, ◌∙◌, ap, arith, false, subst}
+use Rattle.std.specs.List.{AllByRecursion, slice_get}
+use Rattle.std.proofs.lemmas.Bool.{ne_eqb}
 use Rattle.b67_word.specs.declared.couples.Place.{Place}
 use Rattle.b67_ctl.specs.Layout.{IsPlace}
 use Rattle.b67_ctl.specs.declared.registers.Regs.{Regs}
-use Rattle.b67_model.specs.Common.{Word, Frame, Array, Condition, Ready, Task, Job, SessionJob, top, below_top, with_task, level_of_frame, running, is_original, number_of, is_critical, Session, IsSegment, ReturnsInOrder, StackInOrder, TaskInOrder, TasksInOrder}
+use Rattle.b67_lemmas.specs.Lists.{Has}
+use Rattle.b67_model.specs.Common.{Word, Frame, Array, Condition, Ready, Task, Job, SessionJob, OperatorContext, top, below_top, with_task, level_of_frame, running, running_level, frame_at, is_original, number_of, is_critical, Session, IsSegment, Known, known_of, known_numbers, ReturnsInOrder, StackInOrder, TaskInOrder, TasksInOrder}
 use Rattle.b67_model.specs.State as State
-use Rattle.b67_layout.specs.Common.{IsInOrderButCounts, Placement, spot_in, outer_spots, shape, head, activations, machine_view, RepresentsTask, IsRunning, ShowsDisplay, RepresentsSession, SessionHoldsBut, RepresentsSessionBut, objects_gone, with_job}
+use Rattle.b67_layout.specs.Common.{IsInOrderButCounts, Placement, slot_of, spot_in, outer_spots, address_of, frame_address, shape, head, activations, machine_view, RepresentsTask, IsRunning, ShowsDisplay, RepresentsSession, SessionHoldsBut, RepresentsSessionBut, objects_gone, with_job, here}
 use Rattle.b67_stack.specs.declared.Cpu.{Cpu}
 use Rattle.b67_stack.specs.Common.{StackPlace, Activation, stack_words, mark_place, stack_level, RunsOn, Storage, Represents, with_stack}
 use Rattle.b67_stack.proofs.Pushes.{Represents-cut}
 use Rattle.b67_layout.proofs.Common.{fresh, running_in_order, no_objects_gone, slot_is, runs_here, Shows-condition, others}
+use Rattle.b67_layout.proofs.NamedFirst.{under as once_only}
+use Rattle.b67_law_order.proofs.Chases.{running_in}
+use Rattle.b67_law_order.proofs.Replaced.{has_counts}
 use Rattle.b67_refer.specs.RunningContext.{RunningContext}
-use Rattle.b67_refer.proofs.Scenes.{member_in_order}
+use Rattle.b67_refer.proofs.Scenes.{member_in_order, scene}
+use Rattle.b67_refer.proofs.Chains.{level_low}
+use Rattle.b67_refer.proofs.Displays.{agrees, holds_on, shown_holds}
 use Rattle.b67_layout_records.proofs.Nowhere.{activations-same}
 use Rattle.b67_layout_records.proofs.Leaves.{Leaver, task_at, may_leave, below-same, Frames-below, runs_after, holds_after, for_running_after}
 use Rattle.b67_layout_records.proofs.LeftOrders.{left_ready}
 use Rattle.b67_mcp_call.specs.Calls.{MayCut, job_cut}
 use Rattle.b67_mcp_call.proofs.Owned.{arrays_stay}
-use Rattle.b67_lemmas.proofs.Members.{keyed_has}
+use Rattle.b67_lemmas.proofs.Members.{has_map, keyed_has}
 
 -- a marked frame without an original on top, on which no live task depends
 pub record Cut (m : SessionJob) (t : Task) : Type 0 where
@@ -29,6 +36,15 @@ pub record Cut (m : SessionJob) (t : Task) : Type 0 where
   pub marked : f.standing ≡ State.Marked
   pub plain : AllByRecursion (λ (w : Word). is_original w ≡ false) f.cells
   pub free : is_critical m.progress.job f.identity ≡ false
+
+-- a frame among a task's own is found there, whatever lies outside
+own_spot : (k : ℕ) (o o' : ℕ → StackPlace) (fs : List Frame) (g : Frame) → Has fs g → spot_in k o fs g.identity ≡ spot_in k o' fs g.identity
+own_spot k o o' [] g here = absurd here
+own_spot k o o' (f ∷ fs) g h = grind (arith, own_spot k o o' fs)
+
+-- the frame of the running level is the running one
+running_at : (h : OperatorContext) → frame_at h (running_level h) ≡ running h.task.frames
+running_at h = grind arith
 
 module _ (x : Storage) (old : Cpu) (plan : Placement) (s : Session) (m : SessionJob) (t : Task) (o : IsInOrderButCounts s) (h : RepresentsSession x old plan s) (runs : IsRunning plan s.jobs m t) (a : Cut m t) (q : Place) (q_fits : IsPlace q) where
   pub may : Leaver plan s m t a.f (a.next ∷ a.more)
@@ -90,8 +106,8 @@ module _ (x : Storage) (old : Cpu) (plan : Placement) (s : Session) (m : Session
       let P : List Array → Type 0 = λ arrays. TasksInOrder (IsSegment m.constants) m.constants (record (job_at Ready) { arrays = arrays }) in
       subst P (sym stay) (left_ready m.constants m.progress.job t a.f (a.next ∷ a.more) (may_leave plan s m t a.f (a.next ∷ a.more) may) t.segment q (λ z. cc) starts)
 
-  -- what the display is rebuilt for. The task is seen as a ready one
-  abbrev pub scene_cut : RunningContext old.core regs_cut
+  -- what references are followed in, once the call is cut. The task is seen as a ready one
+  abbrev scene_cut : RunningContext old.core regs_cut
   scene_cut =
       let i = member_in_order s m o (keyed_has number_of m.constants.number s.jobs m runs.member).0 in
       record {
@@ -107,21 +123,59 @@ module _ (x : Storage) (old : Cpu) (plan : Placement) (s : Session) (m : Session
         running = runs_cut Ready;
       }
 
-  pub shown_cut : (display : List ℕ) → ShowsDisplay display plan (member_at Ready) (task_cut Ready) → ShowsDisplay display plan (member_at t.condition) (task_cut t.condition)
-  shown_cut display shown =
-      let free = fresh plan s m t o runs in
-      Shows-condition display plan m m.progress.job (task_cut Ready) Ready t.condition t m.progress.job.next_frame runs.task
-      (record { some = free.some; uncritical = free.uncritical }) (free.uncritical t (keyed_has (λ (u : Task). u.number) t.number m.progress.job.tasks t runs.task).0) shown
+  -- the frame that runs is the same, since the call is only marked
+  same_running : running t.frames ≡ running (a.next ∷ a.more)
+  same_running = rw (a.frames, a.marked) refl
 
-  -- the whole machine, by a display that was built for it
-  pub stands_cut : (display : List ℕ) → ShowsDisplay display plan (member_at Ready) (task_cut Ready)
-      → RepresentsSession x (record { core = old.core; regs = regs_cut; display = display; critical = old.critical }) plan (with_job s m (job_at t.condition))
-  stands_cut display shown =
-      let new : Cpu = record { core = old.core; regs = regs_cut; display = display; critical = old.critical } in
+  runs_below : Has (a.next ∷ a.more) (running (a.next ∷ a.more))
+  runs_below =
+      let returns = subst (StackInOrder (IsSegment m.constants)) a.frames (running_in_order plan s m t o runs).1.returns in
+      (running_in (IsSegment m.constants) (a.next ∷ a.more) returns.1 (λ z. cc)).0
+
+  -- and it isn't the call
+  apart : (running (a.next ∷ a.more)).identity ≢ a.f.identity
+  apart e =
+      let below : List Frame = a.next ∷ a.more in
+      let known = has_map known_of below (running below) runs_below in
+      let among : Has (known_numbers (map known_of below)) a.f.identity = subst (Has (known_numbers (map known_of below))) e (has_map (λ (k : Known). k.0) (map known_of below) (known_of (running below)) known) in
+      omega (arith, has_counts a.f.identity below among, once_only m.constants m.progress.job t a.f below (may_leave plan s m t a.f below may).top)
+
+  -- it stands where it stood
+  same_address : frame_address plan m t (running (a.next ∷ a.more)).identity ≡ frame_address plan (member_at Ready) (task_cut Ready) (running (a.next ∷ a.more)).identity
+  same_address =
+      let id = (running (a.next ∷ a.more)).identity in
+      let k = slot_of plan m.constants.number t.number in
+      let after = outer_spots plan m.constants.number (job_at Ready) t.critical t.parents in
+      let passed : spot_in k outer (a.f ∷ (a.next ∷ a.more)) id ≡ spot_in k outer (a.next ∷ a.more) id = rw (ne_eqb a.f.identity id (λ e. apart (sym e))) refl in
+      ap (address_of plan) (ap (λ (fs : List Frame). spot_in k outer fs id) a.frames ∙ passed ∙ own_spot k outer after (a.next ∷ a.more) (running (a.next ∷ a.more)) runs_below)
+
+  -- so the display shows the environment that runs on
+  shown_still : ShowsDisplay old.display plan (member_at Ready) (task_cut Ready)
+  shown_still k up =
+      let before = scene [] x old.core old.regs old.critical plan s m t o h.holds runs in
+      let low : level_of_frame (running (a.next ∷ a.more)) ≤ level_of_frame (running t.frames) = omega (arith, ap level_of_frame same_running) in
+      let known = level_of_frame (running (a.next ∷ a.more)) in
+      let held = holds_on old.core old.regs regs_cut old.display known refl refl refl (shown_holds old.core old.regs before old.core old.display known (h.shows m t runs) low (λ n two up. refl)) in
+      let at : slice_get old.display known ≡ Some (frame_address plan m t (frame_at (here m t t.place) known).identity) = h.shows m t runs known low in
+      let own : frame_at (here m t t.place) known ≡ running (a.next ∷ a.more) =
+      ap (λ (f : Frame). frame_at (here m t t.place) (level_of_frame f)) (sym same_running) ∙ running_at (here m t t.place) ∙ same_running in
+      agrees old.core regs_cut scene_cut known old.display (level_low old.core regs_cut scene_cut) (omega arith) held
+      (at ∙ ap (λ (f : Frame). Some (frame_address plan m t f.identity)) own ∙ ap Some same_address ∙ ap (λ (f : Frame). Some (frame_address plan (member_at Ready) (task_cut Ready) f.identity)) (sym (running_at (here (member_at Ready) (task_cut Ready) q)))) k up
+
+  shown_cut : ShowsDisplay old.display plan (member_at t.condition) (task_cut t.condition)
+  shown_cut =
+      let free = fresh plan s m t o runs in
+      Shows-condition old.display plan m m.progress.job (task_cut Ready) Ready t.condition t m.progress.job.next_frame runs.task
+      (record { some = free.some; uncritical = free.uncritical }) (free.uncritical t (keyed_has (λ (u : Task). u.number) t.number m.progress.job.tasks t runs.task).0) shown_still
+
+  -- the whole machine, with the display as it was
+  pub stands_cut : RepresentsSession x (record old { regs = regs_cut }) plan (with_job s m (job_at t.condition))
+  stands_cut =
+      let new : Cpu = record old { regs = regs_cut } in
       let P : List _ → Type 0 = λ left. RepresentsSessionBut left x new plan (with_job s m (job_at t.condition)) in
       subst P (no_objects_gone plan m (job_at t.condition) refl) (record {
         holds = holds_cut t.condition;
-        shows = for_running_after plan s m t a.f (a.next ∷ a.more) may (job_at t.condition) (a.next ∷ a.more) t.segment q t.condition refl stay (Frames-below plan s m t a.f (a.next ∷ a.more) may) x old.core old.core old.regs regs_cut old.critical h.holds (ShowsDisplay display plan) (shown_cut display shown);
+        shows = for_running_after plan s m t a.f (a.next ∷ a.more) may (job_at t.condition) (a.next ∷ a.more) t.segment q t.condition refl stay (Frames-below plan s m t a.f (a.next ∷ a.more) may) x old.core old.core old.regs regs_cut old.critical h.holds (ShowsDisplay old.display plan) shown_cut;
       })
 
 -- a call that may be cut lies on another frame

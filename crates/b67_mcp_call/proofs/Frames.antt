@@ -4,7 +4,7 @@ use Rattle.std.proofs.lemmas.Bool.{ne_eqb}
 use Rattle.b67_word.specs.declared.couples.Place.{Place}
 use Rattle.b67_lemmas.specs.Lists.{Has, Falls}
 use Rattle.b67_lemmas.proofs.Members.{falls_low, has_map}
-use Rattle.b67_model.specs.Common.{Word, Frame, Marked, Condition, Ready, Awaits, WaitsAt, Task, Job, SessionJob, top, below_top, with_top_cells, answered, Session, Known, known_of, known_numbers, from_frame, outer_of, reach_of, IsEntered, NamesEntered, ConditionInOrder}
+use Rattle.b67_model.specs.Common.{Word, Frame, Marked, Condition, Ready, Awaits, WaitsAt, Task, Job, SessionJob, below_top, with_top_cells, answered, Session, Known, known_of, known_numbers, from_frame, outer_of, reach_of, IsEntered, NamesEntered, ConditionInOrder}
 use Rattle.b67_model.specs.Keyed.{change_keyed}
 use Rattle.b67_layout.specs.Common.{IsInOrderButCounts, Placement, spot_in, IsRunning, here}
 use Rattle.b67_stack.specs.Stacks.{StackPlace}

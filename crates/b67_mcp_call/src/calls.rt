@@ -6,11 +6,11 @@ ghost use Rattle.b67_layout.specs.Session.{RepresentsSession};
 ghost use Rattle.b67_layout.specs.Meets.{ForEach, with_job};
 ghost use Rattle.b67_mcp_call.specs.Calls.{CutSome, MayCut, job_cut};
 
-use b67_refer::rebuild;
 use b67_stack::Cpu;
 use b67_word::Place;
 
 /// Cuts the call of an intrinsic that answers nothing off the running stack. The task goes on at a place of its segment.
+/// The call was only marked, not entered, so the display shows the environment that runs on.
 pub fn cut_call(cpu: &mut Cpu, next: Place)
     requires call { CutSome cpu.old }
     requires place { IsPlace next }
@@ -19,5 +19,4 @@ pub fn cut_call(cpu: &mut Cpu, next: Place)
 {
     cpu.cut();
     cpu.regs.place = next;
-    rebuild(&cpu.core, &cpu.regs, &mut cpu.display);
 }
