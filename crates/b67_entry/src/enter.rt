@@ -26,7 +26,8 @@ ghost use Rattle.b67_model.specs.Words as Words;
 use b67_core::Core;
 use b67_ctl::{IntrinsicPcw, Mscw, Pcw, Rcw, Regs};
 use b67_refer::{
-    Activation, Enclosure, End, chase, couple_at, enclosure_at, enclosure_of, near_place, rebuild_entered,
+    Activation, Enclosure, End, chase, couple_at, enclosure_at, enclosure_of, near_place,
+    rebuild_entered,
 };
 use b67_stack::{Cpu, Step};
 use b67_word::{Fault, Place};

@@ -19,7 +19,7 @@ use Rattle.b67_refer.specs.Ends.{EndMeets}
 use Rattle.b67_refer.specs.Own.{NamesCell, LeadsTo, EndsAt}
 use Rattle.b67_refer.specs.RunningContext.{RunningContext, live_of}
 use Rattle.b67_refer.proofs.Follows.{follows_none}
-use Rattle.b67_refer.proofs.Owns.{own_ends}
+use Rattle.b67_refer.proofs.Owns.{named_operand}
 use Rattle.b67_exec_cells.specs.Tops.{GivesTwo}
 use Rattle.b67_fetch.specs.Fetches.{EntersOrMeets, IsFollowed, enters_at}
 use Rattle.b67_fetch.specs.Indexes.{FindsArray, array_in}
@@ -32,12 +32,6 @@ use Rattle.b67_fetch.proofs.Stores.{followed_end, cell_inside, cell_done, elemen
 -- what is done enters no procedure
 done_made : (x : Storage) (plan : Placement) (s : Session) (m : SessionJob) (old new : Cpu) (enters : Bool) (answer : Answer Done) → EntersOrMeets x plan s m step.Done old new enters answer → IsMade x plan s m old new answer
 done_made x plan s m old new enters answer i = grind arith
-
--- a word that names a cell leads to the operand in it
-pub named_operand : (core : List Tagged) (r : Regs) (display : List ℕ) (w : Tagged) (at : ℕ) → NamesCell core r display w at → (v : Tagged) → slice_get core at ≡ Some v → v.tag ≡ 0 → LeadsTo core r display w (end.Cell at)
-named_operand core r display w at names v there zero = λ a q shown spot owner x stands.
-    let n = names a q shown spot owner x stands in
-    own_ends core r a q at x n.0 n.1 (v, there, zero)
 
 -- a store through a couple of an operand's cell goes to this cell
 pub operand_through : (cpu : Cpu) (w : Tagged) (at : ℕ) → w.tag ≡ 1 → NamesCell cpu.core cpu.regs cpu.display w at → (v : Tagged) → slice_get cpu.core at ≡ Some v → v.tag ≡ 0 → StoresThrough cpu w at

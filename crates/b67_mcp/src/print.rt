@@ -36,6 +36,7 @@ fn say_value<K: Sink>(
 
 /// PRINT: what isn't printed yet of its line is printed, and then the call is cut. Where the printer fails nothing is changed
 /// but how much is printed.
+#[inline(always)]
 pub(crate) fn print<K: Sink>(machine: &mut Machine, paper: &mut K) -> Result<CallEnd, Stop>
     requires { CallsSome machine.old PRINT }
     ensures row { ForCalls machine.old PRINT (λ x told plan s m t. (count : ℕ) → CallMeets K.taken told count x plan s m t result machine.old machine.new paper.old paper.new) }

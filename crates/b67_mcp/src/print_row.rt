@@ -48,6 +48,7 @@ fn say_words<K: Sink>(
 
 /// PRINTROW: what isn't printed yet of its lines is printed, and then the call is cut. Where its array is absent nothing is
 /// changed, and where the printer fails nothing but how much is printed.
+#[inline(always)]
 pub(crate) fn print_row<K: Sink>(machine: &mut Machine, paper: &mut K) -> Result<CallEnd, Stop>
     requires { CallsSome machine.old PRINTROW }
     ensures row { ForCalls machine.old PRINTROW (λ x told plan s m t. (count : ℕ) → CallMeets K.taken told count x plan s m t result machine.old machine.new paper.old paper.new) }

@@ -17,6 +17,7 @@ use b67_task_tables::Machine;
 /// PROCESS: a task is started, or none where 15 of its job live, and the call is cut and answers. Its fault changes nothing.
 /// Where the new stack has no room in core nothing is changed; where too few sectors are free or the device fails, the machine
 /// represents the same session.
+#[inline(always)]
 pub(crate) fn start<B: Backing>(machine: &mut Machine, backing: &mut B) -> Result<CallEnd, Stop>
     requires calls { CallsSome machine.old PROCESS }
     requires number { CanNumber machine.old.tasks.jobs }

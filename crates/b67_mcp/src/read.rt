@@ -32,6 +32,7 @@ fn take_number(cpu: &Cpu, tasks: &mut Tasks, at: usize) -> Result<Word, Fault>
 }
 
 /// READ: the call is cut and answers with the job's next number. Its fault changes nothing.
+#[inline(always)]
 pub(crate) fn read(machine: &mut Machine) -> Result<(), Fault>
     requires calls { CallsSome machine.old READ }
     requires countable { AreCountable machine.old.tasks.jobs }

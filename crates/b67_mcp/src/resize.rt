@@ -84,6 +84,7 @@ fn set_length<B: Backing>(
 
 /// RESIZE: the array has another length, and the call is cut. Where its array is absent, or the call faults, nothing is
 /// changed; where too few sectors are free or the device fails, the machine represents the same session.
+#[inline(always)]
 pub(crate) fn resize<B: Backing>(machine: &mut Machine, backing: &mut B) -> Result<CallEnd, Stop>
     requires calls { CallsSome machine.old RESIZE }
     requires same { B.size backing.old + 1 ≡ length machine.old.sectors.links }

@@ -28,6 +28,7 @@ fn waiting(done: Result<Option<TaskState>, Fault>) -> CallEnd
 
 /// AWAIT, STATUS, WAIT and CAUSE by their rows: the call is cut, its task is to wait, or it faults. Only where it is cut is
 /// anything changed.
+#[inline(always)]
 pub(crate) fn wait_for(machine: &mut Machine, n: u8) -> CallEnd
     requires calls { CallsSome machine.old n }
     requires from { AWAIT ≤ n }

@@ -11,6 +11,7 @@ use b67_word::Place;
 
 /// Cuts the call of an intrinsic that answers nothing off the running stack. The task goes on at a place of its segment.
 /// The call was only marked, not entered, so the display shows the environment that runs on.
+#[inline(always)]
 pub fn cut_call(cpu: &mut Cpu, next: Place)
     requires call { CutSome cpu.old }
     requires place { IsPlace next }

@@ -70,6 +70,7 @@ pub fn await_task(machine: &mut Machine, next: Place) -> Result<Option<TaskState
 
 /// STATUS: the call is cut and answers how it stands with the job's task of the number: 0 it was never started, 1 it is ready,
 /// 2 it waits, 3 it has ended. Its fault changes nothing.
+#[inline(always)]
 pub fn status_of(machine: &mut Machine, next: Place) -> Result<(), Fault>
     requires call { StandsAtCall machine.old }
     requires place { IsPlace next }

@@ -5,9 +5,8 @@ use Rattle.std.proofs.lemmas.Option.{same_Some, slice_get_within}
 use Rattle.b67_word.specs.Tagged.{Tagged}
 use Rattle.b67_word.specs.declared.couples.Place.{Place}
 use Rattle.b67_ctl.specs.declared.registers.Regs.{Regs}
-use Rattle.b67_ctl.specs.declared.programs.Pcw.{Pcw}
 use Rattle.b67_ctl.specs.declared.programs.IntrinsicPcw.{IntrinsicPcw}
-use Rattle.b67_ctl.specs.Layout.{pcw_word, IsPcw, intrinsic_word, IsIntrinsicPcw}
+use Rattle.b67_ctl.specs.Layout.{intrinsic_word, IsIntrinsicPcw}
 use Rattle.b67_model.specs.Chase as Chase
 use Rattle.b67_model.specs.declared.limits.TheConstants.{MOST_LINKS}
 use Rattle.b67_model.specs.Common.{Answer, Word, Leads, link_at, chase_on, cell, place_of, follow}
@@ -86,12 +85,6 @@ module _ (core : List Tagged) (r : Regs) (display : List ℕ) (w : Tagged) (at :
   named_procedure seven other = first_leads (end.Proc at) (λ a q f offset x c is.
       (let S : Tagged → Type 0 = λ y. live.StandsFor (live_of a) at f y x in
       proc_end core r (live_of a) q at f offset x v c (subst S is c.stands) seven other))
-
-  -- a procedure's word, which bit 19 tells from an intrinsic's
-  pub named_pcw : (p : Pcw) → IsPcw p → v ≡ pcw_word p → LeadsTo core r display w (end.Proc at)
-  named_pcw p fits is = named_procedure (ap (λ (x : Tagged). x.tag) is) (λ i small e.
-      (let bits : p.place.syllable * 2 ^ 33 + p.place.word * 2 ^ 20 + p.level * 2 ^ 14 + p.segment ≡ 2 ^ 19 + i.number = ap (λ (x : Tagged). x.bits) (sym is ∙ e) in
-      omega (arith, bits, fits.level, fits.segment, small.number)))
 
   -- an intrinsic's word
   module _ (p : IntrinsicPcw) (fits : IsIntrinsicPcw p) (is : v ≡ intrinsic_word p) where

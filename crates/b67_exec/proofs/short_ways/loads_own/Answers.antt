@@ -2,7 +2,7 @@ use Rattle.std.proofs.Common.{◌∙◌, sym}
 use Rattle.b67_model.specs.declared.operators.Op.TheVariants.{Plain}
 use Rattle.b67_model.specs.declared.operators.Code.TheVariants as codes
 use Rattle.b67_fetch.proofs.Values.{here_scene, here_shown}
-use Rattle.b67_fetch.proofs.Owns.{named_operand}
+use Rattle.b67_refer.proofs.Owns.{named_operand}
 use Rattle.b67_exec.proofs.Fars.{on_shortly}
 use Rattle.b67_exec.proofs.Owns.{loads_end, own_loads}
 use Rattle.b67_exec.proofs.short_ways.loads_own.Goals as goal
