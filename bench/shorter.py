@@ -528,6 +528,7 @@ def lists(crate):
                 seen[statement_of(file, block)].append((os.path.relpath(path, f"{TOP}/crates"), block))
             if block.kind != "use":
                 said.update(names_in(file, block))
+        said.update(part for word in WORD.findall(between(file)) for part in {word, *word.split(".")})
     for path in glob.glob(f"{TOP}/crates/*/src/**/*.rt", recursive=True) + glob.glob(f"{TOP}/docs/*.md"):
         with open(path, encoding="utf-8") as text:
             said.update(re.findall(r"[\w'-]+", text.read()))
@@ -540,6 +541,12 @@ def lists(crate):
     for places in seen.values():
         if len(places) > 1 and any(path.startswith(f"{crate}/") for path, _ in places):
             print("stated twice: " + ", ".join(f"{path} {block.name}" for path, block in places))
+
+
+def between(file):
+    """What stands in no block of a file, as the arguments of its modules, but for comments."""
+    inside = {at for it in file.blocks for at in range(it.first, it.last)}
+    return "\n".join(line for at, line in enumerate(file.lines) if at not in inside and not line.strip().startswith("--"))
 
 
 @functools.cache

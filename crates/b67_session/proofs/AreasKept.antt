@@ -24,8 +24,8 @@ use Rattle.b67_session_ends.specs.Counts.{IsCounted}
 use Rattle.b67_session_ends.specs.Ends.{Finishes}
 use Rattle.b67_mcp.specs.Called.{IsCalled, HoldsOther, is_emptied, is_resized, is_new}
 use Rattle.b67_session.specs.AttemptStops.{Stop}
-use Rattle.b67_session.specs.declared.outcomes.Attempt.{Attempt}
-use Rattle.b67_session.specs.declared.outcomes.Attempt.TheVariants as attempts
+use Rattle.b67_session.specs.declared.tries.Tried.{Tried}
+use Rattle.b67_session.specs.declared.tries.Tried.TheVariants as tries
 use Rattle.b67_session.specs.Attempts.{WantsNothing, KeepsAreas, AddsNoArea, CallKeepsAreas, EndsByRow, TablesStay}
 use Rattle.b67_session.specs.Slices.{GoesOnAlone, StepKeepsAreas, GoesOnWith, of_record, by_call, StepLeaves}
 use Rattle.b67_session.proofs.StepsLeave.{EndsEach, rests}
@@ -126,7 +126,7 @@ module _ {K : Type 0} (taken : K → Option (List ℕ)) (s : Session) (m : Sessi
 
 -- a step that goes on doesn't end its task, and doesn't make it wait
 module _ (plan : Placement) (m : SessionJob) (t : Task) (job : Job) (printed : List Line) (touched : Option ℕ) (is : step m.constants m.progress.job t ≡ Ok (Goes job printed touched)) where
-  pub goes_on_only : (outcome : Attempt) → outcome ≢ attempts.Made → EndsByRow plan m t (Ok outcome) → ⊥
+  pub goes_on_only : (outcome : Tried) → outcome ≢ tries.Made → EndsByRow plan m t (Ok outcome) → ⊥
   goes_on_only outcome other so = grind arith
 
 -- a step that wasn't made isn't counted

@@ -22,8 +22,6 @@ use Rattle.b67_mcp.specs.declared.ends.Stop.TheVariants as stops
 use Rattle.b67_presence.specs.Bringing.{StandsOver, IsWanted, WantsSome, StandsAgain, Brings, AreasStay, words_wanted}
 use Rattle.b67_layout_step.proofs.MoreOtherNumbers.{others_running, RunsOther}
 use Rattle.b67_presence.proofs.Others.{others_same, others_then}
-use Rattle.b67_session.specs.declared.outcomes.Attempt.{Attempt}
-use Rattle.b67_session.specs.declared.outcomes.Attempt.TheVariants as attempts
 use Rattle.b67_session.specs.declared.tries.Tried.{Tried}
 use Rattle.b67_session.specs.declared.tries.Tried.TheVariants as tries
 use Rattle.b67_session.specs.Tries.{IsWantedByStep, EndsSo, LeavesAreas, TryMeets, TryFits, TryWrites}
@@ -70,10 +68,10 @@ module _ {B K : Type 0} (holds : B → Told) (taken : K → Option (List ℕ)) (
   abbrev Try : Result Tried Stop → Type 0
   Try answered = TryMeets taken known count x plan s m t answered old new paper paper'
 
-  abbrev Whole : Result Attempt Stop → Type 0
+  abbrev Whole : Result Tried Stop → Type 0
   Whole answered = Attempts taken x known (length old.cpu.core) count old.tasks.printed plan s t answered new paper paper'
 
-  at_once : (answered : Result Attempt Stop) → AttemptMeets taken known (x.device ≢ None) (length old.cpu.core) count old.tasks.printed plan s m t answered new paper paper' → Whole answered
+  at_once : (answered : Result Tried Stop) → AttemptMeets taken known (x.device ≢ None) (length old.cpu.core) count old.tasks.printed plan s m t answered new paper paper' → Whole answered
   at_once answered meets = record { jobs = s.jobs; others = others_same s o; same = λ e. refl; member = m; running = runs; meets = meets }
 
   -- the device wasn't called
@@ -87,11 +85,11 @@ module _ {B K : Type 0} (holds : B → Told) (taken : K → Option (List ℕ)) (
   pub still_once : backing' ≡ backing → new ≡ old → MachineRepresents x known new plan s
   still_once quiet same = known_stands quiet (unchanged x x.device plan s old new same h.stands)
 
-  pub made_once : Try (Ok tries.Made) → Whole (Ok attempts.Made)
-  made_once meets = at_once (Ok attempts.Made) meets.0
+  pub made_once : Try (Ok tries.Made) → Whole (Ok tries.Made)
+  made_once meets = at_once (Ok tries.Made) meets.0
 
-  pub ends_once : (ending : Ending) → backing' ≡ backing → Try (Ok (tries.Ends ending)) → Whole (Ok (attempts.Ends ending))
-  ends_once ending quiet meets = at_once (Ok (attempts.Ends ending)) (inl meets.0, silent quiet (unchanged x x.device plan s old new meets.1 h.stands), meets.2)
+  pub ends_once : (ending : Ending) → backing' ≡ backing → Try (Ok (tries.Ends ending)) → Whole (Ok (tries.Ends ending))
+  ends_once ending quiet meets = at_once (Ok (tries.Ends ending)) (inl meets.0, silent quiet (unchanged x x.device plan s old new meets.1 h.stands), meets.2)
 
   abbrev refused : IsRefused x known plan s m t old new → need (length old.cpu.core) s m t ≤ length old.cpu.core → StandsLacking (x.device ≢ None) known (length old.cpu.core) new plan s m t
   refused r fits = record { storage = r.storage; stands = r.stands; lacks = λ e. inr (inr (inl r.longer)); room = λ e. inl fits; code = λ e. code_of_step (length old.cpu.core) s m t o.peak_low fits }
@@ -108,8 +106,8 @@ module _ {B K : Type 0} (holds : B → Told) (taken : K → Option (List ℕ)) (
   full sum size fits (inl f) = (f.size_is, f.exceeds, record { lacking = refused f.refused fits; tells = for_length f.refused.longer (full_room sum size f) f.sum_is; wants = f.wants; free = f.free; short = f.short })
   full sum size fits (inr u) = (u.size_is, u.exceeds, record { lacking = unstarted u.unstarted fits; tells = for_task u.unstarted.starts u.sum_is; wants = u.wants; free = u.free; short = inl u.short })
 
-  pub waits_once : (state : TaskState) → backing' ≡ backing → Try (Ok (tries.Waits state)) → Whole (Ok (attempts.Waits state))
-  waits_once state quiet meets = at_once (Ok (attempts.Waits state)) (meets.0, silent quiet (unchanged x x.device plan s old new meets.1 h.stands), meets.2)
+  pub waits_once : (state : TaskState) → backing' ≡ backing → Try (Ok (tries.Waits state)) → Whole (Ok (tries.Waits state))
+  waits_once state quiet meets = at_once (Ok (tries.Waits state)) (meets.0, silent quiet (unchanged x x.device plan s old new meets.1 h.stands), meets.2)
 
   pub stops_once : (stop : Stop) → ((TryWrites x plan m t (Err stop) → ⊥) → backing' ≡ backing) → TryFits (length old.cpu.core) s m t (Err stop) → Try (Err stop) → Whole (Err stop)
   stops_once stop quiet fits meets = at_once (Err stop) (by stop quiet fits meets) where
@@ -123,9 +121,9 @@ module _ {B K : Type 0} (holds : B → Told) (taken : K → Option (List ℕ)) (
     by stops.BackingFault quiet fits meets = (⊎_elim (λ (r : IsRefused x known plan s m t old new). refused r fits) (λ (u : IsUnstarted known plan s m t old new). unstarted u fits) meets.0, meets.1)
 
   -- nothing was wanted where the device tells
-  pub gives_up_once : (found : What) → backing' ≡ backing → (x.device ≢ None → WantsNothing x plan m t) → Try (Ok (tries.Absent found)) → Whole (Ok (attempts.Ends (Faulted InvalidOperator)))
+  pub gives_up_once : (found : What) → backing' ≡ backing → (x.device ≢ None → WantsNothing x plan m t) → Try (Ok (tries.Absent found)) → Whole (Ok (tries.Ends (Faulted InvalidOperator)))
   gives_up_once found quiet none meets =
-      at_once (Ok (attempts.Ends (Faulted InvalidOperator))) (inr (λ e. never taken known count x plan s m t old new paper paper' found (none e) meets, refl), silent quiet (unchanged x x.device plan s old new meets.3 h.stands), meets.4)
+      at_once (Ok (tries.Ends (Faulted InvalidOperator))) (inr (λ e. never taken known count x plan s m t old new paper paper' found (none e) meets, refl), silent quiet (unchanged x x.device plan s old new meets.3 h.stands), meets.4)
 
 -- what a try leaves of the tables
 module _ {K : Type 0} (taken : K → Option (List ℕ)) (told : Told) (count : ℕ) (x : Storage) (plan : Placement) (s : Session) (m : SessionJob) (t : Task) (old new : Machine) (paper paper' : K) where
@@ -145,7 +143,7 @@ module _ {K : Type 0} (taken : K → Option (List ℕ)) (told : Told) (count : �
 pub tables_stay : (stop : Stop) (old new : Tasks) → stop ≢ stops.PrintFault → new ≡ old → TablesStay (Err stop) old new
 tables_stay stop old new h same = grind arith
 
-pub tables_from : (answered : Result Attempt Stop) (old mid new : Tasks) → mid ≡ old → TablesStay answered mid new → TablesStay answered old new
+pub tables_from : (answered : Result Tried Stop) (old mid new : Tasks) → mid ≡ old → TablesStay answered mid new → TablesStay answered old new
 tables_from answered old mid new same stay = let P : Tasks → Type 0 = λ k. TablesStay answered k new in subst P same stay
 
 -- core has room where a try stopped
@@ -214,10 +212,11 @@ ends_exact exact m t ending tells h = grind arith
 
 -- less is told of a device that tells nothing
 module _ {K : Type 0} (taken : K → Option (List ℕ)) (told : Told) (exact other : Type 0) (core count before : ℕ) (plan : Placement) (s : Session) (m : SessionJob) (t : Task) (new : Machine) (paper paper' : K) (f : other → exact) where
-  weaker : (answered : Result Attempt Stop) → AttemptMeets taken told exact core count before plan s m t answered new paper paper' → AttemptMeets taken told other core count before plan s m t answered new paper paper'
-  weaker (Ok attempts.Made) meets = meets
-  weaker (Ok (attempts.Ends ending)) meets = grind arith
-  weaker (Ok (attempts.Waits state)) meets = meets
+  weaker : (answered : Result Tried Stop) → AttemptMeets taken told exact core count before plan s m t answered new paper paper' → AttemptMeets taken told other core count before plan s m t answered new paper paper'
+  weaker (Ok tries.Made) meets = meets
+  weaker (Ok (tries.Absent found)) meets = meets
+  weaker (Ok (tries.Ends ending)) meets = grind arith
+  weaker (Ok (tries.Waits state)) meets = meets
   weaker (Err (stops.NoCore words size)) meets = meets
   weaker (Err (stops.BackingFull sum size)) meets =
       let z = meets.2 in
@@ -237,7 +236,7 @@ module _ {K : Type 0} (taken : K → Option (List ℕ)) (x : Storage) (told told
   pub retold_same : content_after again.storage.device told' ≡ content_after x.device told'
   retold_same = ap (λ (d : Told). content_after d told') again.device ∙ retold_twice x.device told told' tells
 
-  pub goes_on : (answered : Result Attempt Stop) (new : Machine) (paper paper' : K) → Attempts taken again.storage (content_after again.storage.device told') core count before plan (record s { jobs = again.jobs }) t answered new paper paper'
+  pub goes_on : (answered : Result Tried Stop) (new : Machine) (paper paper' : K) → Attempts taken again.storage (content_after again.storage.device told') core count before plan (record s { jobs = again.jobs }) t answered new paper paper'
       → Attempts taken x (content_after x.device told') core count before plan s t answered new paper paper'
   goes_on answered new paper paper' a =
       let M : Told → Type 0 = λ d. AttemptMeets taken d (x.device ≢ None) core count before plan (record s { jobs = a.jobs }) a.member t answered new paper paper' in
@@ -300,7 +299,7 @@ module _ (x : Storage) (told : Told) (k : Machine) (plan : Placement) (s : Sessi
   pub still_told : b.again.storage.device ≢ None
   still_told = let P : Told → Type 0 = λ d. d ≢ None in subst P (sym b.again.device) (retold_some x.device told tells n)
 
-  pub same_needs : (size core : ℕ) (answered : Result Attempt Stop) → size ≡ core → AttemptFits size b.again.storage plan (record s { jobs = b.again.jobs }) (other x told k plan s m t o runs found b).member t answered → AttemptFits core x plan s m t answered
+  pub same_needs : (size core : ℕ) (answered : Result Tried Stop) → size ≡ core → AttemptFits size b.again.storage plan (record s { jobs = b.again.jobs }) (other x told k plan s m t o runs found b).member t answered → AttemptFits core x plan s m t answered
   same_needs size core answered e fits = grind (arith, member_is)
 
 -- what was held as it was lies in the same area
@@ -354,13 +353,13 @@ wants_some taken told told' after count old new paper paper' found r tells w = r
 }
 
 -- at equal numbers and printers
-pub attempt_as : {K : Type 0} (taken : K → Option (List ℕ)) (x : Storage) (told told' : Told) (core core' count count' before before' : ℕ) (plan : Placement) (s : Session) (t : Task) (answered : Result Attempt Stop) (new : Machine) (paper first paper' : K) → told ≡ told' → core ≡ core' → count ≡ count'
+pub attempt_as : {K : Type 0} (taken : K → Option (List ℕ)) (x : Storage) (told told' : Told) (core core' count count' before before' : ℕ) (plan : Placement) (s : Session) (t : Task) (answered : Result Tried Stop) (new : Machine) (paper first paper' : K) → told ≡ told' → core ≡ core' → count ≡ count'
     → before ≡ before' → first ≡ paper → Attempts taken x told core count before plan s t answered new first paper' → Attempts taken x told' core' count' before' plan s t answered new paper paper'
 attempt_as {K} taken x told told' core core' count count' before before' plan s t answered new paper first paper' a b c d e h = grind arith
 
 -- the tries after something was brought in
 module _ {K : Type 0} (taken : K → Option (List ℕ)) (x : Storage) (told after : Told) (new last : Machine) (core count printed : ℕ) (plan : Placement) (s : Session) (m : SessionJob) (t : Task) (o : IsInOrderButCounts s) (runs : IsRunning plan s.jobs m t) (found : What) (b : Brings x told new plan s m t found) (ready : t.condition ≡ Ready)
-    (tells : x.device ≢ None → told ≢ None) (answered : Result Attempt Stop) (paper first paper' : K) (same_paper : first ≡ paper) (same_printed : new.tasks.printed ≡ printed) (size many : ℕ) (same_size : size ≡ core) (same_count : many ≡ count) (Premise : Storage → Placement → SessionJob → Task → Type 0) where
+    (tells : x.device ≢ None → told ≢ None) (answered : Result Tried Stop) (paper first paper' : K) (same_paper : first ≡ paper) (same_printed : new.tasks.printed ≡ printed) (size many : ℕ) (same_size : size ≡ core) (same_count : many ≡ count) (Premise : Storage → Placement → SessionJob → Task → Type 0) where
   pub then_on : Premise b.again.storage plan (other x told new plan s m t o runs found b).member t
       → ForEachOver new told (λ y p z n u. Premise y p n u → Attempts taken y (content_after y.device after) size many new.tasks.printed p z u answered last first paper')
       → Attempts taken x (content_after x.device after) core count printed plan s t answered last paper paper'

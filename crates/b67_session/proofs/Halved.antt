@@ -30,8 +30,8 @@ use Rattle.b67_session.specs.Tries.{EndsSo}
 use Rattle.b67_session.specs.Attempts.{StillStands}
 use Rattle.b67_session.proofs.Composed.{ends_exact}
 use Rattle.b67_session.specs.AttemptStops.{Stop}
-use Rattle.b67_session.specs.declared.outcomes.Attempt.{Attempt}
-use Rattle.b67_session.specs.declared.outcomes.Attempt.TheVariants as attempts
+use Rattle.b67_session.specs.declared.tries.Tried.{Tried}
+use Rattle.b67_session.specs.declared.tries.Tried.TheVariants as tries
 use Rattle.b67_session_ends.specs.Closing.{StandsChosen}
 use Rattle.b67_session_ends.specs.Counts.{IsCounted}
 use Rattle.b67_session_ends.specs.Ends.{StandsForSession, StandsBetween}
@@ -89,7 +89,7 @@ pub record ClosesSo {K : Type 0} (said said' : Option (List (List ℕ))) (core :
 
 module _ {K : Type 0} (taken : K → Option (List ℕ)) (said said' : Option (List (List ℕ))) (core count before : ℕ) (s : Session) (c : Chosen) (k : Machine) (paper paper' : K) where
   -- ---- the operator was made
-  module _ (h : Attempted taken said said' core count before s c (Ok attempts.Made) k paper paper') where
+  module _ (h : Attempted taken said said' core count before s c (Ok tries.Made) k paper paper') where
     abbrev called : IsCalled taken paper paper' said' h.session h.member h.task before k
     called = h.meets
 
@@ -146,7 +146,7 @@ module _ {K : Type 0} (taken : K → Option (List ℕ)) (said said' : Option (Li
     }
 
   -- ---- the task has ended, or waits
-  module _ (answered : Result Attempt Stop) (made : Stepped) (h : Attempted taken said said' core count before s c answered k paper paper')
+  module _ (answered : Result Tried Stop) (made : Stepped) (h : Attempted taken said said' core count before s c answered k paper paper')
       (stays : ClosesSo said said' core k paper paper' h.plan h.session h.member h.task h.next.chosen made) where
     pub close_room : CountsHaveRoom k.tasks c
     close_room =
@@ -206,7 +206,7 @@ module _ {K : Type 0} (taken : K → Option (List ℕ)) (said said' : Option (Li
     }
 
   -- it has ended so
-  pub ends_so : (ending : Ending) (h : Attempted taken said said' core count before s c (Ok (attempts.Ends ending)) k paper paper')
+  pub ends_so : (ending : Ending) (h : Attempted taken said said' core count before s c (Ok (tries.Ends ending)) k paper paper')
       → ClosesSo said said' core k paper paper' h.plan h.session h.member h.task h.next.chosen (ends_with h.member.progress.job h.task.number ending)
   ends_so ending h = record {
     still = h.meets.1;
@@ -217,7 +217,7 @@ module _ {K : Type 0} (taken : K → Option (List ℕ)) (said said' : Option (Li
   }
 
   -- it waits for this
-  module _ (state : TaskState) (h : Attempted taken said said' core count before s c (Ok (attempts.Waits state)) k paper paper') where
+  module _ (state : TaskState) (h : Attempted taken said said' core count before s c (Ok (tries.Waits state)) k paper paper') where
     abbrev pub waits : WaitsSo h.plan h.member h.task state
     waits = h.meets.0
 

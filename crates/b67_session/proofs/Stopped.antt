@@ -14,7 +14,7 @@ use Rattle.b67_task_tables.specs.Tables.{MachineRepresents}
 use Rattle.b67_task_switch.specs.declared.counting.Chosen.{Chosen}
 use Rattle.b67_session.specs.AttemptStops.{Stop}
 use Rattle.b67_session.specs.AttemptStops as stops
-use Rattle.b67_session.specs.declared.outcomes.Attempt.{Attempt}
+use Rattle.b67_session.specs.declared.tries.Tried.{Tried}
 use Rattle.b67_session.specs.Attempts.{StillStands, StandsLacking}
 use Rattle.b67_session.specs.Slices.{Prints, StepLacks, StopsBefore, SliceMeets}
 use Rattle.b67_session.specs.Steps.{stays, Steps}
@@ -43,7 +43,7 @@ module _ (s : Session) (m : SessionJob) (t : Task) (n : IsNext s m t) where
 
 module _ {K : Type 0} (taken : K → Option (List ℕ)) (said said' : Option (List (List ℕ))) (core count before : ℕ) (s : Session) (c : Chosen) (k : Machine) (paper paper' : K) where
   -- ---- the printer failed in the lines of the endings
-  module _ (answered : Result Attempt Stop) (made : Stepped) (h : Attempted taken said said' core count before s c answered k paper paper')
+  module _ (answered : Result Tried Stop) (made : Stepped) (h : Attempted taken said said' core count before s c answered k paper paper')
       (so : ClosesSo said said' core k paper paper' h.plan h.session h.member h.task h.next.chosen made) where
     pub cut_steps : (old new : Machine) (paper'' : K) → old.tasks.made ≡ s.made → old.tasks.printed ≡ before → k.tasks.printed ≡ before → length old.cpu.core ≡ core → old.tasks.halt ≢ Some old.tasks.made → k.tasks.halt ≡ old.tasks.halt
         → TookMore taken paper' paper'' (run_text (close_part taken said said' core count before s c k paper paper' answered made h so).lines) k.tasks.printed new.tasks.printed → new ≡ record k { tasks = record k.tasks { printed = new.tasks.printed } }

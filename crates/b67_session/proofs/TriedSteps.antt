@@ -4,6 +4,7 @@ use Rattle.b67_word.specs.declared.faults.Ending.{Ending}
 use Rattle.b67_word.specs.declared.faults.Failed.{Failed}
 use Rattle.b67_model.specs.Common.{Stepped, ends_with, StepResult, Condition, Task, Job, SessionJob, Session, Choice, Waits, IsInOrderButPlaces}
 use Rattle.b67_law_sessions.specs.Turns.{IsNext, part_of}
+use Rattle.b67_stack.specs.declared.What.{What}
 use Rattle.b67_stack.specs.Represents.{Storage}
 use Rattle.b67_layout_storage.specs.Machine.{Says, content_after}
 use Rattle.b67_layout.specs.Placement.{Placement}
@@ -18,8 +19,8 @@ use Rattle.b67_session.specs.AttemptStops.{Stop}
 use Rattle.b67_session.specs.AttemptStops as stops
 use Rattle.b67_session.specs.Attempts.{WantsNothing, AttemptFits, IsNotFull, IsAtHand}
 use Rattle.b67_session.proofs.Composed.{not_full_as}
-use Rattle.b67_session.specs.declared.outcomes.Attempt.{Attempt}
-use Rattle.b67_session.specs.declared.outcomes.Attempt.TheVariants as attempts
+use Rattle.b67_session.specs.declared.tries.Tried.{Tried}
+use Rattle.b67_session.specs.declared.tries.Tried.TheVariants as tries
 use Rattle.b67_session_ends.specs.Closing.{StandsChosen, ChoseSome, Closes}
 use Rattle.b67_session_ends.specs.Counts.{IsCounted}
 use Rattle.b67_session_ends.specs.Ends.{StandsBetween}
@@ -83,14 +84,14 @@ chosen_by {new} {c} m t s n x told plan chosen o stands running runs = record {
 
 module _ {D K : Type 0} {holds : D → Option (List (List ℕ))} {taken : K → Option (List ℕ)} {told told' : Option (List (List ℕ))} {count : ℕ} {k mid new : Machine} {c : Chosen} {device device' : D} {paper paper' : K} where
   -- at another answer
-  pub tries_as : (answered other : Result Attempt Stop) → answered ≡ other → Tries holds taken told told' count k c mid answered new device device' paper paper' → Tries holds taken told told' count k c mid other new device device' paper paper'
-  tries_as answered other e x = subst (λ (a : Result Attempt Stop). Tries holds taken told told' count k c mid a new device device' paper paper') e x
+  pub tries_as : (answered other : Result Tried Stop) → answered ≡ other → Tries holds taken told told' count k c mid answered new device device' paper paper' → Tries holds taken told told' count k c mid other new device device' paper paper'
+  tries_as answered other e x = subst (λ (a : Result Tried Stop). Tries holds taken told told' count k c mid a new device device' paper paper') e x
 
-  printed_is : (answered : Result Attempt Stop) → Tries holds taken told told' count k c mid answered new device device' paper paper' → mid.tasks.printed ≡ k.tasks.printed
+  printed_is : (answered : Result Tried Stop) → Tries holds taken told told' count k c mid answered new device device' paper paper' → mid.tasks.printed ≡ k.tasks.printed
   printed_is answered x = turned_printed k.tasks mid.tasks c.row x.tables
 
   -- where its segment and array are present
-  module _ (answered : Result Attempt Stop) (x : Tries holds taken told told' count k c mid answered new device device' paper paper') (said : Option (List (List ℕ))) (s : Session) (says : Says said told) (h : StandsAt said k s) where
+  module _ (answered : Result Tried Stop) (x : Tries holds taken told told' count k c mid answered new device device' paper paper') (said : Option (List (List ℕ))) (s : Session) (says : Says said told) (h : StandsAt said k s) where
     abbrev next_of : NextOf s c
     next_of = n x said s says h
 
@@ -112,8 +113,8 @@ module _ {D K : Type 0} {holds : D → Option (List (List ℕ))} {taken : K → 
         })
 
   -- the operator was made
-  module _ (x : Tries holds taken told told' count k c mid (Ok attempts.Made) new device device' paper paper') (said : Option (List (List ℕ))) (s : Session) (says : Says said told) (h : StandsAt said k s) where
-    abbrev made : Attempted taken said (content_after said told') (length k.cpu.core) count k.tasks.printed s c (Ok attempts.Made) new paper paper'
+  module _ (x : Tries holds taken told told' count k c mid (Ok tries.Made) new device device' paper paper') (said : Option (List (List ℕ))) (s : Session) (says : Says said told) (h : StandsAt said k s) where
+    abbrev made : Attempted taken said (content_after said told') (length k.cpu.core) count k.tasks.printed s c (Ok tries.Made) new paper paper'
     made = attempted x said s says h
 
     pub made_counts : CountsHaveRoom new.tasks c
@@ -140,7 +141,7 @@ module _ {D K : Type 0} {holds : D → Option (List (List ℕ))} {taken : K → 
         pub made_present : (m : SessionJob) (t : Task) → IsNext s m t → IfPresent holds (said ≢ None) (length k.cpu.core) 1 h.storage h.plan s m t answered k last device device'
         made_present m t next =
             let z = n x said s says h in
-            present_by (Ok attempts.Made) x said s says h m t next answered last (λ tells code none. ended_room (length k.cpu.core) s z.member z.task ended.result answered ended.answer)
+            present_by (Ok tries.Made) x said s says h m t next answered last (λ tells code none. ended_room (length k.cpu.core) s z.member z.task ended.result answered ended.answer)
             (λ whole. ended_not_full ended.result answered ended.answer) (λ sum size e. absurd (ended_not_full ended.result answered ended.answer sum size e))
             (λ job alone hand more.
             step_keeps_areas taken s z.member z.task c h.ordered z.next z.chosen z.ready h.storage (slot_here x said s says h) h.plan (content_after h.storage.device told') mid.tasks.printed new last tasks paper paper' paper''
@@ -150,7 +151,7 @@ module _ {D K : Type 0} {holds : D → Option (List (List ℕ))} {taken : K → 
             (areas_here x said s says h refl (inl wants)) counted answered each wants)
 
   -- the operator ends its task, or makes it wait: the attempt has left the tables as they were
-  module _ (outcome : Attempt) (x : Tries holds taken told told' count k c mid (Ok outcome) new device device' paper paper') (stay : new.tasks ≡ mid.tasks) (said : Option (List (List ℕ))) (s : Session) (says : Says said told) (h : StandsAt said k s)
+  module _ (outcome : Tried) (x : Tries holds taken told told' count k c mid (Ok outcome) new device device' paper paper') (stay : new.tasks ≡ mid.tasks) (said : Option (List (List ℕ))) (s : Session) (says : Says said told) (h : StandsAt said k s)
       (made : Stepped) (so : ClosesSo said (content_after said told') (length k.cpu.core) new paper paper' (attempted x said s says h).plan (attempted x said s says h).session (attempted x said s says h).member (attempted x said s says h).task (attempted x said s says h).next.chosen made) where
     abbrev left : Attempted taken said (content_after said told') (length k.cpu.core) count k.tasks.printed s c (Ok outcome) new paper paper'
     left = attempted x said s says h
@@ -159,7 +160,7 @@ module _ {D K : Type 0} {holds : D → Option (List (List ℕ))} {taken : K → 
     runs = ap (λ (z : Tasks). z.running) stay ∙ ap (λ (z : Tasks). z.running) x.tables
 
     -- it doesn't go on
-    left_not : outcome ≢ attempts.Made → (job : Job) → GoesOnAlone s (n x said s says h).member (n x said s says h).task job → IsAtHand h.storage h.plan (n x said s says h).member (n x said s says h).task → ⊥
+    left_not : outcome ≢ tries.Made → (job : Job) → GoesOnAlone s (n x said s says h).member (n x said s says h).task job → IsAtHand h.storage h.plan (n x said s says h).member (n x said s says h).task → ⊥
     left_not other job alone hand =
         let z = n x said s says h in
         goes_on_only (with_running h.plan (slot_here x said s says h)) z.member z.task job alone.printed alone.touched alone.is outcome other (outcome_here x said s says h hand)
@@ -194,7 +195,7 @@ module _ {D K : Type 0} {holds : D → Option (List (List ℕ))} {taken : K → 
             → Steps taken (content_after said told') (said ≢ None) count s answered k last paper paper'''
         closed_row tables = finished taken (content_after said told') (said ≢ None) count s k closed last paper paper'' paper''' closed_half tables over.result over.finishes answered over.answer
 
-        pub closed_present : outcome ≢ attempts.Made → (WantsNothing h.storage h.plan (n x said s says h).member (n x said s says h).task → StepLeaves h.storage h.plan s (n x said s says h).member (n x said s says h).task last) → (m : SessionJob) (t : Task) → IsNext s m t → IfPresent holds (said ≢ None) (length k.cpu.core) 1 h.storage h.plan s m t answered k last device device'
+        pub closed_present : outcome ≢ tries.Made → (WantsNothing h.storage h.plan (n x said s says h).member (n x said s says h).task → StepLeaves h.storage h.plan s (n x said s says h).member (n x said s says h).task last) → (m : SessionJob) (t : Task) → IsNext s m t → IfPresent holds (said ≢ None) (length k.cpu.core) 1 h.storage h.plan s m t answered k last device device'
         closed_present other left m t next =
             let z = n x said s says h in
             present_by (Ok outcome) x said s says h m t next answered last (λ tells code none. ended_room (length k.cpu.core) s z.member z.task over.result answered over.answer)
@@ -208,15 +209,19 @@ module _ {D K : Type 0} {holds : D → Option (List (List ℕ))} {taken : K → 
           let (more, only) = closes in
           cut_steps taken said (content_after said told') (length k.cpu.core) count k.tasks.printed s c new paper paper' (Ok outcome) made left so k last paper'' h.stands.tables.counts.made refl printed_still refl due halt more only
 
-      pub cut_present : outcome ≢ attempts.Made → (last.tasks.made ≡ new.tasks.made) → (m : SessionJob) (t : Task) → IsNext s m t → IfPresent {A = Unit {0}} holds (said ≢ None) (length k.cpu.core) 1 h.storage h.plan s m t (Err stops.PrintFault) k last device device'
+      pub cut_present : outcome ≢ tries.Made → (last.tasks.made ≡ new.tasks.made) → (m : SessionJob) (t : Task) → IsNext s m t → IfPresent {A = Unit {0}} holds (said ≢ None) (length k.cpu.core) 1 h.storage h.plan s m t (Err stops.PrintFault) k last device device'
       cut_present other still m t next =
           present_by (Ok outcome) x said s says h m t next (Err stops.PrintFault) last (λ tells code none. tt) (λ whole sum size e. absurd cc) (λ sum size e. absurd cc)
           (λ job alone hand more. absurd (left_not other job alone hand))
           (λ wants more. absurd (omega (arith, more, still, ap (λ (z : Tasks). z.made) stay, turned_made k.tasks mid.tasks c.row x.tables)))
 
+  -- nothing is answered to be absent
+  pub absent_never : (found : What) → Tries holds taken told told' count k c mid (Ok (tries.Absent found)) new device device' paper paper' → (said : Option (List (List ℕ))) (s : Session) → Says said told → StandsAt said k s → ⊥
+  absent_never found x said s says h = (attempted x said s says h).meets
+
   -- it ends its task
-  module _ (ending : Ending) (x : Tries holds taken told told' count k c mid (Ok (attempts.Ends ending)) new device device' paper paper') (said : Option (List (List ℕ))) (s : Session) (says : Says said told) (h : StandsAt said k s) where
-    abbrev ending_left : Attempted taken said (content_after said told') (length k.cpu.core) count k.tasks.printed s c (Ok (attempts.Ends ending)) new paper paper'
+  module _ (ending : Ending) (x : Tries holds taken told told' count k c mid (Ok (tries.Ends ending)) new device device' paper paper') (said : Option (List (List ℕ))) (s : Session) (says : Says said told) (h : StandsAt said k s) where
+    abbrev ending_left : Attempted taken said (content_after said told') (length k.cpu.core) count k.tasks.printed s c (Ok (tries.Ends ending)) new paper paper'
     ending_left = attempted x said s says h
 
     abbrev pub ending_made : Stepped
@@ -227,14 +232,14 @@ module _ {D K : Type 0} {holds : D → Option (List (List ℕ))} {taken : K → 
 
     -- the chosen row is its
     ending_stands : StandsChosen ending_so.still.0 (content_after said told') new ending_left.plan ending_left.session ending_left.member ending_left.task c
-    ending_stands = stands_chosen (attempts.Ends ending) x x.stay said s says h ending_made ending_so
+    ending_stands = stands_chosen (tries.Ends ending) x x.stay said s says h ending_made ending_so
 
     pub ending_chose : ChoseSome new c
     ending_chose = record { storage = ending_so.still.0; told = content_after said told'; plan = ending_left.plan; session = ending_left.session; member = ending_left.member; task = ending_left.task; stands = ending_stands }
 
     -- what closing says of it
     pub ending_closes : (result : Result (Unit {0}) Failed) (closed : Machine) (paper'' : K) → ClosesEach taken c ending result new closed paper' paper''
-        → Closes taken ending_so.still.0 (content_after said told') ending_left.plan ending_left.session (the_part (attempts.Ends ending) x x.stay said s says h ending_made ending_so) result new closed paper' paper''
+        → Closes taken ending_so.still.0 (content_after said told') ending_left.plan ending_left.session (the_part (tries.Ends ending) x x.stay said s says h ending_made ending_so) result new closed paper' paper''
     ending_closes result closed paper'' closes = closes ending_so.still.0 (content_after said told') ending_left.plan ending_left.session ending_left.member ending_left.task ending_stands
 
     -- where nothing is wanted, what is left lies where it lay
@@ -253,8 +258,8 @@ module _ {D K : Type 0} {holds : D → Option (List (List ℕ))} {taken : K → 
         h.storage told'' h.plan slot closed last paper'' paper''' answered (closes h.storage told'' plan' s z.member z.task chosen).3 each
 
   -- it makes its task wait
-  module _ (state : TaskState) (x : Tries holds taken told told' count k c mid (Ok (attempts.Waits state)) new device device' paper paper') (said : Option (List (List ℕ))) (s : Session) (says : Says said told) (h : StandsAt said k s) where
-    abbrev waiting : Attempted taken said (content_after said told') (length k.cpu.core) count k.tasks.printed s c (Ok (attempts.Waits state)) new paper paper'
+  module _ (state : TaskState) (x : Tries holds taken told told' count k c mid (Ok (tries.Waits state)) new device device' paper paper') (said : Option (List (List ℕ))) (s : Session) (says : Says said told) (h : StandsAt said k s) where
+    abbrev waiting : Attempted taken said (content_after said told') (length k.cpu.core) count k.tasks.printed s c (Ok (tries.Waits state)) new paper paper'
     waiting = attempted x said s says h
 
     abbrev pub waiting_made : Stepped
@@ -264,7 +269,7 @@ module _ {D K : Type 0} {holds : D → Option (List (List ℕ))} {taken : K → 
     waiting_so = waits_so taken said (content_after said told') (length k.cpu.core) count k.tasks.printed s c new paper paper' state waiting
 
     waiting_stands : StandsChosen waiting_so.still.0 (content_after said told') new waiting.plan waiting.session waiting.member waiting.task c
-    waiting_stands = stands_chosen (attempts.Waits state) x x.stay said s says h waiting_made waiting_so
+    waiting_stands = stands_chosen (tries.Waits state) x x.stay said s says h waiting_made waiting_so
 
     waiting_holds : HoldsSo waiting.plan waiting.member waiting.task state (waits taken said (content_after said told') (length k.cpu.core) count k.tasks.printed s c new paper paper' state waiting).condition
     waiting_holds = holds_so taken said (content_after said told') (length k.cpu.core) count k.tasks.printed s c new paper paper' state waiting
@@ -283,7 +288,7 @@ module _ {D K : Type 0} {holds : D → Option (List (List ℕ))} {taken : K → 
     }
 
     pub waiting_closes : (result : Result (Unit {0}) Failed) (closed : Machine) (paper'' : K) → HoldsEach taken c state result new closed paper' paper''
-        → Closes taken waiting_so.still.0 (content_after said told') waiting.plan waiting.session (the_part (attempts.Waits state) x x.stay said s says h waiting_made waiting_so) result new closed paper' paper''
+        → Closes taken waiting_so.still.0 (content_after said told') waiting.plan waiting.session (the_part (tries.Waits state) x x.stay said s says h waiting_made waiting_so) result new closed paper' paper''
     waiting_closes result closed paper'' holds =
         holds waiting_so.still.0 (content_after said told') waiting.plan waiting.session waiting.member waiting.task
         (waits taken said (content_after said told') (length k.cpu.core) count k.tasks.printed s c new paper paper' state waiting).condition waiting_stands waiting_holds

@@ -25,8 +25,8 @@ use Rattle.b67_task_switch.specs.Chosen.{Chooses}
 use Rattle.b67_session.specs.AttemptPassed.{StandsOver, CallsDevice, WaitsSo}
 use Rattle.b67_session.specs.AttemptStops.{Stop}
 use Rattle.b67_session.specs.AttemptStops as stops
-use Rattle.b67_session.specs.declared.outcomes.Attempt.{Attempt}
-use Rattle.b67_session.specs.declared.outcomes.Attempt.TheVariants as attempts
+use Rattle.b67_session.specs.declared.tries.Tried.{Tried}
+use Rattle.b67_session.specs.declared.tries.Tried.TheVariants as tries
 use Rattle.b67_session.specs.Attempts.{RunsOver, ForEachOver, WantsNothing, HoleFits, segment_fits, array_fits, IsAtHand, UsesHole, CallKeepsAreas, StandsAsBefore, TellsAfter, AttemptMeets, Attempts, AttemptFits, EndsByRow, AttemptRow, TablesStay}
 use Rattle.b67_session.specs.Slices.{StandsAt}
 use Rattle.b67_session.proofs.Next.{Chose, chose, runs_then, next_other}
@@ -97,7 +97,7 @@ pub runs_over : (said told : Option (List (List ℕ))) → Says said told → (k
 runs_over said told says k s m t c h = record { storage = h.storage; plan = h.plan; session = s; member = m; task = t; ordered = but_counts s h.ordered; stands = over h.storage said told k h.plan s says h.stands; running = h.running; ready = h.ready }
 
 -- what the attempt answered, for the session or where nothing is known of the sectors for one with other numbers
-pub record Attempted {K : Type 0} (taken : K → Option (List ℕ)) (said said' : Option (List (List ℕ))) (core count before : ℕ) (s : Session) (c : Chosen) (answered : Result Attempt Stop) (k : Machine) (paper paper' : K) : Type 0 where
+pub record Attempted {K : Type 0} (taken : K → Option (List ℕ)) (said said' : Option (List (List ℕ))) (core count before : ℕ) (s : Session) (c : Chosen) (answered : Result Tried Stop) (k : Machine) (paper paper' : K) : Type 0 where
   pub session : Session
   pub same : said ≢ None → session ≡ s
   pub same_made : session.made ≡ s.made
@@ -125,7 +125,7 @@ abbrev pub ChosenRoom : Machine → Chosen → Type 0
 ChosenRoom k c = (plan : Placement) (s : Session) → IsInOrderButPlaces s → TasksShow plan s k.tasks → CountsHaveRoom k.tasks c
 
 -- a step as far as its operator was tried: a task was chosen and has the turn, and the attempt answered
-pub record Tries {D K : Type 0} (holds : D → Option (List (List ℕ))) (taken : K → Option (List ℕ)) (told told' : Option (List (List ℕ))) (count : ℕ) (k : Machine) (c : Chosen) (mid : Machine) (answered : Result Attempt Stop) (new : Machine) (device device' : D) (paper paper' : K) : Type 0 where
+pub record Tries {D K : Type 0} (holds : D → Option (List (List ℕ))) (taken : K → Option (List ℕ)) (told told' : Option (List (List ℕ))) (count : ℕ) (k : Machine) (c : Chosen) (mid : Machine) (answered : Result Tried Stop) (new : Machine) (device device' : D) (paper paper' : K) : Type 0 where
   pub chooses : ChoosesRow k c
   pub counts : ChosenRoom k c
   pub gives : GivesTurn k c.row mid
@@ -135,7 +135,7 @@ pub record Tries {D K : Type 0} (holds : D → Option (List (List ℕ))) (taken 
   pub stay : TablesStay answered mid.tasks new.tasks
   pub halt : new.tasks.halt ≡ mid.tasks.halt
 
-module _ {D K : Type 0} {holds : D → Option (List (List ℕ))} {taken : K → Option (List ℕ)} {told told' : Option (List (List ℕ))} {count : ℕ} {k mid new : Machine} {c : Chosen} {answered : Result Attempt Stop} {device device' : D} {paper paper' : K}
+module _ {D K : Type 0} {holds : D → Option (List (List ℕ))} {taken : K → Option (List ℕ)} {told told' : Option (List (List ℕ))} {count : ℕ} {k mid new : Machine} {c : Chosen} {answered : Result Tried Stop} {device device' : D} {paper paper' : K}
     (x : Tries holds taken told told' count k c mid answered new device device' paper paper') (said : Option (List (List ℕ))) (s : Session) (says : Says said told) (h : StandsAt said k s) where
   abbrev chooses_here : Chooses k.tasks.rows.items (Some c) (choice s)
   chooses_here = x.chooses h.plan s h.ordered h.stands.tables
@@ -188,7 +188,7 @@ module _ {D K : Type 0} {holds : D → Option (List (List ℕ))} {taken : K → 
   -- and of the machine before
   pub room_there : said ≢ None → AttemptFits (length k.cpu.core) h.storage h.plan s n.member n.task answered
   room_there tells = subst (λ (size : ℕ). AttemptFits size h.storage h.plan s n.member n.task answered) x.core (room_over answered (room_here tells)) where
-    room_over : (other : Result Attempt Stop) → AttemptFits (length mid.cpu.core) here.storage here.plan s n.member n.task other → AttemptFits (length mid.cpu.core) h.storage h.plan s n.member n.task other
+    room_over : (other : Result Tried Stop) → AttemptFits (length mid.cpu.core) here.storage here.plan s n.member n.task other → AttemptFits (length mid.cpu.core) h.storage h.plan s n.member n.task other
     room_over (Ok attempted) fits = fits
     room_over (Err (stops.NoCore words size)) fits = tt
     room_over (Err (stops.BackingFull sum size)) fits = fits
@@ -237,16 +237,17 @@ module _ {D K : Type 0} {holds : D → Option (List (List ℕ))} {taken : K → 
   at_hand_there (inl wants) = inl (record { code = wants.code; array = wants.array })
   at_hand_there (inr (tells, fits)) = inr (tells, hole_there fits)
 
-  pub areas_here : answered ≡ Ok attempts.Made → IsAtHand h.storage h.plan n.member n.task
+  pub areas_here : answered ≡ Ok tries.Made → IsAtHand h.storage h.plan n.member n.task
       → CallKeepsAreas taken here.storage (content_after here.storage.device told') mid.tasks.printed here.plan s n.member n.task new paper paper'
   areas_here made hand = promise.areas (at_hand_there hand) made
 
   -- the task ends or waits only by its row
-  outcome_told : (other : Result Attempt Stop) → said ≢ None → AttemptMeets taken (content_after here.storage.device told') (here.storage.device ≢ None) (length mid.cpu.core) count mid.tasks.printed here.plan (record s { jobs = a.jobs }) a.member n.task other new paper paper'
+  outcome_told : (other : Result Tried Stop) → said ≢ None → AttemptMeets taken (content_after here.storage.device told') (here.storage.device ≢ None) (length mid.cpu.core) count mid.tasks.printed here.plan (record s { jobs = a.jobs }) a.member n.task other new paper paper'
       → EndsByRow here.plan n.member n.task other
-  outcome_told (Ok attempts.Made) tells meets = tt
-  outcome_told (Ok (attempts.Ends ending)) tells meets = grind (arith, member_same)
-  outcome_told (Ok (attempts.Waits state)) tells meets = subst (λ (z : SessionJob). WaitsSo here.plan z n.task state) (member_same tells) meets.0
+  outcome_told (Ok tries.Made) tells meets = tt
+  outcome_told (Ok (tries.Absent found)) tells meets = meets
+  outcome_told (Ok (tries.Ends ending)) tells meets = grind (arith, member_same)
+  outcome_told (Ok (tries.Waits state)) tells meets = subst (λ (z : SessionJob). WaitsSo here.plan z n.task state) (member_same tells) meets.0
   outcome_told (Err stop) tells meets = tt
 
   pub still_here : WantsNothing h.storage h.plan n.member n.task → StandsAsBefore here.storage (content_after here.storage.device told') here.plan s answered new

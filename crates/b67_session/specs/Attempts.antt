@@ -24,8 +24,8 @@ use Rattle.b67_mcp.specs.Called.{IsCalled, HoldsOther, IsCut, IsShortAt, Lengthe
 use Rattle.b67_mcp.specs.Running.{CallCauses, Keeps}
 use Rattle.b67_mcp.specs.declared.ends.Stop.{Stop}
 use Rattle.b67_mcp.specs.declared.ends.Stop.TheVariants as stops
-use Rattle.b67_session.specs.declared.outcomes.Attempt.{Attempt}
-use Rattle.b67_session.specs.declared.outcomes.Attempt.TheVariants as attempts
+use Rattle.b67_session.specs.declared.tries.Tried.{Tried}
+use Rattle.b67_session.specs.declared.tries.Tried.TheVariants as tries
 use Rattle.b67_session.specs.Tries.{EndsSo}
 
 -- the machine represents some session in order over a device that tells this, and a ready task of it runs
@@ -123,13 +123,14 @@ abbrev pub EndsWithin : Type 0 → SessionJob → Task → Ending → Type 0
 EndsWithin exact m t ending = EndsSo m t ending ⊎ ((exact → ⊥) × (ending ≡ Faulted InvalidOperator))
 
 -- by what was answered, over a core of so many words and a device of so many sectors; so many first bytes of what is printed
--- next were printed before. `exact` is whether the device tells what its sectors hold: one that doesn't may give back other
--- code, on which the task ends
-abbrev pub AttemptMeets : {K : Type 0} → (K → Option (List ℕ)) → Option (List (List ℕ)) → Type 0 → ℕ → ℕ → ℕ → Placement → Session → SessionJob → Task → Result Attempt Stop → Machine → K → K → Type 0
-AttemptMeets taken told exact core count before plan s m t (Ok attempts.Made) new paper paper' = IsCalled taken paper paper' told s m t before new
-AttemptMeets taken told exact core count before plan s m t (Ok (attempts.Ends ending)) new paper paper' =
+-- next were printed before. Nothing is answered to be absent. `exact` is whether the device tells what its sectors hold: one
+-- that doesn't may give back other code, on which the task ends
+abbrev pub AttemptMeets : {K : Type 0} → (K → Option (List ℕ)) → Option (List (List ℕ)) → Type 0 → ℕ → ℕ → ℕ → Placement → Session → SessionJob → Task → Result Tried Stop → Machine → K → K → Type 0
+AttemptMeets taken told exact core count before plan s m t (Ok tries.Made) new paper paper' = IsCalled taken paper paper' told s m t before new
+AttemptMeets taken told exact core count before plan s m t (Ok (tries.Absent found)) new paper paper' = ⊥
+AttemptMeets taken told exact core count before plan s m t (Ok (tries.Ends ending)) new paper paper' =
     EndsWithin exact m t ending × StillStands told new plan s × (paper' ≡ paper)
-AttemptMeets taken told exact core count before plan s m t (Ok (attempts.Waits state)) new paper paper' = WaitsSo plan m t state × StillStands told new plan s × (paper' ≡ paper)
+AttemptMeets taken told exact core count before plan s m t (Ok (tries.Waits state)) new paper paper' = WaitsSo plan m t state × StillStands told new plan s × (paper' ≡ paper)
 AttemptMeets taken told exact core count before plan s m t (Err (stops.NoCore words size)) new paper paper' =
     (words ≡ need core s m t) × (size ≡ core) × (core < words) × StillStands told new plan s × (paper' ≡ paper)
 AttemptMeets taken told exact core count before plan s m t (Err (stops.BackingFull sum size)) new paper paper' =
@@ -138,7 +139,7 @@ AttemptMeets taken told exact core count before plan s m t (Err stops.BackingFau
 AttemptMeets taken told exact core count before plan s m t (Err stops.PrintFault) new paper paper' = IsCut taken paper paper' m t before new.tasks.printed × StillStands told new plan s
 
 -- the session, or over a device that tells nothing one with other numbers, and what its step answered
-pub record Attempts {K : Type 0} (taken : K → Option (List ℕ)) (x : Storage) (told : Option (List (List ℕ))) (core count before : ℕ) (plan : Placement) (s : Session) (t : Task) (answered : Result Attempt Stop) (new : Machine) (paper paper' : K) : Type 0 where
+pub record Attempts {K : Type 0} (taken : K → Option (List ℕ)) (x : Storage) (told : Option (List (List ℕ))) (core count before : ℕ) (plan : Placement) (s : Session) (t : Task) (answered : Result Tried Stop) (new : Machine) (paper paper' : K) : Type 0 where
   pub jobs : List SessionJob
   pub others : AllOtherNumbers s.jobs jobs
   pub same : x.device ≢ None → jobs ≡ s.jobs
@@ -148,7 +149,7 @@ pub record Attempts {K : Type 0} (taken : K → Option (List ℕ)) (x : Storage)
 
 -- A step that was made, ends its task, or couldn't be printed needs no more words than core has. Where its segment was
 -- present before, in this storage, a device that is full or fails stops it only if it doesn't either
-abbrev pub AttemptFits : ℕ → Storage → Placement → Session → SessionJob → Task → Result Attempt Stop → Type 0
+abbrev pub AttemptFits : ℕ → Storage → Placement → Session → SessionJob → Task → Result Tried Stop → Type 0
 AttemptFits core x plan s m t (Ok attempted) = need core s m t ≤ core
 AttemptFits core x plan s m t (Err stops.PrintFault) = need core s m t ≤ core
 AttemptFits core x plan s m t (Err (stops.BackingFull sum size)) = code_area x plan m t ≢ None → need core s m t ≤ core
@@ -186,51 +187,53 @@ pub record IsCalm {A D : Type 0} (answered : Result A Stop) (device device' : D)
   pub same : device' ≡ device
   pub not_full : IsNotFull answered
 
--- a step that ends its task or makes it wait does so by its row
-abbrev pub EndsByRow : Placement → SessionJob → Task → Result Attempt Stop → Type 0
-EndsByRow plan m t (Ok (attempts.Ends ending)) = EndsSo m t ending
-EndsByRow plan m t (Ok (attempts.Waits state)) = WaitsSo plan m t state
+-- a step that ends its task or makes it wait does so by its row, and nothing is absent
+abbrev pub EndsByRow : Placement → SessionJob → Task → Result Tried Stop → Type 0
+EndsByRow plan m t (Ok (tries.Absent found)) = ⊥
+EndsByRow plan m t (Ok (tries.Ends ending)) = EndsSo m t ending
+EndsByRow plan m t (Ok (tries.Waits state)) = WaitsSo plan m t state
 EndsByRow plan m t answered = Unit {0}
 
 -- a step that is to end its task or to make it wait leaves everything where it is
-abbrev pub StandsAsBefore : Storage → Option (List (List ℕ)) → Placement → Session → Result Attempt Stop → Machine → Type 0
-StandsAsBefore x told plan s (Ok (attempts.Ends ending)) new = MachineRepresents x told new plan s
-StandsAsBefore x told plan s (Ok (attempts.Waits state)) new = MachineRepresents x told new plan s
+abbrev pub StandsAsBefore : Storage → Option (List (List ℕ)) → Placement → Session → Result Tried Stop → Machine → Type 0
+StandsAsBefore x told plan s (Ok (tries.Ends ending)) new = MachineRepresents x told new plan s
+StandsAsBefore x told plan s (Ok (tries.Waits state)) new = MachineRepresents x told new plan s
 StandsAsBefore x told plan s answered new = Unit {0}
 
 -- What an attempt answers and leaves. Over a device that tells what its sectors hold, core has room as said, and what is wanted
 -- goes into a hole if one has room for it. Where nothing is wanted, no array becomes longer and no task starts, the device isn't
 -- called; and if it is full, the sum is the one after the step. In both cases a step that is made leaves areas where they are;
 -- where nothing is wanted none is new, and a task ends or waits only by its row, with all areas where they are
-pub record AttemptRow {D K : Type 0} (holds : D → Option (List (List ℕ))) (taken : K → Option (List ℕ)) (x : Storage) (told : Option (List (List ℕ))) (core count before : ℕ) (plan : Placement) (s : Session) (m : SessionJob) (t : Task) (answered : Result Attempt Stop) (new : Machine) (device device' : D) (paper paper' : K) : Type 0 where
+pub record AttemptRow {D K : Type 0} (holds : D → Option (List (List ℕ))) (taken : K → Option (List ℕ)) (x : Storage) (told : Option (List (List ℕ))) (core count before : ℕ) (plan : Placement) (s : Session) (m : SessionJob) (t : Task) (answered : Result Tried Stop) (new : Machine) (device device' : D) (paper paper' : K) : Type 0 where
   pub meets : Attempts taken x told core count before plan s t answered new paper paper'
   pub fits : x.device ≢ None → AttemptFits core x plan s m t answered
   pub quiet : WantsNothing x plan m t → (CallsDevice m t → ⊥) → device' ≡ device
   pub hole : x.device ≢ None → HoleFits x plan m t → (CallsDevice m t → ⊥) → UsesHole holds answered device device'
-  pub areas : IsAtHand x plan m t → answered ≡ Ok attempts.Made → CallKeepsAreas taken x told before plan s m t new paper paper'
+  pub areas : IsAtHand x plan m t → answered ≡ Ok tries.Made → CallKeepsAreas taken x told before plan s m t new paper paper'
   pub outcome : WantsNothing x plan m t → EndsByRow plan m t answered
   pub still : WantsNothing x plan m t → StandsAsBefore x told plan s answered new
   pub sum : WantsNothing x plan m t → (sum size : ℕ) → answered ≡ Err (stops.BackingFull sum size) → TellsAfter s m t sum
 
 -- the same of an attempt once the running segment is present: if nothing more is wanted, the device isn't called but by a step
 -- that may call it, and a step that is made leaves areas where they are
-pub record WithCodeRow {D K : Type 0} (taken : K → Option (List ℕ)) (x : Storage) (told : Option (List (List ℕ))) (core count before : ℕ) (plan : Placement) (s : Session) (m : SessionJob) (t : Task) (answered : Result Attempt Stop) (new : Machine) (device device' : D) (paper paper' : K) : Type 0 where
+pub record WithCodeRow {D K : Type 0} (taken : K → Option (List ℕ)) (x : Storage) (told : Option (List (List ℕ))) (core count before : ℕ) (plan : Placement) (s : Session) (m : SessionJob) (t : Task) (answered : Result Tried Stop) (new : Machine) (device device' : D) (paper paper' : K) : Type 0 where
   pub meets : code_area x plan m t ≢ None → Attempts taken x told core count before plan s t answered new paper paper'
   pub fits : code_area x plan m t ≢ None → x.device ≢ None → AttemptFits core x plan s m t answered
   pub calm : WantsNothing x plan m t → (CallsDevice m t → ⊥) → IsCalm answered device device'
-  pub areas : WantsNothing x plan m t → answered ≡ Ok attempts.Made → CallKeepsAreas taken x told before plan s m t new paper paper'
+  pub areas : WantsNothing x plan m t → answered ≡ Ok tries.Made → CallKeepsAreas taken x told before plan s m t new paper paper'
 
 -- and of the last try, once the array is present too. Over a device that tells nothing the step may want another
-pub record LastRow {D K : Type 0} (taken : K → Option (List ℕ)) (x : Storage) (told : Option (List (List ℕ))) (core count before : ℕ) (plan : Placement) (s : Session) (m : SessionJob) (t : Task) (answered : Result Attempt Stop) (new : Machine) (device device' : D) (paper paper' : K) : Type 0 where
+pub record LastRow {D K : Type 0} (taken : K → Option (List ℕ)) (x : Storage) (told : Option (List (List ℕ))) (core count before : ℕ) (plan : Placement) (s : Session) (m : SessionJob) (t : Task) (answered : Result Tried Stop) (new : Machine) (device device' : D) (paper paper' : K) : Type 0 where
   pub meets : (x.device ≢ None → WantsNothing x plan m t) → Attempts taken x told core count before plan s t answered new paper paper'
   pub fits : WantsNothing x plan m t → AttemptFits core x plan s m t answered
   pub calm : (CallsDevice m t → ⊥) → IsCalm answered device device'
 
 -- the tables are as they were but where the operator was made; after a printer's failure it is counted how much is printed
-abbrev pub TablesStay : Result Attempt Stop → Tasks → Tasks → Type 0
-TablesStay (Ok attempts.Made) old new = Unit {0}
-TablesStay (Ok (attempts.Ends ending)) old new = new ≡ old
-TablesStay (Ok (attempts.Waits state)) old new = new ≡ old
+abbrev pub TablesStay : Result Tried Stop → Tasks → Tasks → Type 0
+TablesStay (Ok tries.Made) old new = Unit {0}
+TablesStay (Ok (tries.Absent found)) old new = new ≡ old
+TablesStay (Ok (tries.Ends ending)) old new = new ≡ old
+TablesStay (Ok (tries.Waits state)) old new = new ≡ old
 TablesStay (Err stops.PrintFault) old new = new ≡ record old { printed = new.printed }
 TablesStay (Err stop) old new = new ≡ old
 

@@ -8,7 +8,6 @@ ghost use Rattle.b67_exec.specs.Near.{StopsHere};
 ghost use Rattle.b67_session.specs.Attempts.{RunsOver, ForEachOver, AttemptRow, WithCodeRow, LastRow, TablesStay, TryLeaves};
 
 use crate::bringing::bring_wanted;
-use crate::outcomes::Attempt;
 use crate::tries::{Tried, carry_out, try_once};
 use crate::turns::make_told;
 use b67_backing::Backing;
@@ -25,7 +24,7 @@ fn last_try<B: Backing, K: Sink>(
     machine: &mut Machine,
     backing: &mut B,
     paper: &mut K,
-) -> Result<Attempt, Stop>
+) -> Result<Tried, Stop>
     requires runs { RunsOver machine.old (B.holds backing.old) }
     requires jobs { JobsHaveRoom machine.old.tasks.jobs }
     requires same { B.size backing.old + 1 ≡ length machine.old.sectors.links }
@@ -38,10 +37,10 @@ fn last_try<B: Backing, K: Sink>(
     ensures device { DeviceAfterCalls B.holds B.size B.calls B.faults backing.old backing.new }
 {
     match try_once(machine, backing, paper) {
-        Ok(Tried::Made) => Ok(Attempt::Made),
-        Ok(Tried::Ends(ending)) => Ok(Attempt::Ends(ending)),
-        Ok(Tried::Waits(state)) => Ok(Attempt::Waits(state)),
-        Ok(Tried::Absent(_)) => Ok(Attempt::Ends(Ending::Faulted(Fault::InvalidOperator))),
+        Ok(Tried::Made) => Ok(Tried::Made),
+        Ok(Tried::Ends(ending)) => Ok(Tried::Ends(ending)),
+        Ok(Tried::Waits(state)) => Ok(Tried::Waits(state)),
+        Ok(Tried::Absent(_)) => Ok(Tried::Ends(Ending::Faulted(Fault::InvalidOperator))),
         Err(stop) => Err(stop),
     }
 }
@@ -52,7 +51,7 @@ fn with_code<B: Backing, K: Sink>(
     machine: &mut Machine,
     backing: &mut B,
     paper: &mut K,
-) -> Result<Attempt, Stop>
+) -> Result<Tried, Stop>
     requires runs { RunsOver machine.old (B.holds backing.old) }
     requires jobs { JobsHaveRoom machine.old.tasks.jobs }
     requires same { B.size backing.old + 1 ≡ length machine.old.sectors.links }
@@ -65,9 +64,9 @@ fn with_code<B: Backing, K: Sink>(
     ensures device { DeviceAfterCalls B.holds B.size B.calls B.faults backing.old backing.new }
 {
     match try_once(machine, backing, paper) {
-        Ok(Tried::Made) => Ok(Attempt::Made),
-        Ok(Tried::Ends(ending)) => Ok(Attempt::Ends(ending)),
-        Ok(Tried::Waits(state)) => Ok(Attempt::Waits(state)),
+        Ok(Tried::Made) => Ok(Tried::Made),
+        Ok(Tried::Ends(ending)) => Ok(Tried::Ends(ending)),
+        Ok(Tried::Waits(state)) => Ok(Tried::Waits(state)),
         Ok(Tried::Absent(wanted)) => match bring_wanted(machine, backing, wanted) {
             Ok(()) => last_try(machine, backing, paper),
             Err(stop) => Err(stop),
@@ -83,7 +82,7 @@ fn attempt_seen<B: Backing, K: Sink>(
     why: Step,
     backing: &mut B,
     paper: &mut K,
-) -> Result<Attempt, Stop>
+) -> Result<Tried, Stop>
     requires runs { RunsOver machine.old (B.holds backing.old) }
     requires jobs { JobsHaveRoom machine.old.tasks.jobs }
     requires same { B.size backing.old + 1 ≡ length machine.old.sectors.links }
@@ -95,9 +94,9 @@ fn attempt_seen<B: Backing, K: Sink>(
     ensures leaves { TryLeaves B.holds B.size B.calls B.faults K.faults result machine.old machine.new backing.old backing.new paper.old paper.new }
 {
     match carry_out(machine, why, backing, paper) {
-        Ok(Tried::Made) => Ok(Attempt::Made),
-        Ok(Tried::Ends(ending)) => Ok(Attempt::Ends(ending)),
-        Ok(Tried::Waits(state)) => Ok(Attempt::Waits(state)),
+        Ok(Tried::Made) => Ok(Tried::Made),
+        Ok(Tried::Ends(ending)) => Ok(Tried::Ends(ending)),
+        Ok(Tried::Waits(state)) => Ok(Tried::Waits(state)),
         Ok(Tried::Absent(wanted)) => match bring_wanted(machine, backing, wanted) {
             Ok(()) => with_code(machine, backing, paper),
             Err(stop) => Err(stop),
@@ -114,7 +113,7 @@ pub(crate) fn attempt_told<B: Backing, K: Sink>(
     why: &mut Step,
     backing: &mut B,
     paper: &mut K,
-) -> Result<Attempt, Stop>
+) -> Result<Tried, Stop>
     requires runs { RunsOver machine.old (B.holds backing.old) }
     requires jobs { JobsHaveRoom machine.old.tasks.jobs }
     requires same { B.size backing.old + 1 ≡ length machine.old.sectors.links }
@@ -127,7 +126,7 @@ pub(crate) fn attempt_told<B: Backing, K: Sink>(
     ensures leaves { TryLeaves B.holds B.size B.calls B.faults K.faults result machine.old machine.new backing.old backing.new paper.old paper.new }
 {
     if make_told(machine, why) {
-        return Ok(Attempt::Made);
+        return Ok(Tried::Made);
     }
     let seen = *why;
     *why = Step::Done;
@@ -148,13 +147,13 @@ pub(crate) fn attempt_told<B: Backing, K: Sink>(
 /// `BackingFull` and `BackingFault` its segment or its array is absent, or the step is such a RESIZE or starts a task. Where
 /// both are present the backing isn't called but by such steps, and a task ends or waits only by its row. After `PrintFault`
 /// `printed` is raised by the bytes that were taken. Over a device that doesn't tell what its sectors hold, the words that it
-/// gave back may be others, and as many.
+/// gave back may be others, and as many. `Absent` is never answered.
 #[inline(always)]
 pub fn attempt<B: Backing, K: Sink>(
     machine: &mut Machine,
     backing: &mut B,
     paper: &mut K,
-) -> Result<Attempt, Stop>
+) -> Result<Tried, Stop>
     requires runs { RunsOver machine.old (B.holds backing.old) }
     requires jobs { JobsHaveRoom machine.old.tasks.jobs }
     requires same { B.size backing.old + 1 ≡ length machine.old.sectors.links }

@@ -20,7 +20,7 @@ ghost use Rattle.b67_session.specs.Slices.{IsStepDue, StandsAt, IfPresent};
 ghost use Rattle.b67_session.specs.Steps.{EndsStep, Steps};
 
 use crate::attempting::attempt_told;
-use crate::outcomes::Attempt;
+use crate::tries::Tried;
 use crate::turns::give_turn;
 use b67_backing::Backing;
 use b67_io::Sink;
@@ -75,18 +75,19 @@ pub(crate) fn step<B: Backing, K: Sink>(
     };
     give_turn(machine, chosen.row, why);
     match attempt_told(machine, why, backing, paper) {
-        Ok(Attempt::Made) => {
+        Ok(Tried::Made) => {
             count_one(&mut machine.tasks, chosen);
             end_step(machine, paper)
         }
-        Ok(Attempt::Ends(ending)) => match close(machine, chosen, ending, paper) {
+        Ok(Tried::Ends(ending)) => match close(machine, chosen, ending, paper) {
             Ok(()) => end_step(machine, paper),
             Err(_failed) => Err(Stop::PrintFault),
         },
-        Ok(Attempt::Waits(state)) => match make_wait(machine, chosen, state, paper) {
+        Ok(Tried::Waits(state)) => match make_wait(machine, chosen, state, paper) {
             Ok(()) => end_step(machine, paper),
             Err(_failed) => Err(Stop::PrintFault),
         },
+        Ok(Tried::Absent(_)) => unreachable!(),
         Err(stop) => Err(stop),
     }
 }

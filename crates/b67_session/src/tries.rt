@@ -17,7 +17,7 @@ use b67_task_tables::{Machine, TaskState};
 use b67_word::Ending;
 
 /// The operator was made, with its text printed; it wants something in core; it ends its task; or it makes its task wait, in
-/// this state.
+/// this state. After `attempt`, which brings in what is wanted, never `Absent`.
 #[derive(Clone, Copy, Debug, PartialEq, Eq)]
 pub enum Tried {
     Made,

@@ -7,7 +7,7 @@ use Rattle.b67_task_tables.specs.declared.tables.Tasks.{Tasks}
 use Rattle.b67_mcp.specs.Running.{JobsHaveRoom}
 use Rattle.b67_session.specs.Attempts.{WantsNothing, HoleFits}
 use Rattle.b67_mcp.specs.declared.ends.Stop.TheVariants.{BackingFull}
-use Rattle.b67_session.specs.declared.outcomes.Attempt.TheVariants.{Made, Ends, Waits}
+use Rattle.b67_session.specs.declared.tries.Tried.TheVariants.{Made, Ends, Waits}
 use Rattle.b67_session.proofs.Composed.{made_once, ends_once, waits_once, still_once, stops_once, never, unchanged_over, goes_on_telling, stopped_attempt, runs_over, wants_some, tables_after_end, tables_after_wait, tables_after_want, tables_after_stop, tables_stay, tables_from, room_after_stop, may_call, stop_calls, attempt_as, same_needs, still_told, other, in_order, then_on, room_after_want, code_there, still_holds, held_from, held_till, not_full_as, not_full_ok, not_full_once, tells_once, hole_for, then_nothing, no_call, keeps_areas, areas_kept, hole_wants, not_made}
 use Rattle.b67_session.proofs.Runs.{ready_over, caused_none, caused_stop, caused_want, caused_later, keeps_then}
 use Rattle.b67_session.proofs.attempting.attempt_seen.Goals as goal

@@ -5,7 +5,7 @@ use Rattle.b67_task_tables.specs.declared.tables.Machine.{Machine}
 use Rattle.b67_task_tables.specs.declared.tables.Tasks.{Tasks}
 use Rattle.b67_mcp.specs.Running.{JobsHaveRoom}
 use Rattle.b67_session.specs.Attempts.{RunsOver, ForEachOver, AttemptRow, TablesStay}
-use Rattle.b67_session.specs.declared.outcomes.Attempt.TheVariants.{Made}
+use Rattle.b67_session.specs.declared.tries.Tried.TheVariants.{Made}
 use Rattle.b67_session.proofs.Composed.{made_once, may_call, still_holds, not_full_ok, keeps_areas}
 use Rattle.b67_session.proofs.DoneTries.{done_tries}
 use Rattle.b67_session.proofs.Runs.{ready_over, caused_none, keeps_then}

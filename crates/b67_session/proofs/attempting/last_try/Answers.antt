@@ -2,7 +2,7 @@ use Rattle.std.proofs.Common.{length}
 use Rattle.b67_word.specs.declared.faults.Fault.TheVariants.{InvalidOperator}
 use Rattle.b67_word.specs.declared.faults.Ending.TheVariants.{Faulted}
 use Rattle.b67_layout_storage.specs.Machine.{content_after}
-use Rattle.b67_session.specs.declared.outcomes.Attempt.TheVariants.{Made, Ends, Waits}
+use Rattle.b67_session.specs.declared.tries.Tried.TheVariants.{Made, Ends, Waits}
 use Rattle.b67_session.proofs.Composed.{made_once, ends_once, waits_once, stops_once, gives_up_once, never, tables_after_end, tables_after_wait, tables_after_want, tables_after_stop, room_after_stop, may_call, stop_calls, not_full_ok, not_full_once}
 use Rattle.b67_session.proofs.Runs.{ready_over, caused_none, caused_stop}
 use Rattle.b67_session.proofs.attempting.last_try.Goals as goal

@@ -4,7 +4,7 @@ use Rattle.b67_layout_storage.proofs.Devices.{still_tells, Served-then}
 use Rattle.b67_task_tables.specs.declared.tables.Machine.{Machine}
 use Rattle.b67_task_tables.specs.declared.tables.Tasks.{Tasks}
 use Rattle.b67_mcp.specs.Running.{JobsHaveRoom}
-use Rattle.b67_session.specs.declared.outcomes.Attempt.TheVariants.{Made, Ends, Waits}
+use Rattle.b67_session.specs.declared.tries.Tried.TheVariants.{Made, Ends, Waits}
 use Rattle.b67_session.specs.Attempts.{WantsNothing}
 use Rattle.b67_session.proofs.Composed.{made_once, ends_once, waits_once, stops_once, unchanged_over, goes_on_telling, stopped_attempt, runs_over, wants_some, tables_after_end, tables_after_wait, tables_after_want, tables_after_stop, tables_stay, tables_from, room_after_stop, attempt_as, same_needs, still_told, other, in_order, then_on, room_after_want, wants_nothing, never, may_call, stop_calls, not_full_ok, not_full_once, keeps_areas, not_made}
 use Rattle.b67_session.proofs.Runs.{ready_over, caused_none, caused_stop, caused_want, caused_later, keeps_then}

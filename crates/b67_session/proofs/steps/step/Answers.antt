@@ -3,14 +3,14 @@ use Rattle.b67_task_tables.specs.declared.tables.Machine.{Machine}
 use Rattle.b67_task_tables.specs.declared.tables.Tasks.{Tasks}
 use Rattle.b67_task_tables.specs.Runs.{Keeps}
 use Rattle.b67_session.specs.AttemptPassed.{JobsHaveRoom}
-use Rattle.b67_session.specs.declared.outcomes.Attempt.{Attempt}
-use Rattle.b67_session.specs.declared.outcomes.Attempt.TheVariants as attempts
+use Rattle.b67_session.specs.declared.tries.Tried.{Tried}
+use Rattle.b67_session.specs.declared.tries.Tried.TheVariants as tries
 use Rattle.b67_session.proofs.Runs.{caused_stop}
 use Rattle.b67_task_tables.proofs.Keeping.{keeps_then, halt_kept}
 use Rattle.b67_session.proofs.Caused.{step_causes, turn_keeps}
 use Rattle.b67_session.proofs.Rooms.{can_number}
 use Rattle.b67_session.proofs.Turned.{Tries, who, has_row, turned, runs_over}
-use Rattle.b67_session.proofs.TriedSteps.{tries_as, made_counts, made_between, made_row, made_present, close_counts, closed_between, closed_row, closed_present, cut_row, cut_present, ending_made, ending_so, ending_chose, ending_closes, waiting_made, waiting_so, waiting_some, waiting_closes, stop_row, stop_present, ending_leaves, waiting_leaves}
+use Rattle.b67_session.proofs.TriedSteps.{tries_as, made_counts, made_between, made_row, made_present, absent_never, close_counts, closed_between, closed_row, closed_present, cut_row, cut_present, ending_made, ending_so, ending_chose, ending_closes, waiting_made, waiting_so, waiting_some, waiting_closes, stop_row, stop_present, ending_leaves, waiting_leaves}
 use Rattle.b67_session.proofs.steps.step.Given.{Over}
 use Rattle.b67_session.proofs.steps.step.Goals.{After-attempt_told}
 use Rattle.b67_session.proofs.steps.step.Goals as goal
@@ -55,20 +55,20 @@ attempt_told-requires-clause-jobs g c =
 pub count_one-requires : goal.count_one-requires
 count_one-requires g c =
     let l = c.requires.due.lives.some in
-    made_counts (tries_as c.attempt_told.result (Ok attempts.Made) (c.in-Ok-Made.is ∙ ap (λ (z : Attempt). Ok z) c.in-Ok-Made.field-0-is) (context g (goal.at.count_one-requires g c).After-attempt_told)) l.said l.session l.says l.stands
+    made_counts (tries_as c.attempt_told.result (Ok tries.Made) (c.in-Ok-Made.is ∙ ap (λ (z : Tried). Ok z) c.in-Ok-Made.field-0-is) (context g (goal.at.count_one-requires g c).After-attempt_told)) l.said l.session l.says l.stands
 
 pub end_step-requires : goal.end_step-requires
 end_step-requires g c =
     let l = c.requires.due.lives.some in
-    made_between (tries_as c.attempt_told.result (Ok attempts.Made) (c.in-Ok-Made.is ∙ ap (λ (z : Attempt). Ok z) c.in-Ok-Made.field-0-is) (context g (goal.at.end_step-requires g c).After-attempt_told)) l.said l.session l.says l.stands c.count_one.new.tasks c.count_one.ensures
+    made_between (tries_as c.attempt_told.result (Ok tries.Made) (c.in-Ok-Made.is ∙ ap (λ (z : Tried). Ok z) c.in-Ok-Made.field-0-is) (context g (goal.at.end_step-requires g c).After-attempt_told)) l.said l.session l.says l.stands c.count_one.new.tasks c.count_one.ensures
 
 pub returns-in-Ok-Made-clause-row : goal.returns-in-Ok-Made-clause-row
 returns-in-Ok-Made-clause-row g c = λ said s says h.
-    made_row (tries_as c.attempt_told.result (Ok attempts.Made) (c.in-Ok-Made.is ∙ ap (λ (z : Attempt). Ok z) c.in-Ok-Made.field-0-is) (context g (goal.at.returns-in-Ok-Made-clause-row g c).After-attempt_told)) said s says h c.count_one.new.tasks c.count_one.ensures c.end_step.result c.end_step.new.machine c.end_step.new.paper c.end_step.ensures.finishes c.end_step.ensures.tasks
+    made_row (tries_as c.attempt_told.result (Ok tries.Made) (c.in-Ok-Made.is ∙ ap (λ (z : Tried). Ok z) c.in-Ok-Made.field-0-is) (context g (goal.at.returns-in-Ok-Made-clause-row g c).After-attempt_told)) said s says h c.count_one.new.tasks c.count_one.ensures c.end_step.result c.end_step.new.machine c.end_step.new.paper c.end_step.ensures.finishes c.end_step.ensures.tasks
 
 pub returns-in-Ok-Made-clause-present : goal.returns-in-Ok-Made-clause-present
 returns-in-Ok-Made-clause-present g c = λ said s m t says h next.
-    made_present (tries_as c.attempt_told.result (Ok attempts.Made) (c.in-Ok-Made.is ∙ ap (λ (z : Attempt). Ok z) c.in-Ok-Made.field-0-is) (context g (goal.at.returns-in-Ok-Made-clause-present g c).After-attempt_told)) said s says h c.count_one.new.tasks c.count_one.ensures c.end_step.result c.end_step.new.machine c.end_step.new.paper c.end_step.ensures.finishes m t next
+    made_present (tries_as c.attempt_told.result (Ok tries.Made) (c.in-Ok-Made.is ∙ ap (λ (z : Tried). Ok z) c.in-Ok-Made.field-0-is) (context g (goal.at.returns-in-Ok-Made-clause-present g c).After-attempt_told)) said s says h c.count_one.new.tasks c.count_one.ensures c.end_step.result c.end_step.new.machine c.end_step.new.paper c.end_step.ensures.finishes m t next
 
 pub returns-in-Ok-Made-clause-leaves : goal.returns-in-Ok-Made-clause-leaves
 returns-in-Ok-Made-clause-leaves g c = record {
@@ -82,29 +82,29 @@ returns-in-Ok-Made-clause-leaves g c = record {
 pub close-requires-clause-row : goal.close-requires-clause-row
 close-requires-clause-row g c =
     let l = c.requires.due.lives.some in
-    ending_chose c.in-Ok-Ends.ending (tries_as c.attempt_told.result (Ok (attempts.Ends c.in-Ok-Ends.ending)) (c.in-Ok-Ends.is ∙ ap (λ (z : Attempt). Ok z) c.in-Ok-Ends.field-0-is) (context g (goal.at.close-requires-clause-row g c).After-attempt_told)) l.said l.session l.says l.stands
+    ending_chose c.in-Ok-Ends.ending (tries_as c.attempt_told.result (Ok (tries.Ends c.in-Ok-Ends.ending)) (c.in-Ok-Ends.is ∙ ap (λ (z : Tried). Ok z) c.in-Ok-Ends.field-0-is) (context g (goal.at.close-requires-clause-row g c).After-attempt_told)) l.said l.session l.says l.stands
 
 pub close-requires-clause-room : goal.close-requires-clause-room
 close-requires-clause-room g c =
     let l = c.requires.due.lives.some in
-    let x = (tries_as c.attempt_told.result (Ok (attempts.Ends c.in-Ok-Ends.ending)) (c.in-Ok-Ends.is ∙ ap (λ (z : Attempt). Ok z) c.in-Ok-Ends.field-0-is) (context g (goal.at.close-requires-clause-room g c).After-attempt_told)) in
-    close_counts (attempts.Ends c.in-Ok-Ends.ending) x x.stay l.said l.session l.says l.stands (ending_made c.in-Ok-Ends.ending x l.said l.session l.says l.stands) (ending_so c.in-Ok-Ends.ending x l.said l.session l.says l.stands)
+    let x = (tries_as c.attempt_told.result (Ok (tries.Ends c.in-Ok-Ends.ending)) (c.in-Ok-Ends.is ∙ ap (λ (z : Tried). Ok z) c.in-Ok-Ends.field-0-is) (context g (goal.at.close-requires-clause-room g c).After-attempt_told)) in
+    close_counts (tries.Ends c.in-Ok-Ends.ending) x x.stay l.said l.session l.says l.stands (ending_made c.in-Ok-Ends.ending x l.said l.session l.says l.stands) (ending_so c.in-Ok-Ends.ending x l.said l.session l.says l.stands)
 
 pub end_step-requires-in-Ok : goal.end_step-requires-in-Ok
 end_step-requires-in-Ok g c =
     let l = c.requires.due.lives.some in
-    let x = (tries_as c.attempt_told.result (Ok (attempts.Ends c.in-Ok-Ends.ending)) (c.in-Ok-Ends.is ∙ ap (λ (z : Attempt). Ok z) c.in-Ok-Ends.field-0-is) (context g (goal.at.end_step-requires-in-Ok g c).After-attempt_told)) in
-    closed_between (attempts.Ends c.in-Ok-Ends.ending) x x.stay l.said l.session l.says l.stands (ending_made c.in-Ok-Ends.ending x l.said l.session l.says l.stands) (ending_so c.in-Ok-Ends.ending x l.said l.session l.says l.stands) c.close.new.machine c.close.new.paper (ending_closes c.in-Ok-Ends.ending x l.said l.session l.says l.stands (Ok tt) c.close.new.machine c.close.new.paper c.in-Ok.ensures.closes)
+    let x = (tries_as c.attempt_told.result (Ok (tries.Ends c.in-Ok-Ends.ending)) (c.in-Ok-Ends.is ∙ ap (λ (z : Tried). Ok z) c.in-Ok-Ends.field-0-is) (context g (goal.at.end_step-requires-in-Ok g c).After-attempt_told)) in
+    closed_between (tries.Ends c.in-Ok-Ends.ending) x x.stay l.said l.session l.says l.stands (ending_made c.in-Ok-Ends.ending x l.said l.session l.says l.stands) (ending_so c.in-Ok-Ends.ending x l.said l.session l.says l.stands) c.close.new.machine c.close.new.paper (ending_closes c.in-Ok-Ends.ending x l.said l.session l.says l.stands (Ok tt) c.close.new.machine c.close.new.paper c.in-Ok.ensures.closes)
 
 pub returns-in-Ok-clause-row : goal.returns-in-Ok-clause-row
 returns-in-Ok-clause-row g c = λ said s says h.
-    (let x = (tries_as c.attempt_told.result (Ok (attempts.Ends c.in-Ok-Ends.ending)) (c.in-Ok-Ends.is ∙ ap (λ (z : Attempt). Ok z) c.in-Ok-Ends.field-0-is) (context g (goal.at.returns-in-Ok-clause-row g c).After-attempt_told)) in
-    closed_row (attempts.Ends c.in-Ok-Ends.ending) x x.stay said s says h (ending_made c.in-Ok-Ends.ending x said s says h) (ending_so c.in-Ok-Ends.ending x said s says h) c.close.new.machine c.close.new.paper (ending_closes c.in-Ok-Ends.ending x said s says h (Ok tt) c.close.new.machine c.close.new.paper c.in-Ok.ensures.closes) c.end_step-in-Ok.result c.end_step-in-Ok.new.machine c.end_step-in-Ok.new.paper c.end_step-in-Ok.ensures.finishes c.end_step-in-Ok.ensures.tasks)
+    (let x = (tries_as c.attempt_told.result (Ok (tries.Ends c.in-Ok-Ends.ending)) (c.in-Ok-Ends.is ∙ ap (λ (z : Tried). Ok z) c.in-Ok-Ends.field-0-is) (context g (goal.at.returns-in-Ok-clause-row g c).After-attempt_told)) in
+    closed_row (tries.Ends c.in-Ok-Ends.ending) x x.stay said s says h (ending_made c.in-Ok-Ends.ending x said s says h) (ending_so c.in-Ok-Ends.ending x said s says h) c.close.new.machine c.close.new.paper (ending_closes c.in-Ok-Ends.ending x said s says h (Ok tt) c.close.new.machine c.close.new.paper c.in-Ok.ensures.closes) c.end_step-in-Ok.result c.end_step-in-Ok.new.machine c.end_step-in-Ok.new.paper c.end_step-in-Ok.ensures.finishes c.end_step-in-Ok.ensures.tasks)
 
 pub returns-in-Ok-clause-present : goal.returns-in-Ok-clause-present
 returns-in-Ok-clause-present g c = λ said s m t says h next.
-    (let x = (tries_as c.attempt_told.result (Ok (attempts.Ends c.in-Ok-Ends.ending)) (c.in-Ok-Ends.is ∙ ap (λ (z : Attempt). Ok z) c.in-Ok-Ends.field-0-is) (context g (goal.at.returns-in-Ok-clause-present g c).After-attempt_told)) in
-    closed_present (attempts.Ends c.in-Ok-Ends.ending) x x.stay said s says h (ending_made c.in-Ok-Ends.ending x said s says h) (ending_so c.in-Ok-Ends.ending x said s says h) c.close.new.machine c.close.new.paper (ending_closes c.in-Ok-Ends.ending x said s says h (Ok tt) c.close.new.machine c.close.new.paper c.in-Ok.ensures.closes) c.end_step-in-Ok.result c.end_step-in-Ok.new.machine c.end_step-in-Ok.new.paper c.end_step-in-Ok.ensures.finishes (λ e. let b : ⊥ = cc in b)
+    (let x = (tries_as c.attempt_told.result (Ok (tries.Ends c.in-Ok-Ends.ending)) (c.in-Ok-Ends.is ∙ ap (λ (z : Tried). Ok z) c.in-Ok-Ends.field-0-is) (context g (goal.at.returns-in-Ok-clause-present g c).After-attempt_told)) in
+    closed_present (tries.Ends c.in-Ok-Ends.ending) x x.stay said s says h (ending_made c.in-Ok-Ends.ending x said s says h) (ending_so c.in-Ok-Ends.ending x said s says h) c.close.new.machine c.close.new.paper (ending_closes c.in-Ok-Ends.ending x said s says h (Ok tt) c.close.new.machine c.close.new.paper c.in-Ok.ensures.closes) c.end_step-in-Ok.result c.end_step-in-Ok.new.machine c.end_step-in-Ok.new.paper c.end_step-in-Ok.ensures.finishes (λ e. let b : ⊥ = cc in b)
     (λ wants. ending_leaves c.in-Ok-Ends.ending x said s says h wants c.close.new.machine c.close.new.paper c.in-Ok.ensures.closes c.end_step-in-Ok.result c.end_step-in-Ok.new.machine c.end_step-in-Ok.new.paper c.end_step-in-Ok.ensures.finishes) m t next)
 
 pub returns-in-Ok-clause-leaves : goal.returns-in-Ok-clause-leaves
@@ -118,13 +118,13 @@ returns-in-Ok-clause-leaves g c = record {
 
 pub returns-in-Err-close-clause-row : goal.returns-in-Err-close-clause-row
 returns-in-Err-close-clause-row g c = λ said s says h.
-    (let x = (tries_as c.attempt_told.result (Ok (attempts.Ends c.in-Ok-Ends.ending)) (c.in-Ok-Ends.is ∙ ap (λ (z : Attempt). Ok z) c.in-Ok-Ends.field-0-is) (context g (goal.at.returns-in-Err-close-clause-row g c).After-attempt_told)) in
-    cut_row (attempts.Ends c.in-Ok-Ends.ending) x x.stay said s says h (ending_made c.in-Ok-Ends.ending x said s says h) (ending_so c.in-Ok-Ends.ending x said s says h) c.in-Err-close._failed c.close.new.machine c.close.new.paper c.requires.due.before_halt (halted g (goal.at.returns-in-Err-close-clause-row g c).After-attempt_told) (ending_closes c.in-Ok-Ends.ending x said s says h (Err c.in-Err-close._failed) c.close.new.machine c.close.new.paper c.in-Err-close.ensures.closes))
+    (let x = (tries_as c.attempt_told.result (Ok (tries.Ends c.in-Ok-Ends.ending)) (c.in-Ok-Ends.is ∙ ap (λ (z : Tried). Ok z) c.in-Ok-Ends.field-0-is) (context g (goal.at.returns-in-Err-close-clause-row g c).After-attempt_told)) in
+    cut_row (tries.Ends c.in-Ok-Ends.ending) x x.stay said s says h (ending_made c.in-Ok-Ends.ending x said s says h) (ending_so c.in-Ok-Ends.ending x said s says h) c.in-Err-close._failed c.close.new.machine c.close.new.paper c.requires.due.before_halt (halted g (goal.at.returns-in-Err-close-clause-row g c).After-attempt_told) (ending_closes c.in-Ok-Ends.ending x said s says h (Err c.in-Err-close._failed) c.close.new.machine c.close.new.paper c.in-Err-close.ensures.closes))
 
 pub returns-in-Err-close-clause-present : goal.returns-in-Err-close-clause-present
 returns-in-Err-close-clause-present g c = λ said s m t says h next.
-    (let x = (tries_as c.attempt_told.result (Ok (attempts.Ends c.in-Ok-Ends.ending)) (c.in-Ok-Ends.is ∙ ap (λ (z : Attempt). Ok z) c.in-Ok-Ends.field-0-is) (context g (goal.at.returns-in-Err-close-clause-present g c).After-attempt_told)) in
-    cut_present (attempts.Ends c.in-Ok-Ends.ending) x x.stay said s says h (ending_made c.in-Ok-Ends.ending x said s says h) (ending_so c.in-Ok-Ends.ending x said s says h) c.in-Err-close._failed c.close.new.machine c.close.new.paper (λ e. let b : ⊥ = cc in b)
+    (let x = (tries_as c.attempt_told.result (Ok (tries.Ends c.in-Ok-Ends.ending)) (c.in-Ok-Ends.is ∙ ap (λ (z : Tried). Ok z) c.in-Ok-Ends.field-0-is) (context g (goal.at.returns-in-Err-close-clause-present g c).After-attempt_told)) in
+    cut_present (tries.Ends c.in-Ok-Ends.ending) x x.stay said s says h (ending_made c.in-Ok-Ends.ending x said s says h) (ending_so c.in-Ok-Ends.ending x said s says h) c.in-Err-close._failed c.close.new.machine c.close.new.paper (λ e. let b : ⊥ = cc in b)
     (ap (λ (k : Machine). k.tasks.made) (ending_closes c.in-Ok-Ends.ending x said s says h (Err c.in-Err-close._failed) c.close.new.machine c.close.new.paper c.in-Err-close.ensures.closes).1) m t next)
 
 pub returns-in-Err-close-clause-leaves : goal.returns-in-Err-close-clause-leaves
@@ -139,29 +139,29 @@ returns-in-Err-close-clause-leaves g c = record {
 pub make_wait-requires-clause-row : goal.make_wait-requires-clause-row
 make_wait-requires-clause-row g c =
     let l = c.requires.due.lives.some in
-    waiting_some c.in-Ok-Waits.state (tries_as c.attempt_told.result (Ok (attempts.Waits c.in-Ok-Waits.state)) (c.in-Ok-Waits.is ∙ ap (λ (z : Attempt). Ok z) c.in-Ok-Waits.field-0-is) (context g (goal.at.make_wait-requires-clause-row g c).After-attempt_told)) l.said l.session l.says l.stands
+    waiting_some c.in-Ok-Waits.state (tries_as c.attempt_told.result (Ok (tries.Waits c.in-Ok-Waits.state)) (c.in-Ok-Waits.is ∙ ap (λ (z : Tried). Ok z) c.in-Ok-Waits.field-0-is) (context g (goal.at.make_wait-requires-clause-row g c).After-attempt_told)) l.said l.session l.says l.stands
 
 pub make_wait-requires-clause-room : goal.make_wait-requires-clause-room
 make_wait-requires-clause-room g c =
     let l = c.requires.due.lives.some in
-    let x = (tries_as c.attempt_told.result (Ok (attempts.Waits c.in-Ok-Waits.state)) (c.in-Ok-Waits.is ∙ ap (λ (z : Attempt). Ok z) c.in-Ok-Waits.field-0-is) (context g (goal.at.make_wait-requires-clause-room g c).After-attempt_told)) in
-    close_counts (attempts.Waits c.in-Ok-Waits.state) x x.stay l.said l.session l.says l.stands (waiting_made c.in-Ok-Waits.state x l.said l.session l.says l.stands) (waiting_so c.in-Ok-Waits.state x l.said l.session l.says l.stands)
+    let x = (tries_as c.attempt_told.result (Ok (tries.Waits c.in-Ok-Waits.state)) (c.in-Ok-Waits.is ∙ ap (λ (z : Tried). Ok z) c.in-Ok-Waits.field-0-is) (context g (goal.at.make_wait-requires-clause-room g c).After-attempt_told)) in
+    close_counts (tries.Waits c.in-Ok-Waits.state) x x.stay l.said l.session l.says l.stands (waiting_made c.in-Ok-Waits.state x l.said l.session l.says l.stands) (waiting_so c.in-Ok-Waits.state x l.said l.session l.says l.stands)
 
 pub end_step-requires-in-Ok-make_wait : goal.end_step-requires-in-Ok-make_wait
 end_step-requires-in-Ok-make_wait g c =
     let l = c.requires.due.lives.some in
-    let x = (tries_as c.attempt_told.result (Ok (attempts.Waits c.in-Ok-Waits.state)) (c.in-Ok-Waits.is ∙ ap (λ (z : Attempt). Ok z) c.in-Ok-Waits.field-0-is) (context g (goal.at.end_step-requires-in-Ok-make_wait g c).After-attempt_told)) in
-    closed_between (attempts.Waits c.in-Ok-Waits.state) x x.stay l.said l.session l.says l.stands (waiting_made c.in-Ok-Waits.state x l.said l.session l.says l.stands) (waiting_so c.in-Ok-Waits.state x l.said l.session l.says l.stands) c.make_wait.new.machine c.make_wait.new.paper (waiting_closes c.in-Ok-Waits.state x l.said l.session l.says l.stands (Ok tt) c.make_wait.new.machine c.make_wait.new.paper c.in-Ok-make_wait.ensures.holds)
+    let x = (tries_as c.attempt_told.result (Ok (tries.Waits c.in-Ok-Waits.state)) (c.in-Ok-Waits.is ∙ ap (λ (z : Tried). Ok z) c.in-Ok-Waits.field-0-is) (context g (goal.at.end_step-requires-in-Ok-make_wait g c).After-attempt_told)) in
+    closed_between (tries.Waits c.in-Ok-Waits.state) x x.stay l.said l.session l.says l.stands (waiting_made c.in-Ok-Waits.state x l.said l.session l.says l.stands) (waiting_so c.in-Ok-Waits.state x l.said l.session l.says l.stands) c.make_wait.new.machine c.make_wait.new.paper (waiting_closes c.in-Ok-Waits.state x l.said l.session l.says l.stands (Ok tt) c.make_wait.new.machine c.make_wait.new.paper c.in-Ok-make_wait.ensures.holds)
 
 pub returns-in-Ok-make_wait-clause-row : goal.returns-in-Ok-make_wait-clause-row
 returns-in-Ok-make_wait-clause-row g c = λ said s says h.
-    (let x = (tries_as c.attempt_told.result (Ok (attempts.Waits c.in-Ok-Waits.state)) (c.in-Ok-Waits.is ∙ ap (λ (z : Attempt). Ok z) c.in-Ok-Waits.field-0-is) (context g (goal.at.returns-in-Ok-make_wait-clause-row g c).After-attempt_told)) in
-    closed_row (attempts.Waits c.in-Ok-Waits.state) x x.stay said s says h (waiting_made c.in-Ok-Waits.state x said s says h) (waiting_so c.in-Ok-Waits.state x said s says h) c.make_wait.new.machine c.make_wait.new.paper (waiting_closes c.in-Ok-Waits.state x said s says h (Ok tt) c.make_wait.new.machine c.make_wait.new.paper c.in-Ok-make_wait.ensures.holds) c.end_step-in-Ok-make_wait.result c.end_step-in-Ok-make_wait.new.machine c.end_step-in-Ok-make_wait.new.paper c.end_step-in-Ok-make_wait.ensures.finishes c.end_step-in-Ok-make_wait.ensures.tasks)
+    (let x = (tries_as c.attempt_told.result (Ok (tries.Waits c.in-Ok-Waits.state)) (c.in-Ok-Waits.is ∙ ap (λ (z : Tried). Ok z) c.in-Ok-Waits.field-0-is) (context g (goal.at.returns-in-Ok-make_wait-clause-row g c).After-attempt_told)) in
+    closed_row (tries.Waits c.in-Ok-Waits.state) x x.stay said s says h (waiting_made c.in-Ok-Waits.state x said s says h) (waiting_so c.in-Ok-Waits.state x said s says h) c.make_wait.new.machine c.make_wait.new.paper (waiting_closes c.in-Ok-Waits.state x said s says h (Ok tt) c.make_wait.new.machine c.make_wait.new.paper c.in-Ok-make_wait.ensures.holds) c.end_step-in-Ok-make_wait.result c.end_step-in-Ok-make_wait.new.machine c.end_step-in-Ok-make_wait.new.paper c.end_step-in-Ok-make_wait.ensures.finishes c.end_step-in-Ok-make_wait.ensures.tasks)
 
 pub returns-in-Ok-make_wait-clause-present : goal.returns-in-Ok-make_wait-clause-present
 returns-in-Ok-make_wait-clause-present g c = λ said s m t says h next.
-    (let x = (tries_as c.attempt_told.result (Ok (attempts.Waits c.in-Ok-Waits.state)) (c.in-Ok-Waits.is ∙ ap (λ (z : Attempt). Ok z) c.in-Ok-Waits.field-0-is) (context g (goal.at.returns-in-Ok-make_wait-clause-present g c).After-attempt_told)) in
-    closed_present (attempts.Waits c.in-Ok-Waits.state) x x.stay said s says h (waiting_made c.in-Ok-Waits.state x said s says h) (waiting_so c.in-Ok-Waits.state x said s says h) c.make_wait.new.machine c.make_wait.new.paper (waiting_closes c.in-Ok-Waits.state x said s says h (Ok tt) c.make_wait.new.machine c.make_wait.new.paper c.in-Ok-make_wait.ensures.holds) c.end_step-in-Ok-make_wait.result c.end_step-in-Ok-make_wait.new.machine c.end_step-in-Ok-make_wait.new.paper c.end_step-in-Ok-make_wait.ensures.finishes (λ e. let b : ⊥ = cc in b)
+    (let x = (tries_as c.attempt_told.result (Ok (tries.Waits c.in-Ok-Waits.state)) (c.in-Ok-Waits.is ∙ ap (λ (z : Tried). Ok z) c.in-Ok-Waits.field-0-is) (context g (goal.at.returns-in-Ok-make_wait-clause-present g c).After-attempt_told)) in
+    closed_present (tries.Waits c.in-Ok-Waits.state) x x.stay said s says h (waiting_made c.in-Ok-Waits.state x said s says h) (waiting_so c.in-Ok-Waits.state x said s says h) c.make_wait.new.machine c.make_wait.new.paper (waiting_closes c.in-Ok-Waits.state x said s says h (Ok tt) c.make_wait.new.machine c.make_wait.new.paper c.in-Ok-make_wait.ensures.holds) c.end_step-in-Ok-make_wait.result c.end_step-in-Ok-make_wait.new.machine c.end_step-in-Ok-make_wait.new.paper c.end_step-in-Ok-make_wait.ensures.finishes (λ e. let b : ⊥ = cc in b)
     (λ wants. waiting_leaves c.in-Ok-Waits.state x said s says h wants c.make_wait.new.machine c.make_wait.new.paper c.in-Ok-make_wait.ensures.holds c.end_step-in-Ok-make_wait.result c.end_step-in-Ok-make_wait.new.machine c.end_step-in-Ok-make_wait.new.paper c.end_step-in-Ok-make_wait.ensures.finishes) m t next)
 
 pub returns-in-Ok-make_wait-clause-leaves : goal.returns-in-Ok-make_wait-clause-leaves
@@ -175,13 +175,13 @@ returns-in-Ok-make_wait-clause-leaves g c = record {
 
 pub returns-in-Err-make_wait-clause-row : goal.returns-in-Err-make_wait-clause-row
 returns-in-Err-make_wait-clause-row g c = λ said s says h.
-    (let x = (tries_as c.attempt_told.result (Ok (attempts.Waits c.in-Ok-Waits.state)) (c.in-Ok-Waits.is ∙ ap (λ (z : Attempt). Ok z) c.in-Ok-Waits.field-0-is) (context g (goal.at.returns-in-Err-make_wait-clause-row g c).After-attempt_told)) in
-    cut_row (attempts.Waits c.in-Ok-Waits.state) x x.stay said s says h (waiting_made c.in-Ok-Waits.state x said s says h) (waiting_so c.in-Ok-Waits.state x said s says h) c.in-Err-make_wait._failed c.make_wait.new.machine c.make_wait.new.paper c.requires.due.before_halt (halted g (goal.at.returns-in-Err-make_wait-clause-row g c).After-attempt_told) (waiting_closes c.in-Ok-Waits.state x said s says h (Err c.in-Err-make_wait._failed) c.make_wait.new.machine c.make_wait.new.paper c.in-Err-make_wait.ensures.holds))
+    (let x = (tries_as c.attempt_told.result (Ok (tries.Waits c.in-Ok-Waits.state)) (c.in-Ok-Waits.is ∙ ap (λ (z : Tried). Ok z) c.in-Ok-Waits.field-0-is) (context g (goal.at.returns-in-Err-make_wait-clause-row g c).After-attempt_told)) in
+    cut_row (tries.Waits c.in-Ok-Waits.state) x x.stay said s says h (waiting_made c.in-Ok-Waits.state x said s says h) (waiting_so c.in-Ok-Waits.state x said s says h) c.in-Err-make_wait._failed c.make_wait.new.machine c.make_wait.new.paper c.requires.due.before_halt (halted g (goal.at.returns-in-Err-make_wait-clause-row g c).After-attempt_told) (waiting_closes c.in-Ok-Waits.state x said s says h (Err c.in-Err-make_wait._failed) c.make_wait.new.machine c.make_wait.new.paper c.in-Err-make_wait.ensures.holds))
 
 pub returns-in-Err-make_wait-clause-present : goal.returns-in-Err-make_wait-clause-present
 returns-in-Err-make_wait-clause-present g c = λ said s m t says h next.
-    (let x = (tries_as c.attempt_told.result (Ok (attempts.Waits c.in-Ok-Waits.state)) (c.in-Ok-Waits.is ∙ ap (λ (z : Attempt). Ok z) c.in-Ok-Waits.field-0-is) (context g (goal.at.returns-in-Err-make_wait-clause-present g c).After-attempt_told)) in
-    cut_present (attempts.Waits c.in-Ok-Waits.state) x x.stay said s says h (waiting_made c.in-Ok-Waits.state x said s says h) (waiting_so c.in-Ok-Waits.state x said s says h) c.in-Err-make_wait._failed c.make_wait.new.machine c.make_wait.new.paper (λ e. let b : ⊥ = cc in b)
+    (let x = (tries_as c.attempt_told.result (Ok (tries.Waits c.in-Ok-Waits.state)) (c.in-Ok-Waits.is ∙ ap (λ (z : Tried). Ok z) c.in-Ok-Waits.field-0-is) (context g (goal.at.returns-in-Err-make_wait-clause-present g c).After-attempt_told)) in
+    cut_present (tries.Waits c.in-Ok-Waits.state) x x.stay said s says h (waiting_made c.in-Ok-Waits.state x said s says h) (waiting_so c.in-Ok-Waits.state x said s says h) c.in-Err-make_wait._failed c.make_wait.new.machine c.make_wait.new.paper (λ e. let b : ⊥ = cc in b)
     (ap (λ (k : Machine). k.tasks.made) (waiting_closes c.in-Ok-Waits.state x said s says h (Err c.in-Err-make_wait._failed) c.make_wait.new.machine c.make_wait.new.paper c.in-Err-make_wait.ensures.holds).1) m t next)
 
 pub returns-in-Err-make_wait-clause-leaves : goal.returns-in-Err-make_wait-clause-leaves
@@ -192,6 +192,11 @@ returns-in-Err-make_wait-clause-leaves g c = record {
       keeps_then c.args.machine.now c.attempt_told.new.machine c.make_wait.new.machine (kept g a) c.make_wait.ensures.keeps;
   served = c.attempt_told.ensures.leaves.served;
 }
+
+pub unreachable-requires-in-Ok-Absent : goal.unreachable-requires-in-Ok-Absent
+unreachable-requires-in-Ok-Absent g c =
+    let l = c.requires.due.lives.some in
+    absent_never c.in-Ok-Absent.field-0-0 (tries_as c.attempt_told.result (Ok (tries.Absent c.in-Ok-Absent.field-0-0)) (c.in-Ok-Absent.is ∙ ap (λ (z : Tried). Ok z) c.in-Ok-Absent.field-0-is) (context g (goal.at.unreachable-requires-in-Ok-Absent g c).After-attempt_told)) l.said l.session l.says l.stands
 
 pub returns-in-Err-clause-row : goal.returns-in-Err-clause-row
 returns-in-Err-clause-row g c = λ said s says h.
