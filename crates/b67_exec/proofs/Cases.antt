@@ -1,6 +1,5 @@
 -- Which of the two top cells is the value, where a store leads to a procedure.
 use Rattle.std.proofs.Common.{◌≡◌, ◌≢◌, ℕ, ◌+◌, ◌-◌, ◌≤◌, List, [], ◌∷◌, Ok, Err, refl, sym, ◌∙◌, ap, Bool, true, subst, arith}
-use Rattle.std.specs.Prelude.{if◌then◌else◌}
 use Rattle.b67_word.specs.Tagged.{Tagged}
 use Rattle.b67_word.specs.declared.couples.Place.{Place}
 use Rattle.b67_word.specs.declared.faults.Fault.{Fault}

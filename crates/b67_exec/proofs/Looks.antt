@@ -1,5 +1,5 @@
 -- What a task with other cells on top sees: the same frames at the same places, and cells further down.
-use Rattle.std.proofs.Common.{◌≡◌, ◌≢◌, ℕ, zero, suc, ◌-◌, List, [], ◌∷◌, ◌++◌, map, flat_map, reverse, Option, Some, Ok, refl, sym, ◌∙◌, ap, true, false, ◌==◌, ◌⊎◌, ⊎_elim, subst, append_assoc, unwrap_or, arith}
+use Rattle.std.proofs.Common.{◌≡◌, ◌≢◌, ℕ, zero, suc, List, [], ◌∷◌, ◌++◌, map, flat_map, reverse, Option, Some, Ok, refl, sym, ◌∙◌, ap, true, false, ◌==◌, ◌⊎◌, ⊎_elim, subst, append_assoc, unwrap_or, arith}
 use Rattle.std.specs.List.{slice_get}
 use Rattle.std.specs.Option.{ok_or}
 use Rattle.std.proofs.lemmas.Bool.{cases_Bool}

@@ -1,5 +1,5 @@
 -- A far operator that was read and made behind a call, and where the reader then stands.
-use Rattle.std.proofs.Common.{◌≡◌, ◌+◌, ◌/◌, ◌^◌, ◌<◌, Bool, true, false, Some, Ok, refl, sym, ◌∙◌, ap, subst, arith}
+use Rattle.std.proofs.Common.{◌≡◌, ◌+◌, ◌%◌, ◌^◌, ◌<◌, Bool, true, false, Some, Ok, refl, sym, ◌∙◌, ap, subst, arith}
 use Rattle.b67_word.specs.declared.couples.Place.{Place}
 use Rattle.b67_ctl.specs.Layout.{IsPlace}
 use Rattle.b67_model.specs.declared.operators.Op.{Op}
@@ -90,7 +90,7 @@ leaving_refused op old new made why is m = grind arith
 pub top_fits : (old : Cpu) → RunsSome old → old.regs.s + 1 < 2 ^ 20
 top_fits old r = let g = room r.storage old r.plan r.session r.member r.task r.ordered r.stands r.running in omega (arith, g.last, g.under, g.inside, g.bound)
 
-pub left_made : (old new : Cpu) (before : Reader) (code : Code) (made : Made) → ReaderBehind old before 0 → form_of (before.bits / 2 ^ 56) ≡ Some (Alone code) → is_leaving (Plain code) ≡ true → (why : Step) → LeavesBy (Plain code) old made new why → Makes old before made new before why
+pub left_made : (old new : Cpu) (before : Reader) (code : Code) (made : Made) → ReaderBehind old before 0 → form_of (before.bits % 2 ^ 8) ≡ Some (Alone code) → is_leaving (Plain code) ≡ true → (why : Step) → LeavesBy (Plain code) old made new why → Makes old before made new before why
 left_made old new before code (outcome.Left upto) b begins leaving why m =
     let read = lone_to old before b code begins in
     record {

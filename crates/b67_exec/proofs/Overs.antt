@@ -1,5 +1,5 @@
 -- The entry where the value stands over the reference, by what was read.
-use Rattle.std.proofs.Common.{◌≡◌, ◌≢◌, ℕ, ◌-◌, ◌<◌, ◌≤◌, List, [], ◌∷◌, ◌++◌, map, length, Err, refl, sym, ◌∙◌, ap, arith, Bool, false, subst, slice_set}
+use Rattle.std.proofs.Common.{◌≡◌, ◌≢◌, ℕ, ◌-◌, ◌<◌, ◌≤◌, List, ◌∷◌, ◌++◌, map, length, Err, refl, sym, ◌∙◌, ap, arith, Bool, false, subst, slice_set}
 use Rattle.std.specs.List.{slice_get}
 use Rattle.b67_core.proofs.Writes.{slice_get-set_other}
 use Rattle.b67_word.specs.Tagged.{Tagged}

@@ -1,6 +1,9 @@
 -- Code that is read syllable after syllable.
-use Rattle.std.proofs.Common.{◌≡◌, ℕ, ◌+◌, ◌-◌, ◌*◌, ◌/◌, ◌%◌, ◌^◌, ◌<◌, ◌≤◌, List, get_or, length, Some, None, ◌∙◌, ap, arith}
+use Rattle.std.proofs.Common.{◌≡◌, ℕ, ◌+◌, ◌-◌, ◌*◌, ◌/◌, ◌%◌, ◌^◌, ◌<◌, ◌≤◌, List, get_or, length, Some, None, refl, sym, ◌∙◌, ap, arith}
 use Rattle.std.specs.Prelude.{slice_index}
+use Rattle.std.specs.Int.{w64, rotate_left}
+use Rattle.std.specs.Int.Bits.{bit_or}
+use Rattle.std.proofs.lemmas.Grind.{low_zeros, or_after_shift}
 use Rattle.std.specs.List.{slice_range}
 use Rattle.b67_word.specs.Tagged.{Tagged, contents}
 use Rattle.b67_word.specs.declared.couples.Place.{Place}
@@ -13,25 +16,46 @@ use Rattle.std.proofs.lemmas.List.{get_or-map, length-map}
 use Rattle.b67_exec_cells.specs.Running.{GivesSegment}
 use Rattle.b67_exec_cells.proofs.Codes.{present, desc-inside, code-read}
 use Rattle.b67_exec.specs.declared.reader.Reader.{Reader}
-use Rattle.b67_exec.specs.Near.{ReaderAt}
+use Rattle.b67_exec.specs.Near.{syllables_of, ReaderAt}
 
 -- below six
 by_six : (P : ℕ → Type 0) → P 0 → P 1 → P 2 → P 3 → P 4 → P 5 → (n : ℕ) → n < 6 → P n
 by_six P a b c d e f n low = grind arith
 
--- the first of the syllables from syllable k on, by the word
-pub top_is : (w k : ℕ) → k < 6 → (w % 2 ^ (48 - 8 * k) * 2 ^ (16 + 8 * k)) / 2 ^ 56 ≡ w / 256 ^ (5 - k) % 256
-top_is w k low = by_six (λ l. (w % 2 ^ (48 - 8 * l) * 2 ^ (16 + 8 * l)) / 2 ^ 56 ≡ w / 256 ^ (5 - l) % 256) (omega arith) (omega arith) (omega arith) (omega arith) (omega arith) (omega arith) k low
+-- what is turned goes in above what is left
+turns : (n by : ℕ) → 2 ^ by ≡ 2 ^ low_zeros 128 (2 ^ by) → n * 2 ^ by % 2 ^ 64 ≡ n % 2 ^ (64 - by) * 2 ^ by % 2 ^ 64 → n / 2 ^ (64 - by) < 2 ^ by → n % 2 ^ (64 - by) * 2 ^ by < 2 ^ 64
+    → bit_or (n * 2 ^ by % 2 ^ 64) (n / 2 ^ (64 - by)) ≡ n % 2 ^ (64 - by) * 2 ^ by + n / 2 ^ (64 - by)
+turns n by power same low high = ap (λ z. bit_or z (n / 2 ^ (64 - by))) same ∙ or_after_shift (n % 2 ^ (64 - by)) (2 ^ by) (2 ^ 64) (n / 2 ^ (64 - by)) power low high
+
+-- a word's syllables
+turned : (w k : ℕ) → k < 6 → (let n = w * 2 ^ 16 % 2 ^ 64 in syllables_of w k ≡ n % 2 ^ (56 - 8 * k) * 2 ^ (8 + 8 * k) + n / 2 ^ (56 - 8 * k))
+unfolding syllables_of
+turned w k low =
+    let n = w * 2 ^ 16 % 2 ^ 64 in
+    by_six (λ l. rotate_left w64 n (8 + 8 * l) ≡ n % 2 ^ (56 - 8 * l) * 2 ^ (8 + 8 * l) + n / 2 ^ (56 - 8 * l))
+    (turns n 8 refl (omega arith) (omega arith) (omega arith)) (turns n 16 refl (omega arith) (omega arith) (omega arith)) (turns n 24 refl (omega arith) (omega arith) (omega arith))
+    (turns n 32 refl (omega arith) (omega arith) (omega arith)) (turns n 40 refl (omega arith) (omega arith) (omega arith)) (turns n 48 refl (omega arith) (omega arith) (omega arith)) k low
+
+-- the first one, by the word
+pub top_is : (w k : ℕ) → k < 6 → syllables_of w k % 2 ^ 8 ≡ w / 256 ^ (5 - k) % 256
+top_is w k low =
+    let P : ℕ → Type 0 = λ l. syllables_of w l ≡ (let n = w * 2 ^ 16 % 2 ^ 64 in n % 2 ^ (56 - 8 * l) * 2 ^ (8 + 8 * l) + n / 2 ^ (56 - 8 * l)) → syllables_of w l % 2 ^ 8 ≡ w / 256 ^ (5 - l) % 256 in
+    by_six P (λ e. omega (arith, e)) (λ e. omega (arith, e)) (λ e. omega (arith, e)) (λ e. omega (arith, e)) (λ e. omega (arith, e)) (λ e. omega (arith, e)) k low (turned w k low)
 
 -- those from the next one on
-pub shifted_is : (w k : ℕ) → k < 5 → (w % 2 ^ (48 - 8 * k) * 2 ^ (16 + 8 * k)) * 2 ^ 8 % 2 ^ 64 ≡ w % 2 ^ (48 - 8 * (k + 1)) * 2 ^ (16 + 8 * (k + 1))
-shifted_is w k low =
-    let P : ℕ → Type 0 = λ l. l < 5 → (w % 2 ^ (48 - 8 * l) * 2 ^ (16 + 8 * l)) * 2 ^ 8 % 2 ^ 64 ≡ w % 2 ^ (48 - 8 * (l + 1)) * 2 ^ (16 + 8 * (l + 1)) in
-    by_six P (λ z. omega arith) (λ z. omega arith) (λ z. omega arith) (λ z. omega arith) (λ z. omega arith) (λ z. absurd (omega (arith, z))) k (omega (arith, low)) low
+turned_on : (n : ℕ) → n < 2 ^ 64 → rotate_left w64 n 8 ≡ n % 2 ^ 56 * 2 ^ 8 + n / 2 ^ 56
+turned_on n small = turns n 8 refl (omega arith) (omega (arith, small)) (omega arith)
 
--- those from a syllable on, of a whole word
-pub from_is : (w k : ℕ) → k < 6 → w < 2 ^ 48 → w * 2 ^ 16 * 2 ^ (8 * k) % 2 ^ 64 ≡ w % 2 ^ (48 - 8 * k) * 2 ^ (16 + 8 * k)
-from_is w k low small = by_six (λ l. w * 2 ^ 16 * 2 ^ (8 * l) % 2 ^ 64 ≡ w % 2 ^ (48 - 8 * l) * 2 ^ (16 + 8 * l)) (omega (arith, small)) (omega (arith, small)) (omega (arith, small)) (omega (arith, small)) (omega (arith, small)) (omega (arith, small)) k low
+pub shifted_is : (w k : ℕ) → k < 5 → rotate_left w64 (syllables_of w k) 8 ≡ syllables_of w (k + 1)
+shifted_is w k low =
+    let n = w * 2 ^ 16 % 2 ^ 64 in
+    let T : ℕ → ℕ = λ l. n % 2 ^ (56 - 8 * l) * 2 ^ (8 + 8 * l) + n / 2 ^ (56 - 8 * l) in
+    let P : ℕ → Type 0 = λ l. l < 5 → T l % 2 ^ 56 * 2 ^ 8 + T l / 2 ^ 56 ≡ T (l + 1) in
+    let Q : ℕ → Type 0 = λ l. T l < 2 ^ 64 in
+    let small : T k < 2 ^ 64 = by_six Q (omega arith) (omega arith) (omega arith) (omega arith) (omega arith) (omega arith) k (omega (arith, low)) in
+    ap (λ z. rotate_left w64 z 8) (turned w k (omega (arith, low))) ∙ turned_on (T k) small
+    ∙ by_six P (λ z. omega arith) (λ z. omega arith) (λ z. omega arith) (λ z. omega arith) (λ z. omega arith) (λ z. absurd (omega (arith, z))) k (omega (arith, low)) low
+    ∙ sym (turned w (k + 1) (omega (arith, low)))
 
 module _ (x : Storage) (cpu : Cpu) (plan : Placement) (s : Session) (m : SessionJob) (t : Task) (ordered : IsInOrderButCounts s) (h : RepresentsSession x cpu plan s) (runs : IsRunning plan s.jobs m t)
     (desc : SegDesc) (given : GivesSegment x plan m t (Some desc)) where
@@ -56,25 +80,26 @@ module _ (x : Storage) (cpu : Cpu) (plan : Placement) (s : Session) (m : Session
       omega (arith, words-are, ap length c, length-map words (λ (v : Tagged). v.bits))
 
 -- the next syllable of the word
-pub stepped : (r : Reader) (code : List ℕ) (k : ℕ) → ReaderAt r code k → r.word < length code → r.syllable < 5 → (more : ℕ) → more ≡ k + 1 → ReaderAt (record r { syllable = r.syllable + 1; bits = r.bits * 2 ^ 8 % 2 ^ 64 }) code more
-stepped r code k a inside some more is = grind (arith, shifted_is)
+pub stepped : (r : Reader) (code : List ℕ) (k : ℕ) → ReaderAt r code k → r.word < length code → r.syllable < 5 → (bits : ℕ) → bits ≡ rotate_left w64 r.bits 8 → (more : ℕ) → more ≡ k + 1
+    → ReaderAt (record r { syllable = r.syllable + 1; bits = bits }) code more
+stepped r code k a inside some bits is more more_is = grind (arith, shifted_is)
 
 -- the first one of the next word
-pub crossed : (r : Reader) (code : List ℕ) (k : ℕ) → ReaderAt r code k → 5 ≤ r.syllable → r.word + 1 < length code → (bits : ℕ) → bits ≡ slice_index code (r.word + 1) * 2 ^ 16 → bits < 2 ^ 64 → (more : ℕ) → more ≡ k + 1
+pub crossed : (r : Reader) (code : List ℕ) (k : ℕ) → ReaderAt r code k → 5 ≤ r.syllable → r.word + 1 < length code → (bits : ℕ) → bits ≡ syllables_of (slice_index code (r.word + 1)) 0 → (more : ℕ) → more ≡ k + 1
     → ReaderAt (record { code = r.code; word = r.word + 1; syllable = 0; bits = bits }) code more
-crossed r code k a last inside bits is small more more_is = grind arith
+crossed r code k a last inside bits is more more_is = grind arith
 
 -- the first one of a word
-pub opened : (desc : SegDesc) (code : List ℕ) (word bits : ℕ) → word < length code → bits ≡ slice_index code word * 2 ^ 16 → bits < 2 ^ 64
+pub opened : (desc : SegDesc) (code : List ℕ) (word bits : ℕ) → word < length code → bits ≡ syllables_of (slice_index code word) 0
     → ReaderAt (record { code = desc; word = word; syllable = 0; bits = bits }) code (6 * word)
-opened desc code word bits inside is small = grind arith
+opened desc code word bits inside is = grind arith
 
 -- the end of the code
-pub ended : (desc : SegDesc) (code : List ℕ) (word bits : ℕ) → word ≡ length code → form_of (bits / 2 ^ 56) ≡ None
+pub ended : (desc : SegDesc) (code : List ℕ) (word bits : ℕ) → word ≡ length code → form_of (bits % 2 ^ 8) ≡ None
     → ReaderAt (record { code = desc; word = word; syllable = 0; bits = bits }) code (6 * word)
 ended desc code word bits end none = grind arith
 
 -- the one at a place
-pub begun : (desc : SegDesc) (code : List ℕ) (place : Place) (word bits by : ℕ) → place.syllable < 6 → place.word < length code → word ≡ slice_index code place.word * 2 ^ 16 → word < 2 ^ 64 → by ≡ place.syllable → bits ≡ word * 2 ^ (8 * by) % 2 ^ 64
+pub begun : (desc : SegDesc) (code : List ℕ) (place : Place) (bits : ℕ) → place.syllable < 6 → place.word < length code → bits ≡ syllables_of (slice_index code place.word) place.syllable
     → ReaderAt (record { code = desc; word = place.word; syllable = place.syllable; bits = bits }) code (count_at place + 0)
-begun desc code place word bits by in_word inside word_is small by_is bits_is = grind (arith, from_is)
+begun desc code place bits in_word inside is = grind arith

@@ -41,7 +41,7 @@ pub same_place : (p q : Place) → p.word ≡ q.word → p.syllable ≡ q.syllab
 same_place p q word syllable = grind arith
 
 -- the syllable on top of a reader
-pub syllable_at : (r : Reader) (code : List ℕ) (k : ℕ) → ReaderAt r code k → r.word < length code → r.bits / 2 ^ 56 ≡ syllable code k
+pub syllable_at : (r : Reader) (code : List ℕ) (k : ℕ) → ReaderAt r code k → r.word < length code → r.bits % 2 ^ 8 ≡ syllable code k
 syllable_at r code k a inside = grind (arith, top_is)
 
 -- its place
@@ -63,11 +63,11 @@ past_end : (code : List ℕ) (k : ℕ) (op : Op) → 6 * length code < k → end
 past_end code k op past = grind arith
 
 -- where a first syllable begins an operator, it isn't behind the end of the code
-within_code : (r : Reader) (code : List ℕ) (k : ℕ) (f : Form) → ReaderAt r code k → form_of (r.bits / 2 ^ 56) ≡ Some f → r.word < length code
+within_code : (r : Reader) (code : List ℕ) (k : ℕ) (f : Form) → ReaderAt r code k → form_of (r.bits % 2 ^ 8) ≡ Some f → r.word < length code
 within_code r code k f a is = grind arith
 
 module _ (code : List ℕ) (at : Place) (r : Reader) (in_word : at.syllable < 6) (a : ReaderAt r code (count_at at + 0)) where
-  begins : (f : Form) → form_of (r.bits / 2 ^ 56) ≡ Some f → operator_at code at ≡ reads code (count_at at) (Some f)
+  begins : (f : Form) → form_of (r.bits % 2 ^ 8) ≡ Some f → operator_at code at ≡ reads code (count_at at) (Some f)
   begins f is =
       let there = within_code r code (count_at at + 0) f a is in
       let one : nat_lt at.syllable 6 ≡ true = grind (arith, nat_tests) in
@@ -75,45 +75,45 @@ module _ (code : List ℕ) (at : Place) (r : Reader) (in_word : at.syllable < 6)
       let two : nat_lt at.word (length code) ≡ true = grind (arith, nat_tests) in
       grind (arith, syllable_at)
 
-  lone : (op : Code) (next : Reader) → form_of (r.bits / 2 ^ 56) ≡ Some (Alone op) → ReaderAt next code (count_at at + 1) → operator_at code at ≡ Ok (Plain op, reader_place next)
+  lone : (op : Code) (next : Reader) → form_of (r.bits % 2 ^ 8) ≡ Some (Alone op) → ReaderAt next code (count_at at + 1) → operator_at code at ≡ Ok (Plain op, reader_place next)
   lone op next is b = begins (Alone op) is ∙ ends_before next code (count_at at + 1) (Plain op) b
 
-  pair : (op : ℕ → Op) (second next : Reader) → form_of (r.bits / 2 ^ 56) ≡ Some (OneMore op) → ReaderAt second code (count_at at + 1) → second.word < length code → ReaderAt next code (count_at at + 2) → operator_at code at ≡ Ok (op (second.bits / 2 ^ 56), reader_place next)
+  pair : (op : ℕ → Op) (second next : Reader) → form_of (r.bits % 2 ^ 8) ≡ Some (OneMore op) → ReaderAt second code (count_at at + 1) → second.word < length code → ReaderAt next code (count_at at + 2) → operator_at code at ≡ Ok (op (second.bits % 2 ^ 8), reader_place next)
   pair op second next is b two c =
-      begins (OneMore op) is ∙ ap (λ (z : ℕ). ends_at code (count_at at + 2) (op z)) (sym (syllable_at second code (count_at at + 1) b two)) ∙ ends_before next code (count_at at + 2) (op (second.bits / 2 ^ 56)) c
+      begins (OneMore op) is ∙ ap (λ (z : ℕ). ends_at code (count_at at + 2) (op z)) (sym (syllable_at second code (count_at at + 1) b two)) ∙ ends_before next code (count_at at + 2) (op (second.bits % 2 ^ 8)) c
 
-  triple : (op : ℕ → ℕ → Op) (second third next : Reader) → form_of (r.bits / 2 ^ 56) ≡ Some (TwoMore op) → ReaderAt second code (count_at at + 1) → second.word < length code → ReaderAt third code (count_at at + 2) → third.word < length code → ReaderAt next code (count_at at + 3)
-      → operator_at code at ≡ Ok (op (second.bits / 2 ^ 56) (third.bits / 2 ^ 56), reader_place next)
+  triple : (op : ℕ → ℕ → Op) (second third next : Reader) → form_of (r.bits % 2 ^ 8) ≡ Some (TwoMore op) → ReaderAt second code (count_at at + 1) → second.word < length code → ReaderAt third code (count_at at + 2) → third.word < length code → ReaderAt next code (count_at at + 3)
+      → operator_at code at ≡ Ok (op (second.bits % 2 ^ 8) (third.bits % 2 ^ 8), reader_place next)
   triple op second third next is b two c three d =
       begins (TwoMore op) is ∙ ap (λ (z : ℕ). ends_at code (count_at at + 3) (op z (syllable code (count_at at + 2)))) (sym (syllable_at second code (count_at at + 1) b two))
-      ∙ ap (λ (z : ℕ). ends_at code (count_at at + 3) (op (second.bits / 2 ^ 56) z)) (sym (syllable_at third code (count_at at + 2) c three)) ∙ ends_before next code (count_at at + 3) (op (second.bits / 2 ^ 56) (third.bits / 2 ^ 56)) d
+      ∙ ap (λ (z : ℕ). ends_at code (count_at at + 3) (op (second.bits % 2 ^ 8) z)) (sym (syllable_at third code (count_at at + 2) c three)) ∙ ends_before next code (count_at at + 3) (op (second.bits % 2 ^ 8) (third.bits % 2 ^ 8)) d
 
-  literal : (op : ℕ → Op) (next : Reader) → form_of (r.bits / 2 ^ 56) ≡ Some (Literal op) → ReaderAt next code (6 * (r.word + 2)) → operator_at code at ≡ Ok (op (slice_index code (r.word + 1)), reader_place next)
+  literal : (op : ℕ → Op) (next : Reader) → form_of (r.bits % 2 ^ 8) ≡ Some (Literal op) → ReaderAt next code (6 * (r.word + 2)) → operator_at code at ≡ Ok (op (slice_index code (r.word + 1)), reader_place next)
   literal op next is b =
       let word : count_at at / 6 ≡ r.word = omega (arith, a.at, a.in_word) in
       let P : ℕ → Type 0 = λ z. ends_at code (6 * (z + 2)) (op (slice_index code (z + 1))) ≡ Ok (op (slice_index code (r.word + 1)), reader_place next) in
       begins (Literal op) is ∙ subst P (sym word) (ends_before next code (6 * (r.word + 2)) (op (slice_index code (r.word + 1))) b)
 
-  lone_behind : (op : Code) → form_of (r.bits / 2 ^ 56) ≡ Some (Alone op) → operator_at code at ≡ Ok (Plain op, place_at (count_at at + 0 + 1))
+  lone_behind : (op : Code) → form_of (r.bits % 2 ^ 8) ≡ Some (Alone op) → operator_at code at ≡ Ok (Plain op, place_at (count_at at + 0 + 1))
   lone_behind op is =
       let more : count_at at + 1 ≡ count_at at + 0 + 1 = omega arith in
       begins (Alone op) is ∙ ap (λ (z : ℕ). ends_at code z (Plain op)) more ∙ ends_behind r code (count_at at + 0) (Plain op) a (within_code r code (count_at at + 0) (Alone op) a is)
 
-  triple_behind : (op : ℕ → ℕ → Op) (second third : Reader) → form_of (r.bits / 2 ^ 56) ≡ Some (TwoMore op) → ReaderAt second code (count_at at + 1) → second.word < length code → ReaderAt third code (count_at at + 2) → third.word < length code
-      → operator_at code at ≡ Ok (op (second.bits / 2 ^ 56) (third.bits / 2 ^ 56), place_at (count_at at + 2 + 1))
+  triple_behind : (op : ℕ → ℕ → Op) (second third : Reader) → form_of (r.bits % 2 ^ 8) ≡ Some (TwoMore op) → ReaderAt second code (count_at at + 1) → second.word < length code → ReaderAt third code (count_at at + 2) → third.word < length code
+      → operator_at code at ≡ Ok (op (second.bits % 2 ^ 8) (third.bits % 2 ^ 8), place_at (count_at at + 2 + 1))
   triple_behind op second third is b two c three =
       let more : count_at at + 3 ≡ count_at at + 2 + 1 = omega arith in
       begins (TwoMore op) is ∙ ap (λ (z : ℕ). ends_at code (count_at at + 3) (op z (syllable code (count_at at + 2)))) (sym (syllable_at second code (count_at at + 1) b two))
-      ∙ ap (λ (z : ℕ). ends_at code (count_at at + 3) (op (second.bits / 2 ^ 56) z)) (sym (syllable_at third code (count_at at + 2) c three))
-      ∙ ap (λ (z : ℕ). ends_at code z (op (second.bits / 2 ^ 56) (third.bits / 2 ^ 56))) more ∙ ends_behind third code (count_at at + 2) (op (second.bits / 2 ^ 56) (third.bits / 2 ^ 56)) c three
+      ∙ ap (λ (z : ℕ). ends_at code (count_at at + 3) (op (second.bits % 2 ^ 8) z)) (sym (syllable_at third code (count_at at + 2) c three))
+      ∙ ap (λ (z : ℕ). ends_at code z (op (second.bits % 2 ^ 8) (third.bits % 2 ^ 8))) more ∙ ends_behind third code (count_at at + 2) (op (second.bits % 2 ^ 8) (third.bits % 2 ^ 8)) c three
 
-  pair_past : (op : ℕ → Op) → form_of (r.bits / 2 ^ 56) ≡ Some (OneMore op) → count_at at + 1 ≡ 6 * length code → operator_at code at ≡ Err PastEnd
+  pair_past : (op : ℕ → Op) → form_of (r.bits % 2 ^ 8) ≡ Some (OneMore op) → count_at at + 1 ≡ 6 * length code → operator_at code at ≡ Err PastEnd
   pair_past op is end = begins (OneMore op) is ∙ past_end code (count_at at + 2) (op (syllable code (count_at at + 1))) (omega (arith, end))
 
-  triple_past : (op : ℕ → ℕ → Op) (n : ℕ) → form_of (r.bits / 2 ^ 56) ≡ Some (TwoMore op) → n ≤ 2 → count_at at + n ≡ 6 * length code → operator_at code at ≡ Err PastEnd
+  triple_past : (op : ℕ → ℕ → Op) (n : ℕ) → form_of (r.bits % 2 ^ 8) ≡ Some (TwoMore op) → n ≤ 2 → count_at at + n ≡ 6 * length code → operator_at code at ≡ Err PastEnd
   triple_past op n is few end = begins (TwoMore op) is ∙ past_end code (count_at at + 3) (op (syllable code (count_at at + 1)) (syllable code (count_at at + 2))) (omega (arith, end, few))
 
-  literal_past : (op : ℕ → Op) → form_of (r.bits / 2 ^ 56) ≡ Some (Literal op) → length code ≤ r.word + 1 → operator_at code at ≡ Err PastEnd
+  literal_past : (op : ℕ → Op) → form_of (r.bits % 2 ^ 8) ≡ Some (Literal op) → length code ≤ r.word + 1 → operator_at code at ≡ Err PastEnd
   literal_past op is end =
       let word : count_at at / 6 ≡ r.word = omega (arith, a.at, a.in_word) in
       begins (Literal op) is ∙ past_end code (6 * (count_at at / 6 + 2)) (op (slice_index code (count_at at / 6 + 1))) (omega (arith, word, end))
@@ -143,7 +143,7 @@ three_on cpu = place_at (count_at cpu.regs.place + 2 + 1)
 inside_code : (cpu : Cpu) (r : Reader) (n : ℕ) → ReaderInside cpu r n → ForEach cpu (λ x plan s m t. r.word < length (code_of m.constants t.segment))
 inside_code cpu r n i x plan s m t ordered h runs = let same = words-are x cpu plan s m t ordered h runs r.code (i.behind.code x plan s m t ordered h runs) in omega (arith, same, i.inside)
 
-pub inside_of : (cpu : Cpu) (r : Reader) (n : ℕ) (f : Form) → RunsSome cpu → ReaderBehind cpu r n → form_of (r.bits / 2 ^ 56) ≡ Some f → ReaderInside cpu r n
+pub inside_of : (cpu : Cpu) (r : Reader) (n : ℕ) (f : Form) → RunsSome cpu → ReaderBehind cpu r n → form_of (r.bits % 2 ^ 8) ≡ Some f → ReaderInside cpu r n
 inside_of cpu r n f q b is =
     let same = words-are q.storage cpu q.plan q.session q.member q.task q.ordered q.stands q.running r.code (b.code q.storage q.plan q.session q.member q.task q.ordered q.stands q.running) in
     grind (arith, within_code)
@@ -153,7 +153,7 @@ module _ (cpu : Cpu) (r : Reader) (b : ReaderBehind cpu r 0) where
   in_its_word x plan s m t h runs = let P : Place → Type 0 = λ p. p.syllable < 6 in subst P (h.holds.running m t runs).place b.in_word
 
   -- an operator without parameters
-  pub lone_through : (op : Code) (next : Reader) → form_of (r.bits / 2 ^ 56) ≡ Some (Alone op) → ReaderBehind cpu next (0 + 1) → ReadsThrough cpu (Plain op) next
+  pub lone_through : (op : Code) (next : Reader) → form_of (r.bits % 2 ^ 8) ≡ Some (Alone op) → ReaderBehind cpu next (0 + 1) → ReadsThrough cpu (Plain op) next
   lone_through op next is c = record {
     reads = λ x plan s m t ordered h runs.
         sym (lone (code_of m.constants t.segment) t.place r (in_its_word x plan s m t h runs) (b.at x plan s m t ordered h runs) op next is (c.at x plan s m t ordered h runs));
@@ -162,16 +162,16 @@ module _ (cpu : Cpu) (r : Reader) (b : ReaderBehind cpu r 0) where
   }
 
   -- one behind which no reader need stand
-  pub lone_to : (op : Code) → form_of (r.bits / 2 ^ 56) ≡ Some (Alone op) → ReadsTo cpu (Plain op) (one_on cpu)
+  pub lone_to : (op : Code) → form_of (r.bits % 2 ^ 8) ≡ Some (Alone op) → ReadsTo cpu (Plain op) (one_on cpu)
   lone_to op is = λ x plan s m t ordered h runs.
       let read = sym (lone_behind (code_of m.constants t.segment) t.place r (in_its_word x plan s m t h runs) (b.at x plan s m t ordered h runs) op is) in
       let P : Place → Type 0 = λ p. ◌≡◌ {A = Reading} (Ok (Plain op, place_at (count_at p + 0 + 1))) (reading_of m.constants t) in
       subst P (sym (h.holds.running m t runs).place) read
 
   -- one with a syllable
-  pub pair_through : (op : ℕ → Op) (second next : Reader) (low : ℕ) (made : Op) → form_of (r.bits / 2 ^ 56) ≡ Some (OneMore op) → ReaderInside cpu second (0 + 1) → ReaderBehind cpu next (0 + 1 + 1) → low ≡ second.bits / 2 ^ 56 → made ≡ op low → ReadsThrough cpu made next
+  pub pair_through : (op : ℕ → Op) (second next : Reader) (low : ℕ) (made : Op) → form_of (r.bits % 2 ^ 8) ≡ Some (OneMore op) → ReaderInside cpu second (0 + 1) → ReaderBehind cpu next (0 + 1 + 1) → low ≡ second.bits % 2 ^ 8 → made ≡ op low → ReadsThrough cpu made next
   pair_through op second next low made is c d low_is made_is =
-      let same : op (second.bits / 2 ^ 56) ≡ made = ap op (sym low_is) ∙ sym made_is in
+      let same : op (second.bits % 2 ^ 8) ≡ made = ap op (sym low_is) ∙ sym made_is in
       record {
         reads = λ x plan s m t ordered h runs.
             let R : Op → Type 0 = λ o. ◌≡◌ {A = Reading} (Ok (o, reader_place next)) (reading_of m.constants t) in
@@ -181,10 +181,10 @@ module _ (cpu : Cpu) (r : Reader) (b : ReaderBehind cpu r 0) where
       }
 
   -- one with two
-  pub triple_through : (op : ℕ → ℕ → Op) (second third next : Reader) (high low : ℕ) (made : Op) → form_of (r.bits / 2 ^ 56) ≡ Some (TwoMore op) → ReaderInside cpu second (0 + 1) → ReaderInside cpu third (0 + 1 + 1) → ReaderBehind cpu next (0 + 1 + 1 + 1)
-      → high ≡ second.bits / 2 ^ 56 → low ≡ third.bits / 2 ^ 56 → made ≡ op high low → ReadsThrough cpu made next
+  pub triple_through : (op : ℕ → ℕ → Op) (second third next : Reader) (high low : ℕ) (made : Op) → form_of (r.bits % 2 ^ 8) ≡ Some (TwoMore op) → ReaderInside cpu second (0 + 1) → ReaderInside cpu third (0 + 1 + 1) → ReaderBehind cpu next (0 + 1 + 1 + 1)
+      → high ≡ second.bits % 2 ^ 8 → low ≡ third.bits % 2 ^ 8 → made ≡ op high low → ReadsThrough cpu made next
   triple_through op second third next high low made is c d e high_is low_is made_is =
-      let same : op (second.bits / 2 ^ 56) (third.bits / 2 ^ 56) ≡ made = ap (λ (z : ℕ). op z (third.bits / 2 ^ 56)) (sym high_is) ∙ ap (op high) (sym low_is) ∙ sym made_is in
+      let same : op (second.bits % 2 ^ 8) (third.bits % 2 ^ 8) ≡ made = ap (λ (z : ℕ). op z (third.bits % 2 ^ 8)) (sym high_is) ∙ ap (op high) (sym low_is) ∙ sym made_is in
       record {
         reads = λ x plan s m t ordered h runs.
             let R : Op → Type 0 = λ o. ◌≡◌ {A = Reading} (Ok (o, reader_place next)) (reading_of m.constants t) in
@@ -194,17 +194,17 @@ module _ (cpu : Cpu) (r : Reader) (b : ReaderBehind cpu r 0) where
       }
 
   -- one with two, behind which no reader need stand
-  pub triple_to : (op : ℕ → ℕ → Op) (second third : Reader) (high low : ℕ) (made : Op) → form_of (r.bits / 2 ^ 56) ≡ Some (TwoMore op) → ReaderInside cpu second (0 + 1) → ReaderInside cpu third (0 + 1 + 1)
-      → high ≡ second.bits / 2 ^ 56 → low ≡ third.bits / 2 ^ 56 → made ≡ op high low → ReadsTo cpu made (three_on cpu)
+  pub triple_to : (op : ℕ → ℕ → Op) (second third : Reader) (high low : ℕ) (made : Op) → form_of (r.bits % 2 ^ 8) ≡ Some (TwoMore op) → ReaderInside cpu second (0 + 1) → ReaderInside cpu third (0 + 1 + 1)
+      → high ≡ second.bits % 2 ^ 8 → low ≡ third.bits % 2 ^ 8 → made ≡ op high low → ReadsTo cpu made (three_on cpu)
   triple_to op second third high low made is c d high_is low_is made_is = λ x plan s m t ordered h runs.
-      let same : op (second.bits / 2 ^ 56) (third.bits / 2 ^ 56) ≡ made = ap (λ (z : ℕ). op z (third.bits / 2 ^ 56)) (sym high_is) ∙ ap (op high) (sym low_is) ∙ sym made_is in
+      let same : op (second.bits % 2 ^ 8) (third.bits % 2 ^ 8) ≡ made = ap (λ (z : ℕ). op z (third.bits % 2 ^ 8)) (sym high_is) ∙ ap (op high) (sym low_is) ∙ sym made_is in
       let R : Op → Type 0 = λ o. ◌≡◌ {A = Reading} (Ok (o, place_at (count_at t.place + 2 + 1))) (reading_of m.constants t) in
       let read = subst R same (sym (triple_behind (code_of m.constants t.segment) t.place r (in_its_word x plan s m t h runs) (b.at x plan s m t ordered h runs) op second third is (c.behind.at x plan s m t ordered h runs) (inside_code cpu second (0 + 1) c x plan s m t ordered h runs) (d.behind.at x plan s m t ordered h runs) (inside_code cpu third (0 + 1 + 1) d x plan s m t ordered h runs))) in
       let P : Place → Type 0 = λ p. ◌≡◌ {A = Reading} (Ok (made, place_at (count_at p + 2 + 1))) (reading_of m.constants t) in
       subst P (sym (h.holds.running m t runs).place) read
 
   -- one with the next word
-  pub literal_through : (op : ℕ → Op) (next : Reader) (bits : ℕ) → form_of (r.bits / 2 ^ 56) ≡ Some (Literal op) → HoldsCode cpu next.code → ForEach cpu (λ x plan s m t. bits ≡ slice_index (code_of m.constants t.segment) (r.word + 1))
+  pub literal_through : (op : ℕ → Op) (next : Reader) (bits : ℕ) → form_of (r.bits % 2 ^ 8) ≡ Some (Literal op) → HoldsCode cpu next.code → ForEach cpu (λ x plan s m t. bits ≡ slice_index (code_of m.constants t.segment) (r.word + 1))
       → ForEach cpu (λ x plan s m t. ReaderAt next (code_of m.constants t.segment) (6 * (r.word + 2))) → ReadsThrough cpu (op bits) next
   literal_through op next bits is code word at = record {
     reads = λ x plan s m t ordered h runs.
@@ -222,16 +222,16 @@ module _ (cpu : Cpu) (r : Reader) (b : ReaderBehind cpu r 0) where
   }
 
   -- none: the code ends too early
-  pub literal_ends : (op : ℕ → Op) → form_of (r.bits / 2 ^ 56) ≡ Some (Literal op) → r.code.words ≤ r.word + 1 → ReadsNone cpu
+  pub literal_ends : (op : ℕ → Op) → form_of (r.bits % 2 ^ 8) ≡ Some (Literal op) → r.code.words ≤ r.word + 1 → ReadsNone cpu
   literal_ends op is end = λ x plan s m t ordered h runs.
       let same = words-are x cpu plan s m t ordered h runs r.code (b.code x plan s m t ordered h runs) in
       (PastEnd, sym (literal_past (code_of m.constants t.segment) t.place r (in_its_word x plan s m t h runs) (b.at x plan s m t ordered h runs) op is (omega (arith, same, end))))
 
-  pub pair_ends : (op : ℕ → Op) → form_of (r.bits / 2 ^ 56) ≡ Some (OneMore op) → EndsBehind cpu (0 + 1) → ReadsNone cpu
+  pub pair_ends : (op : ℕ → Op) → form_of (r.bits % 2 ^ 8) ≡ Some (OneMore op) → EndsBehind cpu (0 + 1) → ReadsNone cpu
   pair_ends op is end = λ x plan s m t ordered h runs.
       (PastEnd, sym (pair_past (code_of m.constants t.segment) t.place r (in_its_word x plan s m t h runs) (b.at x plan s m t ordered h runs) op is (end x plan s m t ordered h runs)))
 
-  pub triple_ends : (op : ℕ → ℕ → Op) (n : ℕ) → form_of (r.bits / 2 ^ 56) ≡ Some (TwoMore op) → n ≤ 2 → EndsBehind cpu n → ReadsNone cpu
+  pub triple_ends : (op : ℕ → ℕ → Op) (n : ℕ) → form_of (r.bits % 2 ^ 8) ≡ Some (TwoMore op) → n ≤ 2 → EndsBehind cpu n → ReadsNone cpu
   triple_ends op n is few end = λ x plan s m t ordered h runs.
       (PastEnd, sym (triple_past (code_of m.constants t.segment) t.place r (in_its_word x plan s m t h runs) (b.at x plan s m t ordered h runs) op n is few (end x plan s m t ordered h runs)))
 

@@ -1,6 +1,5 @@
 -- A store into a procedure: the value stays, the reference goes, and the procedure is entered.
 use Rattle.std.proofs.Common.{◌≡◌, ◌≢◌, ℕ, ◌+◌, ◌-◌, ◌<◌, ◌≤◌, List, [], ◌∷◌, ◌++◌, map, length, Ok, Err, refl, sym, ◌∙◌, ap, arith, cond, Bool, false, ◌⊎◌, ⊎_elim, subst, slice_set}
-use Rattle.std.specs.Prelude.{if◌then◌else◌}
 use Rattle.std.specs.List.{slice_get}
 use Rattle.std.proofs.lemmas.Bool.{cases_eq}
 use Rattle.std.proofs.lemmas.Option.{same_Some}
@@ -9,7 +8,7 @@ use Rattle.b67_word.specs.declared.couples.Place.{Place}
 use Rattle.b67_word.specs.declared.faults.Fault.{Fault}
 use Rattle.b67_word.specs.declared.faults.Fault.TheVariants.{InvalidIndex}
 use Rattle.b67_core.proofs.Writes.{slice_get-set_other}
-use Rattle.b67_model.specs.Common.{Answer, ◌>>=◌, AtElement, AtProc, follow, accident, back_to, Starts, Known, known_of, outer_of, is_original_of, IsSegment, CellsInOrder, FramesInOrder, is_original, Session, Frame, Array, Task, SessionJob, OperatorContext, top, with_task, Done, cells_of, Word, Operand, Proc, operand}
+use Rattle.b67_model.specs.Common.{Answer, AtElement, AtProc, follow, accident, back_to, Starts, Known, known_of, outer_of, is_original_of, IsSegment, CellsInOrder, FramesInOrder, is_original, Session, Frame, Array, Task, SessionJob, OperatorContext, top, with_task, Done, cells_of, Word, Operand, Proc, operand}
 use Rattle.b67_model.specs.Chase as Chase
 use Rattle.b67_layout.specs.Common.{IsInOrderButCounts, Placement, IsRunning, SessionHoldsBut, RepresentsSession, here, with_job, Meets, IsWordOf, IsAt, cells}
 use Rattle.b67_lemmas.specs.Lists.{Has, how_many}

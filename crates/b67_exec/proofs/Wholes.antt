@@ -1,5 +1,5 @@
 -- An operator that is read whole, and was made or not; and where one is read so.
-use Rattle.std.proofs.Common.{◌≡◌, ℕ, ◌+◌, ◌*◌, ◌/◌, ◌^◌, ◌<◌, ◌≤◌, Bool, true, false, List, length, Option, Some, Ok, sym, ap, subst, ◌∙◌, inl, inr, arith}
+use Rattle.std.proofs.Common.{◌≡◌, ℕ, ◌+◌, ◌%◌, ◌^◌, ◌<◌, ◌≤◌, Bool, true, false, List, length, Option, Some, Ok, sym, ap, subst, ◌∙◌, inl, inr, arith}
 use Rattle.std.specs.Prelude.{nat_lt}
 use Rattle.std.proofs.lemmas.Bool.{cases_lt}
 use Rattle.std.proofs.lemmas.Bool.Decides.{nat_tests}
@@ -47,7 +47,7 @@ whole_branch always wanted form is = grind arith
 reads_whole : (code : List ℕ) (n : ℕ) (form : Option Form) → BeginsWhole form → ReadsWhole (reads code n form)
 reads_whole code n form is = grind arith
 
-at_whole : (code : List ℕ) (at : Place) (r : Reader) → at.syllable < 6 → ReaderAt r code (count_at at + 0) → BeginsWhole (form_of (r.bits / 2 ^ 56)) → ReadsWhole (operator_at code at)
+at_whole : (code : List ℕ) (at : Place) (r : Reader) → at.syllable < 6 → ReaderAt r code (count_at at + 0) → BeginsWhole (form_of (r.bits % 2 ^ 8)) → ReadsWhole (operator_at code at)
 at_whole code at r in_word a is =
     let one : nat_lt at.syllable 6 ≡ true = grind (arith, nat_tests) in
     elim (cases_lt r.word (length code)) [
@@ -55,7 +55,7 @@ at_whole code at r in_word a is =
           let inside : at.word < length code = omega (arith, a.at, a.in_word, low, in_word) in
           let two : nat_lt at.word (length code) ≡ true = grind (arith, nat_tests) in
           let same : count_at at + 0 ≡ count_at at = omega arith in
-          let first : r.bits / 2 ^ 56 ≡ syllable code (count_at at) = syllable_at r code (count_at at + 0) a low ∙ ap (syllable code) same in
+          let first : r.bits % 2 ^ 8 ≡ syllable code (count_at at) = syllable_at r code (count_at at + 0) a low ∙ ap (syllable code) same in
           rw (one, two) (reads_whole code (count_at at) (form_of (syllable code (count_at at))) (subst (λ (z : ℕ). BeginsWhole (form_of z)) first is))
       | inr high ↦
           let outside : length code ≤ at.word = omega (arith, a.at, a.in_word, high, in_word) in
@@ -63,7 +63,7 @@ at_whole code at r in_word a is =
           rw (one, two) tt
     ]
 
-pub stands_whole : (cpu : Cpu) (r : Reader) → ReaderBehind cpu r 0 → BeginsWhole (form_of (r.bits / 2 ^ 56)) → ForEach cpu (λ x plan s m t. ReadsWhole (reading_of m.constants t))
+pub stands_whole : (cpu : Cpu) (r : Reader) → ReaderBehind cpu r 0 → BeginsWhole (form_of (r.bits % 2 ^ 8)) → ForEach cpu (λ x plan s m t. ReadsWhole (reading_of m.constants t))
 stands_whole cpu r b is x plan s m t ordered h runs =
     let in_word : t.place.syllable < 6 = (let P : Place → Type 0 = λ p. p.syllable < 6 in subst P (h.holds.running m t runs).place b.in_word) in
     at_whole (code_of m.constants t.segment) t.place r in_word (b.at x plan s m t ordered h runs) is

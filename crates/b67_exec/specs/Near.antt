@@ -1,5 +1,6 @@
 -- The code of the running segment, and a reader of it.
-use Rattle.std.specs.Prelude.{◌≡◌, ◌≢◌, ℕ, Bool, true, false, ◌+◌, ◌-◌, ◌*◌, ◌/◌, ◌%◌, ◌^◌, ◌<◌, ◌≤◌, ◌⊎◌, List, length, slice_index, Some, None}
+use Rattle.std.specs.Prelude.{◌≡◌, ◌≢◌, ℕ, Bool, true, false, ◌+◌, ◌*◌, ◌%◌, ◌^◌, ◌<◌, ◌≤◌, ◌⊎◌, List, length, slice_index, Some, None}
+use Rattle.std.specs.Int.{w64, rotate_left}
 use Rattle.b67_ctl.specs.declared.descriptors.SegDesc.{SegDesc}
 use Rattle.b67_word.specs.declared.couples.Place.{Place}
 use Rattle.b67_model.specs.declared.operators.Op.{Op}
@@ -24,14 +25,18 @@ use Rattle.b67_exec.specs.declared.arms.Made.TheVariants as outcome
 abbrev pub HoldsCode : Cpu → SegDesc → Type 0
 HoldsCode cpu desc = ForEach cpu (λ x plan s m t. GivesSegment x plan m t (Some desc))
 
+-- the syllables of a word of code, turned so that this one is in the lowest bits, and the next one in the highest
+unfoldable pub syllables_of : ℕ → (syllable : ℕ) → ℕ
+syllables_of word syllable = rotate_left w64 (word * 2 ^ 16 % 2 ^ 64) (8 + 8 * syllable)
+
 -- a reader stands at a syllable of code, and has the syllables of the word from this one on; or at the end of the code, and no
 -- operator begins with what it has
 pub record ReaderAt (r : Reader) (code : List ℕ) (n : ℕ) : Type 0 where
   pub in_word : r.syllable < 6
   pub at : n ≡ 6 * r.word + r.syllable
   pub within : n ≤ 6 * length code
-  pub bits : r.word < length code → r.bits ≡ slice_index code r.word % 2 ^ (48 - 8 * r.syllable) * 2 ^ (16 + 8 * r.syllable)
-  pub ends : length code ≤ r.word → form_of (r.bits / 2 ^ 56) ≡ None
+  pub bits : r.word < length code → r.bits ≡ syllables_of (slice_index code r.word) r.syllable
+  pub ends : length code ≤ r.word → form_of (r.bits % 2 ^ 8) ≡ None
 
 -- a reader of the running segment stands so many syllables behind the running place
 pub record ReaderBehind (cpu : Cpu) (r : Reader) (n : ℕ) : Type 0 where

@@ -95,7 +95,7 @@ fn target(high: u8, low: u8) -> Place
 fn numbers(cpu: &mut Cpu, reader: &mut Reader, op: Numeric, why: &mut Step) -> bool
     requires runs { RunsSome cpu.old }
     requires stands { ReaderBehind cpu.old reader.old 0 }
-    requires begins { form_of (reader.old.bits / 2 ^ 56) ≡ Some (Alone (code_of_numbers op)) }
+    requires begins { form_of (reader.old.bits % 2 ^ 8) ≡ Some (Alone (code_of_numbers op)) }
     ensures { MadeNear cpu.old reader.old result cpu.new reader.new why.new }
 {
     let next = after(cpu, *reader);
@@ -126,7 +126,7 @@ fn moves(cpu: &mut Cpu, code: Code, next: Place) -> Step
 fn alone(cpu: &mut Cpu, reader: &mut Reader, code: Code, why: &mut Step) -> bool
     requires runs { RunsSome cpu.old }
     requires stands { ReaderBehind cpu.old reader.old 0 }
-    requires begins { form_of (reader.old.bits / 2 ^ 56) ≡ Some (Alone code) }
+    requires begins { form_of (reader.old.bits % 2 ^ 8) ≡ Some (Alone code) }
     requires moves { moves_cells code ≡ true }
     ensures { MadeNear cpu.old reader.old result cpu.new reader.new why.new }
 {
@@ -140,7 +140,7 @@ fn alone(cpu: &mut Cpu, reader: &mut Reader, code: Code, why: &mut Step) -> bool
 fn names(cpu: &mut Cpu, reader: &mut Reader, why: &mut Step) -> bool
     requires runs { RunsSome cpu.old }
     requires stands { ReaderBehind cpu.old reader.old 0 }
-    requires begins { form_of (reader.old.bits / 2 ^ 56) ≡ Some (OneMore (λ low. ops.Namc (reader.old.bits / 2 ^ 56 % 64 * 256 + low))) }
+    requires begins { form_of (reader.old.bits % 2 ^ 8) ≡ Some (OneMore (λ low. ops.Namc (reader.old.bits % 2 ^ 8 % 64 * 256 + low))) }
     ensures { MadeNear cpu.old reader.old result cpu.new reader.new why.new }
 {
     let second = match behind(cpu, *reader) {
@@ -158,7 +158,7 @@ fn names(cpu: &mut Cpu, reader: &mut Reader, why: &mut Step) -> bool
 fn literal_8(cpu: &mut Cpu, reader: &mut Reader, why: &mut Step) -> bool
     requires runs { RunsSome cpu.old }
     requires stands { ReaderBehind cpu.old reader.old 0 }
-    requires begins { form_of (reader.old.bits / 2 ^ 56) ≡ Some (OneMore ops.Lt8) }
+    requires begins { form_of (reader.old.bits % 2 ^ 8) ≡ Some (OneMore ops.Lt8) }
     ensures { MadeNear cpu.old reader.old result cpu.new reader.new why.new }
 {
     let second = match behind(cpu, *reader) {
@@ -176,7 +176,7 @@ fn literal_8(cpu: &mut Cpu, reader: &mut Reader, why: &mut Step) -> bool
 fn literal_16(cpu: &mut Cpu, reader: &mut Reader, why: &mut Step) -> bool
     requires runs { RunsSome cpu.old }
     requires stands { ReaderBehind cpu.old reader.old 0 }
-    requires begins { form_of (reader.old.bits / 2 ^ 56) ≡ Some (TwoMore (λ high low. ops.Lt16 (high * 256 + low))) }
+    requires begins { form_of (reader.old.bits % 2 ^ 8) ≡ Some (TwoMore (λ high low. ops.Lt16 (high * 256 + low))) }
     ensures { MadeNear cpu.old reader.old result cpu.new reader.new why.new }
 {
     let second = match behind(cpu, *reader) {
@@ -212,7 +212,7 @@ fn pushes_word(cpu: &mut Cpu, bits: u64, procedure: bool, next: Place) -> Step
 fn literal_word(cpu: &mut Cpu, reader: &mut Reader, procedure: bool, why: &mut Step) -> bool
     requires runs { RunsSome cpu.old }
     requires stands { ReaderBehind cpu.old reader.old 0 }
-    requires begins { form_of (reader.old.bits / 2 ^ 56) ≡ Some (Literal (word_op procedure)) }
+    requires begins { form_of (reader.old.bits % 2 ^ 8) ≡ Some (Literal (word_op procedure)) }
     ensures { MadeNear cpu.old reader.old result cpu.new reader.new why.new }
 {
     let bits = match next_word(cpu, *reader) {
@@ -229,7 +229,7 @@ fn literal_word(cpu: &mut Cpu, reader: &mut Reader, procedure: bool, why: &mut S
 fn reads_whole(cpu: &mut Cpu, reader: Reader, why: &mut Step) -> Made
     requires runs { RunsSome cpu.old }
     requires stands { ReaderBehind cpu.old reader 0 }
-    requires whole { BeginsWhole (form_of (reader.bits / 2 ^ 56)) }
+    requires whole { BeginsWhole (form_of (reader.bits % 2 ^ 8)) }
     ensures { Makes cpu.old reader result cpu.new reader why.new }
 {
     let _ = reader;
@@ -245,7 +245,7 @@ fn reads_whole(cpu: &mut Cpu, reader: Reader, why: &mut Step) -> Made
 fn jumps(cpu: &mut Cpu, reader: &mut Reader, why: &mut Step) -> Made
     requires runs { RunsSome cpu.old }
     requires stands { ReaderBehind cpu.old reader.old 0 }
-    requires begins { form_of (reader.old.bits / 2 ^ 56) ≡ Some (branch (branch_op true true)) }
+    requires begins { form_of (reader.old.bits % 2 ^ 8) ≡ Some (branch (branch_op true true)) }
     ensures { Makes cpu.old reader.old result cpu.new reader.new why.new }
 {
     let second = match behind(cpu, *reader) {
@@ -270,7 +270,7 @@ fn jumps(cpu: &mut Cpu, reader: &mut Reader, why: &mut Step) -> Made
 fn branches(cpu: &mut Cpu, reader: &mut Reader, wanted: bool, why: &mut Step) -> Made
     requires runs { RunsSome cpu.old }
     requires stands { ReaderBehind cpu.old reader.old 0 }
-    requires begins { form_of (reader.old.bits / 2 ^ 56) ≡ Some (branch (branch_op false wanted)) }
+    requires begins { form_of (reader.old.bits % 2 ^ 8) ≡ Some (branch (branch_op false wanted)) }
     ensures { Makes cpu.old reader.old result cpu.new reader.new why.new }
 {
     let second = match behind(cpu, *reader) {
@@ -308,7 +308,7 @@ fn branches(cpu: &mut Cpu, reader: &mut Reader, wanted: bool, why: &mut Step) ->
 fn computes(cpu: &mut Cpu, reader: &mut Reader, code: Code, why: &mut Step) -> bool
     requires runs { RunsSome cpu.old }
     requires stands { ReaderBehind cpu.old reader.old 0 }
-    requires begins { form_of (reader.old.bits / 2 ^ 56) ≡ Some (Alone code) }
+    requires begins { form_of (reader.old.bits % 2 ^ 8) ≡ Some (Alone code) }
     requires top { is_on_top code ≡ true }
     ensures { MadeNear cpu.old reader.old result cpu.new reader.new why.new }
 {
@@ -353,7 +353,7 @@ fn makes_behind(cpu: &mut Cpu, code: Code, next: Place, why: &mut Step) -> bool
 fn stays(cpu: &mut Cpu, reader: &mut Reader, code: Code, why: &mut Step) -> bool
     requires runs { RunsSome cpu.old }
     requires stands { ReaderBehind cpu.old reader.old 0 }
-    requires begins { form_of (reader.old.bits / 2 ^ 56) ≡ Some (Alone code) }
+    requires begins { form_of (reader.old.bits % 2 ^ 8) ≡ Some (Alone code) }
     requires behind { goes_behind code ≡ true }
     ensures { MadeNear cpu.old reader.old result cpu.new reader.new why.new }
 {
@@ -400,7 +400,7 @@ fn makes_any_valc(cpu: &mut Cpu, couple: u16, next: Place, why: &mut Step) -> We
 fn evaluates(cpu: &mut Cpu, reader: &mut Reader, why: &mut Step) -> Made
     requires runs { RunsSome cpu.old }
     requires stands { ReaderBehind cpu.old reader.old 0 }
-    requires begins { form_of (reader.old.bits / 2 ^ 56) ≡ Some (OneMore (λ low. ops.Valc (reader.old.bits / 2 ^ 56 % 64 * 256 + low))) }
+    requires begins { form_of (reader.old.bits % 2 ^ 8) ≡ Some (OneMore (λ low. ops.Valc (reader.old.bits % 2 ^ 8 % 64 * 256 + low))) }
     ensures { Makes cpu.old reader.old result cpu.new reader.new why.new }
 {
     let second = match behind(cpu, *reader) {
@@ -418,7 +418,7 @@ fn evaluates(cpu: &mut Cpu, reader: &mut Reader, why: &mut Step) -> Made
 fn loads(cpu: &mut Cpu, reader: &mut Reader, why: &mut Step) -> Made
     requires runs { RunsSome cpu.old }
     requires stands { ReaderBehind cpu.old reader.old 0 }
-    requires begins { form_of (reader.old.bits / 2 ^ 56) ≡ Some (Alone codes.Load) }
+    requires begins { form_of (reader.old.bits % 2 ^ 8) ≡ Some (Alone codes.Load) }
     ensures { Makes cpu.old reader.old result cpu.new reader.new why.new }
 {
     let next = after(cpu, *reader);
@@ -435,7 +435,7 @@ fn loads(cpu: &mut Cpu, reader: &mut Reader, why: &mut Step) -> Made
 fn stores(cpu: &mut Cpu, reader: &mut Reader, keeps: bool, why: &mut Step) -> Made
     requires runs { RunsSome cpu.old }
     requires stands { ReaderBehind cpu.old reader.old 0 }
-    requires begins { form_of (reader.old.bits / 2 ^ 56) ≡ Some (Alone (store_code keeps)) }
+    requires begins { form_of (reader.old.bits % 2 ^ 8) ≡ Some (Alone (store_code keeps)) }
     ensures { Makes cpu.old reader.old result cpu.new reader.new why.new }
 {
     let next = after(cpu, *reader);
@@ -452,7 +452,7 @@ fn stores(cpu: &mut Cpu, reader: &mut Reader, keeps: bool, why: &mut Step) -> Ma
 fn enters(cpu: &mut Cpu, reader: Reader, why: &mut Step) -> Made
     requires runs { RunsSome cpu.old }
     requires stands { ReaderBehind cpu.old reader 0 }
-    requires begins { form_of (reader.bits / 2 ^ 56) ≡ Some (Alone codes.Entr) }
+    requires begins { form_of (reader.bits % 2 ^ 8) ≡ Some (Alone codes.Entr) }
     ensures { Makes cpu.old reader result cpu.new reader why.new }
 {
     let next = after(cpu, reader);

@@ -1,10 +1,10 @@
 //! Reading code syllable after syllable.
 
-ghost use Rattle.std.specs.Prelude.{◌≡◌, ◌+◌, ◌-◌, ◌*◌, ◌/◌, ◌^◌, ◌<◌, ◌≤◌, ℕ, None, IfSome, slice_index};
+ghost use Rattle.std.specs.Prelude.{◌≡◌, ◌+◌, ◌-◌, ◌*◌, ◌%◌, ◌^◌, ◌<◌, ◌≤◌, ℕ, None, IfSome, slice_index};
 ghost use Rattle.b67_model.specs.Operators.{count_at};
 ghost use Rattle.b67_model.specs.Rows.{code_of};
 ghost use Rattle.b67_layout.specs.Meets.{RunsSome, ForEach};
-ghost use Rattle.b67_exec.specs.Near.{HoldsCode, ReaderAt, ReaderBehind, ReaderInside, EndsBehind, IsOutside, StopsHere};
+ghost use Rattle.b67_exec.specs.Near.{HoldsCode, syllables_of, ReaderAt, ReaderBehind, ReaderInside, EndsBehind, IsOutside, StopsHere};
 
 use b67_ctl::SegDesc;
 use b67_exec_cells::present_segment;
@@ -20,28 +20,42 @@ pub struct Reader {
     pub word: u16,
     /// Which syllable of that word it is: 0 to 5.
     pub syllable: u8,
-    /// The syllables of that word from this one on, from the highest bit down.
+    /// The syllables of that word, turned so that this one is in the lowest bits, and the next one in the highest.
     pub bits: u64,
 }
 
-/// A word of code, with its first syllable in the highest bits.
+/// A word of code.
 #[inline(always)]
-fn loaded(cpu: &Cpu, code: SegDesc, word: u16) -> u64
+fn word_at(cpu: &Cpu, code: SegDesc, word: u16) -> u64
     requires runs { RunsSome cpu.now }
     requires code { HoldsCode cpu.now code }
     requires inside { word < code.words }
-    ensures { ForEach cpu.now (λ x plan s m t. result ≡ slice_index (code_of m.constants t.segment) word * 2 ^ 16) }
+    ensures word { ForEach cpu.now (λ x plan s m t. result ≡ slice_index (code_of m.constants t.segment) word) }
+    ensures small { result < 2 ^ 48 }
 {
     let words = cpu.core.words(code.address, code.words);
-    words[usize::from(word)].bits() << 16
+    words[usize::from(word)].bits()
+}
+
+/// The syllables of a word of code, turned so that this one is in the lowest bits.
+#[inline(always)]
+fn loaded(cpu: &Cpu, code: SegDesc, at: Place) -> u64
+    requires runs { RunsSome cpu.now }
+    requires code { HoldsCode cpu.now code }
+    requires in_word { at.syllable < 6 }
+    requires inside { at.word < code.words }
+    ensures { ForEach cpu.now (λ x plan s m t. result ≡ syllables_of (slice_index (code_of m.constants t.segment) at.word) at.syllable) }
+{
+    let word = word_at(cpu, code, at.word) << 16;
+    word.rotate_left(8 + 8 * u32::from(at.syllable))
 }
 
 /// The syllable.
 #[inline(always)]
 pub fn first(r: Reader) -> u8
-    ensures { result ≡ r.bits / 2 ^ 56 }
+    ensures { result ≡ r.bits % 2 ^ 8 }
 {
-    (r.bits >> 56) as u8
+    (r.bits % 256) as u8
 }
 
 /// The place of the syllable.
@@ -68,7 +82,7 @@ pub fn behind(cpu: &Cpu, r: Reader) -> Option<Reader>
             code: r.code,
             word: r.word,
             syllable: r.syllable + 1,
-            bits: r.bits << 8,
+            bits: r.bits.rotate_left(8),
         });
     }
     if u32::from(r.word) + 1 >= r.code.words {
@@ -79,12 +93,12 @@ pub fn behind(cpu: &Cpu, r: Reader) -> Option<Reader>
         code: r.code,
         word,
         syllable: 0,
-        bits: loaded(cpu, r.code, word),
+        bits: loaded(cpu, r.code, Place { word, syllable: 0 }),
     })
 }
 
 /// What stands behind a segment's code for a reader: no operator begins so.
-const END: u64 = 0xFD00_0000_0000_0000;
+const END: u64 = 0xFD;
 
 /// The first syllable of a word of the code, or the end of the code.
 #[inline(always)]
@@ -107,7 +121,7 @@ pub fn at_word(cpu: &Cpu, code: SegDesc, word: u16) -> Reader
         code,
         word,
         syllable: 0,
-        bits: loaded(cpu, code, word),
+        bits: loaded(cpu, code, Place { word, syllable: 0 }),
     }
 }
 
@@ -123,7 +137,7 @@ pub fn after(cpu: &Cpu, r: Reader) -> Reader
             code: r.code,
             word: r.word,
             syllable: r.syllable + 1,
-            bits: r.bits << 8,
+            bits: r.bits.rotate_left(8),
         };
     }
     at_word(cpu, r.code, r.word + 1)
@@ -143,7 +157,7 @@ pub fn next_word(cpu: &Cpu, r: Reader) -> Option<u64>
     if u32::from(word) >= r.code.words {
         return None;
     }
-    Some(loaded(cpu, r.code, word) >> 16)
+    Some(word_at(cpu, r.code, word))
 }
 
 /// A reader at a place inside the running segment.
@@ -156,12 +170,11 @@ pub fn reader_to(cpu: &Cpu, code: SegDesc, at: Place) -> Reader
     ensures code { result.code ≡ code }
     ensures at { ForEach cpu.now (λ x plan s m t. ReaderAt result (code_of m.constants t.segment) (count_at at + 0)) }
 {
-    let word = loaded(cpu, code, at.word);
     Reader {
         code,
         word: at.word,
         syllable: at.syllable,
-        bits: word << (8 * u32::from(at.syllable)),
+        bits: loaded(cpu, code, at),
     }
 }
 

@@ -19,19 +19,19 @@ behind-requires-2-clause-stands c =
     (0 + 1, d.behind)
 
 pub reads_whole-requires-clause-whole : goal.reads_whole-requires-clause-whole
-reads_whole-requires-clause-whole c = whole_branch false c.args.wanted (form_of (c.args.reader.now.bits / 2 ^ 56)) c.requires.begins
+reads_whole-requires-clause-whole c = whole_branch false c.args.wanted (form_of (c.args.reader.now.bits % 2 ^ 8)) c.requires.begins
 
 pub reads_whole-requires-in-None-behind-clause-whole : goal.reads_whole-requires-in-None-behind-clause-whole
-reads_whole-requires-in-None-behind-clause-whole c = whole_branch false c.args.wanted (form_of (c.args.reader.now.bits / 2 ^ 56)) c.requires.begins
+reads_whole-requires-in-None-behind-clause-whole c = whole_branch false c.args.wanted (form_of (c.args.reader.now.bits % 2 ^ 8)) c.requires.begins
 
 pub reads_whole-requires-in-Err-clause-whole : goal.reads_whole-requires-in-Err-clause-whole
-reads_whole-requires-in-Err-clause-whole c = whole_branch false c.args.wanted (form_of (c.args.reader.now.bits / 2 ^ 56)) c.requires.begins
+reads_whole-requires-in-Err-clause-whole c = whole_branch false c.args.wanted (form_of (c.args.reader.now.bits % 2 ^ 8)) c.requires.begins
 
 pub reads_whole-requires-then-tag-ne0-clause-whole : goal.reads_whole-requires-then-tag-ne0-clause-whole
-reads_whole-requires-then-tag-ne0-clause-whole c = whole_branch false c.args.wanted (form_of (c.args.reader.now.bits / 2 ^ 56)) c.requires.begins
+reads_whole-requires-then-tag-ne0-clause-whole c = whole_branch false c.args.wanted (form_of (c.args.reader.now.bits % 2 ^ 8)) c.requires.begins
 
 pub reads_whole-requires-then-to-ge6-clause-whole : goal.reads_whole-requires-then-to-ge6-clause-whole
-reads_whole-requires-then-to-ge6-clause-whole c = whole_branch false c.args.wanted (form_of (c.args.reader.now.bits / 2 ^ 56)) c.requires.begins
+reads_whole-requires-then-to-ge6-clause-whole c = whole_branch false c.args.wanted (form_of (c.args.reader.now.bits % 2 ^ 8)) c.requires.begins
 
 pub reader_to-requires-clause-code : goal.reader_to-requires-clause-code
 reader_to-requires-clause-code c = c.requires.stands.code
@@ -89,11 +89,11 @@ returns c =
     let e = c.in-Some-behind.ensures.next (0 + 1) d in
     let f = c.after-next.ensures (0 + 1 + 1) e in
     let op : ℕ → ℕ → Op = λ high low. branch_op false wanted (record { word = high % 32 * 256 + low; syllable = high / 32 }) in
-    let to : Place = record { word = (c.in-Some.second.bits / 2 ^ 56) % 32 * 256 + c.in-Some-behind.third.bits / 2 ^ 56; syllable = (c.in-Some.second.bits / 2 ^ 56) / 32 } in
+    let to : Place = record { word = (c.in-Some.second.bits % 2 ^ 8) % 32 * 256 + c.in-Some-behind.third.bits % 2 ^ 8; syllable = (c.in-Some.second.bits % 2 ^ 8) / 32 } in
     let q = reader_place next in
     let plain = sym c.tag.ensures.value ∙ c.if-tag-ne0.false in
     let way = ap (λ (n : ℕ). beq (n % 2 == 1) wanted) (sym c.bits.ensures.value) ∙ c.if-bits-wanted.false in
-    let read = triple_through old before b op c.in-Some.second c.in-Some-behind.third next (c.in-Some.second.bits / 2 ^ 56) (c.in-Some-behind.third.bits / 2 ^ 56) (branch_op false wanted to) c.requires.begins d e f refl refl refl in
+    let read = triple_through old before b op c.in-Some.second c.in-Some-behind.third next (c.in-Some.second.bits % 2 ^ 8) (c.in-Some-behind.third.bits % 2 ^ 8) (branch_op false wanted to) c.requires.begins d e f refl refl refl in
     let row = c.drop_cells-2.ensures.row in
     let there : c.place.result ≡ q = c.place.ensures in
     branch_made old new before next false wanted to q r b read.reads

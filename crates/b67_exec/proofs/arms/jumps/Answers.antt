@@ -16,13 +16,13 @@ behind-requires-2-clause-stands c =
     (0 + 1, d.behind)
 
 pub reads_whole-requires-clause-whole : goal.reads_whole-requires-clause-whole
-reads_whole-requires-clause-whole c = whole_branch true true (form_of (c.args.reader.now.bits / 2 ^ 56)) c.requires.begins
+reads_whole-requires-clause-whole c = whole_branch true true (form_of (c.args.reader.now.bits % 2 ^ 8)) c.requires.begins
 
 pub reads_whole-requires-in-None-behind-clause-whole : goal.reads_whole-requires-in-None-behind-clause-whole
-reads_whole-requires-in-None-behind-clause-whole c = whole_branch true true (form_of (c.args.reader.now.bits / 2 ^ 56)) c.requires.begins
+reads_whole-requires-in-None-behind-clause-whole c = whole_branch true true (form_of (c.args.reader.now.bits % 2 ^ 8)) c.requires.begins
 
 pub reads_whole-requires-then-to-ge6-clause-whole : goal.reads_whole-requires-then-to-ge6-clause-whole
-reads_whole-requires-then-to-ge6-clause-whole c = whole_branch true true (form_of (c.args.reader.now.bits / 2 ^ 56)) c.requires.begins
+reads_whole-requires-then-to-ge6-clause-whole c = whole_branch true true (form_of (c.args.reader.now.bits % 2 ^ 8)) c.requires.begins
 
 pub reader_to-requires-clause-code : goal.reader_to-requires-clause-code
 reader_to-requires-clause-code c = c.requires.stands.code

@@ -1,4 +1,4 @@
-use Rattle.std.proofs.Common.{ℕ, ◌≡◌, ◌+◌, ◌*◌, ◌/◌, ◌^◌, None, refl, ◌∙◌, arith}
+use Rattle.std.proofs.Common.{ℕ, ◌≡◌, ◌+◌, ◌*◌, ◌%◌, ◌^◌, None, refl, ◌∙◌, arith}
 use Rattle.b67_model.specs.declared.operators.Op.{Op}
 use Rattle.b67_model.specs.declared.operators.Op.TheVariants.{Lt16}
 use Rattle.b67_model.specs.Operators.{TwoMore}
@@ -49,8 +49,8 @@ returns c =
     let d = c.in-Some.ensures.next 0 i in
     let e = c.in-Some-behind.ensures.next (0 + 1) d in
     let f = c.after-next.ensures (0 + 1 + 1) e in
-    let high : c.from.result ≡ second.bits / 2 ^ 56 = c.from.ensures ∙ c.first.ensures in
-    let low : c.from-2.result ≡ third.bits / 2 ^ 56 = c.from-2.ensures ∙ c.first-2.ensures in
+    let high : c.from.result ≡ second.bits % 2 ^ 8 = c.from.ensures ∙ c.first.ensures in
+    let low : c.from-2.result ≡ third.bits % 2 ^ 8 = c.from-2.ensures ∙ c.first-2.ensures in
     let n : ℕ = c.from.result * 256 + c.from-2.result in
     let made : Op = Lt16 n in
     straight_made old new before next c.went_on.new.reader made c.literal-step.result c.went_on.result c.went_on.new.why c.requires.runs b refl

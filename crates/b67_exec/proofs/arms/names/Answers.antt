@@ -1,4 +1,4 @@
-use Rattle.std.proofs.Common.{ℕ, ◌≡◌, ◌+◌, ◌*◌, ◌/◌, ◌^◌, ◌%◌, None, refl, ap, ◌∙◌, arith}
+use Rattle.std.proofs.Common.{ℕ, ◌≡◌, ◌+◌, ◌*◌, ◌^◌, ◌%◌, None, refl, ap, ◌∙◌, arith}
 use Rattle.b67_model.specs.declared.operators.Op.{Op}
 use Rattle.b67_model.specs.declared.operators.Op.TheVariants.{Namc}
 use Rattle.b67_model.specs.Common.{Name, pushes}
@@ -10,7 +10,7 @@ use Rattle.b67_exec.proofs.arms.names.Goals as goal
 
 pub after-next-requires-clause-stands : goal.after-next-requires-clause-stands
 after-next-requires-clause-stands c =
-    let d = c.in-Some.ensures.next 0 (inside_of c.args.cpu.now c.args.reader.now 0 (OneMore (λ low. Namc (c.args.reader.now.bits / 2 ^ 56 % 64 * 256 + low))) c.requires.runs c.requires.stands c.requires.begins) in
+    let d = c.in-Some.ensures.next 0 (inside_of c.args.cpu.now c.args.reader.now 0 (OneMore (λ low. Namc (c.args.reader.now.bits % 2 ^ 8 % 64 * 256 + low))) c.requires.runs c.requires.stands c.requires.begins) in
     (0 + 1, d.behind)
 
 pub returns-in-None : goal.returns-in-None
@@ -18,9 +18,9 @@ returns-in-None c =
     let old = c.args.cpu.now in
     let before = c.args.reader.now in
     let b = c.requires.stands in
-    let op : ℕ → Op = λ low. Namc (before.bits / 2 ^ 56 % 64 * 256 + low) in
+    let op : ℕ → Op = λ low. Namc (before.bits % 2 ^ 8 % 64 * 256 + low) in
     none_near old before c.unread.result c.unread.new.why c.unread.ensures.made c.unread.ensures.is b.code
-    (pair_ends old before b op c.requires.begins (c.behind.ensures.end 0 (inside_of old before 0 (OneMore (λ low. Namc (c.args.reader.now.bits / 2 ^ 56 % 64 * 256 + low))) c.requires.runs b c.requires.begins) c.in-None.is))
+    (pair_ends old before b op c.requires.begins (c.behind.ensures.end 0 (inside_of old before 0 (OneMore (λ low. Namc (c.args.reader.now.bits % 2 ^ 8 % 64 * 256 + low))) c.requires.runs b c.requires.begins) c.in-None.is))
 
 pub namc-step-requires-clause-couple : goal.namc-step-requires-clause-couple
 namc-step-requires-clause-couple c = omega (arith, c.couple-named.ensures, c.first-2.type_inv)
@@ -33,10 +33,10 @@ returns c =
     let second = c.in-Some.second in
     let next = c.after-next.result in
     let b = c.requires.stands in
-    let i = inside_of old before 0 (OneMore (λ low. Namc (c.args.reader.now.bits / 2 ^ 56 % 64 * 256 + low))) c.requires.runs b c.requires.begins in
+    let i = inside_of old before 0 (OneMore (λ low. Namc (c.args.reader.now.bits % 2 ^ 8 % 64 * 256 + low))) c.requires.runs b c.requires.begins in
     let d = c.in-Some.ensures.next 0 i in
     let e = c.after-next.ensures (0 + 1) d in
-    let op : ℕ → Op = λ low. Namc (before.bits / 2 ^ 56 % 64 * 256 + low) in
+    let op : ℕ → Op = λ low. Namc (before.bits % 2 ^ 8 % 64 * 256 + low) in
     let made : Op = Namc c.couple-named.result in
     let is : made ≡ op c.first-2.result = ap Namc (c.couple-named.ensures ∙ ap (λ (z : ℕ). z % 64 * 256 + c.first-2.result) c.first.ensures) in
     straight_made old new before next c.went_on.new.reader made c.namc-step.result c.went_on.result c.went_on.new.why c.requires.runs b refl

@@ -1,4 +1,4 @@
-use Rattle.std.proofs.Common.{ℕ, ◌+◌, ◌*◌, ◌/◌, ◌^◌, ◌%◌, refl, subst}
+use Rattle.std.proofs.Common.{ℕ, ◌+◌, ◌*◌, ◌^◌, ◌%◌, refl, subst}
 use Rattle.b67_model.specs.declared.operators.Op.TheVariants.{Valc, Namc, Lt8, Lt16, Lt48, Mpcw, Brun, Brtr, Brfl}
 use Rattle.b67_model.specs.declared.operators.Code.TheVariants as codes
 use Rattle.b67_model.specs.Operators.{Alone, OneMore, TwoMore, Literal, branch, form_of}
@@ -9,103 +9,103 @@ use Rattle.b67_exec.proofs.Mades.{near_outcome, left_made}
 use Rattle.b67_exec.proofs.arms.operate.Goals as goal
 
 pub names-requires-clause-begins : goal.names-requires-clause-begins
-names-requires-clause-begins c = form_at c.near_of.result nears.Namc c.first.result (c.args.reader.now.bits / 2 ^ 56) (λ top. OneMore (λ low. Namc (top % 64 * 256 + low))) c.near_of.ensures.form c.first.ensures c.in-Namc.is refl
+names-requires-clause-begins c = form_at c.near_of.result nears.Namc c.first.result (c.args.reader.now.bits % 2 ^ 8) (λ top. OneMore (λ low. Namc (top % 64 * 256 + low))) c.near_of.ensures.form c.first.ensures c.in-Namc.is refl
 
 pub literal_8-requires-clause-begins : goal.literal_8-requires-clause-begins
-literal_8-requires-clause-begins c = form_is c.near_of.result nears.Lt8 c.first.result (c.args.reader.now.bits / 2 ^ 56) (OneMore Lt8) c.near_of.ensures.form c.first.ensures c.in-Lt8.is refl
+literal_8-requires-clause-begins c = form_is c.near_of.result nears.Lt8 c.first.result (c.args.reader.now.bits % 2 ^ 8) (OneMore Lt8) c.near_of.ensures.form c.first.ensures c.in-Lt8.is refl
 
 pub literal_16-requires-clause-begins : goal.literal_16-requires-clause-begins
-literal_16-requires-clause-begins c = form_is c.near_of.result nears.Lt16 c.first.result (c.args.reader.now.bits / 2 ^ 56) (TwoMore (λ high low. Lt16 (high * 256 + low))) c.near_of.ensures.form c.first.ensures c.in-Lt16.is refl
+literal_16-requires-clause-begins c = form_is c.near_of.result nears.Lt16 c.first.result (c.args.reader.now.bits % 2 ^ 8) (TwoMore (λ high low. Lt16 (high * 256 + low))) c.near_of.ensures.form c.first.ensures c.in-Lt16.is refl
 
 pub literal_word-requires-clause-begins : goal.literal_word-requires-clause-begins
-literal_word-requires-clause-begins c = form_is c.near_of.result nears.Lt48 c.first.result (c.args.reader.now.bits / 2 ^ 56) (Literal Lt48) c.near_of.ensures.form c.first.ensures c.in-Lt48.is refl
+literal_word-requires-clause-begins c = form_is c.near_of.result nears.Lt48 c.first.result (c.args.reader.now.bits % 2 ^ 8) (Literal Lt48) c.near_of.ensures.form c.first.ensures c.in-Lt48.is refl
 
 pub literal_word-requires-in-Mpcw-clause-begins : goal.literal_word-requires-in-Mpcw-clause-begins
-literal_word-requires-in-Mpcw-clause-begins c = form_is c.near_of.result nears.Mpcw c.first.result (c.args.reader.now.bits / 2 ^ 56) (Literal Mpcw) c.near_of.ensures.form c.first.ensures c.in-Mpcw.is refl
+literal_word-requires-in-Mpcw-clause-begins c = form_is c.near_of.result nears.Mpcw c.first.result (c.args.reader.now.bits % 2 ^ 8) (Literal Mpcw) c.near_of.ensures.form c.first.ensures c.in-Mpcw.is refl
 
 pub alone-requires-clause-begins : goal.alone-requires-clause-begins
-alone-requires-clause-begins c = form_is c.near_of.result nears.Zero c.first.result (c.args.reader.now.bits / 2 ^ 56) (Alone codes.Zero) c.near_of.ensures.form c.first.ensures c.in-Zero.is refl
+alone-requires-clause-begins c = form_is c.near_of.result nears.Zero c.first.result (c.args.reader.now.bits % 2 ^ 8) (Alone codes.Zero) c.near_of.ensures.form c.first.ensures c.in-Zero.is refl
 
 pub alone-requires-in-One-clause-begins : goal.alone-requires-in-One-clause-begins
-alone-requires-in-One-clause-begins c = form_is c.near_of.result nears.One c.first.result (c.args.reader.now.bits / 2 ^ 56) (Alone codes.One) c.near_of.ensures.form c.first.ensures c.in-One.is refl
+alone-requires-in-One-clause-begins c = form_is c.near_of.result nears.One c.first.result (c.args.reader.now.bits % 2 ^ 8) (Alone codes.One) c.near_of.ensures.form c.first.ensures c.in-One.is refl
 
 pub numbers-requires-clause-begins : goal.numbers-requires-clause-begins
-numbers-requires-clause-begins c = form_is c.near_of.result nears.Add c.first.result (c.args.reader.now.bits / 2 ^ 56) (Alone codes.Add) c.near_of.ensures.form c.first.ensures c.in-Add.is refl
+numbers-requires-clause-begins c = form_is c.near_of.result nears.Add c.first.result (c.args.reader.now.bits % 2 ^ 8) (Alone codes.Add) c.near_of.ensures.form c.first.ensures c.in-Add.is refl
 
 pub numbers-requires-in-Subt-clause-begins : goal.numbers-requires-in-Subt-clause-begins
-numbers-requires-in-Subt-clause-begins c = form_is c.near_of.result nears.Subt c.first.result (c.args.reader.now.bits / 2 ^ 56) (Alone codes.Subt) c.near_of.ensures.form c.first.ensures c.in-Subt.is refl
+numbers-requires-in-Subt-clause-begins c = form_is c.near_of.result nears.Subt c.first.result (c.args.reader.now.bits % 2 ^ 8) (Alone codes.Subt) c.near_of.ensures.form c.first.ensures c.in-Subt.is refl
 
 pub numbers-requires-in-Less-clause-begins : goal.numbers-requires-in-Less-clause-begins
-numbers-requires-in-Less-clause-begins c = form_is c.near_of.result nears.Less c.first.result (c.args.reader.now.bits / 2 ^ 56) (Alone codes.Less) c.near_of.ensures.form c.first.ensures c.in-Less.is refl
+numbers-requires-in-Less-clause-begins c = form_is c.near_of.result nears.Less c.first.result (c.args.reader.now.bits % 2 ^ 8) (Alone codes.Less) c.near_of.ensures.form c.first.ensures c.in-Less.is refl
 
 pub numbers-requires-in-Greq-clause-begins : goal.numbers-requires-in-Greq-clause-begins
-numbers-requires-in-Greq-clause-begins c = form_is c.near_of.result nears.Greq c.first.result (c.args.reader.now.bits / 2 ^ 56) (Alone codes.Greq) c.near_of.ensures.form c.first.ensures c.in-Greq.is refl
+numbers-requires-in-Greq-clause-begins c = form_is c.near_of.result nears.Greq c.first.result (c.args.reader.now.bits % 2 ^ 8) (Alone codes.Greq) c.near_of.ensures.form c.first.ensures c.in-Greq.is refl
 
 pub numbers-requires-in-Grtr-clause-begins : goal.numbers-requires-in-Grtr-clause-begins
-numbers-requires-in-Grtr-clause-begins c = form_is c.near_of.result nears.Grtr c.first.result (c.args.reader.now.bits / 2 ^ 56) (Alone codes.Grtr) c.near_of.ensures.form c.first.ensures c.in-Grtr.is refl
+numbers-requires-in-Grtr-clause-begins c = form_is c.near_of.result nears.Grtr c.first.result (c.args.reader.now.bits % 2 ^ 8) (Alone codes.Grtr) c.near_of.ensures.form c.first.ensures c.in-Grtr.is refl
 
 pub numbers-requires-in-Lseq-clause-begins : goal.numbers-requires-in-Lseq-clause-begins
-numbers-requires-in-Lseq-clause-begins c = form_is c.near_of.result nears.Lseq c.first.result (c.args.reader.now.bits / 2 ^ 56) (Alone codes.Lseq) c.near_of.ensures.form c.first.ensures c.in-Lseq.is refl
+numbers-requires-in-Lseq-clause-begins c = form_is c.near_of.result nears.Lseq c.first.result (c.args.reader.now.bits % 2 ^ 8) (Alone codes.Lseq) c.near_of.ensures.form c.first.ensures c.in-Lseq.is refl
 
 pub numbers-requires-in-Equl-clause-begins : goal.numbers-requires-in-Equl-clause-begins
-numbers-requires-in-Equl-clause-begins c = form_is c.near_of.result nears.Equl c.first.result (c.args.reader.now.bits / 2 ^ 56) (Alone codes.Equl) c.near_of.ensures.form c.first.ensures c.in-Equl.is refl
+numbers-requires-in-Equl-clause-begins c = form_is c.near_of.result nears.Equl c.first.result (c.args.reader.now.bits % 2 ^ 8) (Alone codes.Equl) c.near_of.ensures.form c.first.ensures c.in-Equl.is refl
 
 pub numbers-requires-in-Neql-clause-begins : goal.numbers-requires-in-Neql-clause-begins
-numbers-requires-in-Neql-clause-begins c = form_is c.near_of.result nears.Neql c.first.result (c.args.reader.now.bits / 2 ^ 56) (Alone codes.Neql) c.near_of.ensures.form c.first.ensures c.in-Neql.is refl
+numbers-requires-in-Neql-clause-begins c = form_is c.near_of.result nears.Neql c.first.result (c.args.reader.now.bits % 2 ^ 8) (Alone codes.Neql) c.near_of.ensures.form c.first.ensures c.in-Neql.is refl
 
 pub alone-requires-in-Push-clause-begins : goal.alone-requires-in-Push-clause-begins
-alone-requires-in-Push-clause-begins c = form_is c.near_of.result nears.Push c.first.result (c.args.reader.now.bits / 2 ^ 56) (Alone codes.Push) c.near_of.ensures.form c.first.ensures c.in-Push.is refl
+alone-requires-in-Push-clause-begins c = form_is c.near_of.result nears.Push c.first.result (c.args.reader.now.bits % 2 ^ 8) (Alone codes.Push) c.near_of.ensures.form c.first.ensures c.in-Push.is refl
 
 pub alone-requires-in-Dlet-clause-begins : goal.alone-requires-in-Dlet-clause-begins
-alone-requires-in-Dlet-clause-begins c = form_is c.near_of.result nears.Dlet c.first.result (c.args.reader.now.bits / 2 ^ 56) (Alone codes.Dlet) c.near_of.ensures.form c.first.ensures c.in-Dlet.is refl
+alone-requires-in-Dlet-clause-begins c = form_is c.near_of.result nears.Dlet c.first.result (c.args.reader.now.bits % 2 ^ 8) (Alone codes.Dlet) c.near_of.ensures.form c.first.ensures c.in-Dlet.is refl
 
 pub alone-requires-in-Exch-clause-begins : goal.alone-requires-in-Exch-clause-begins
-alone-requires-in-Exch-clause-begins c = form_is c.near_of.result nears.Exch c.first.result (c.args.reader.now.bits / 2 ^ 56) (Alone codes.Exch) c.near_of.ensures.form c.first.ensures c.in-Exch.is refl
+alone-requires-in-Exch-clause-begins c = form_is c.near_of.result nears.Exch c.first.result (c.args.reader.now.bits % 2 ^ 8) (Alone codes.Exch) c.near_of.ensures.form c.first.ensures c.in-Exch.is refl
 
 pub alone-requires-in-Dupl-clause-begins : goal.alone-requires-in-Dupl-clause-begins
-alone-requires-in-Dupl-clause-begins c = form_is c.near_of.result nears.Dupl c.first.result (c.args.reader.now.bits / 2 ^ 56) (Alone codes.Dupl) c.near_of.ensures.form c.first.ensures c.in-Dupl.is refl
+alone-requires-in-Dupl-clause-begins c = form_is c.near_of.result nears.Dupl c.first.result (c.args.reader.now.bits % 2 ^ 8) (Alone codes.Dupl) c.near_of.ensures.form c.first.ensures c.in-Dupl.is refl
 
 pub branches-requires-clause-begins : goal.branches-requires-clause-begins
-branches-requires-clause-begins c = form_is c.near_of.result nears.Brfl c.first.result (c.args.reader.now.bits / 2 ^ 56) (branch Brfl) c.near_of.ensures.form c.first.ensures c.in-Brfl.is refl
+branches-requires-clause-begins c = form_is c.near_of.result nears.Brfl c.first.result (c.args.reader.now.bits % 2 ^ 8) (branch Brfl) c.near_of.ensures.form c.first.ensures c.in-Brfl.is refl
 
 pub branches-requires-in-Brtr-clause-begins : goal.branches-requires-in-Brtr-clause-begins
-branches-requires-in-Brtr-clause-begins c = form_is c.near_of.result nears.Brtr c.first.result (c.args.reader.now.bits / 2 ^ 56) (branch Brtr) c.near_of.ensures.form c.first.ensures c.in-Brtr.is refl
+branches-requires-in-Brtr-clause-begins c = form_is c.near_of.result nears.Brtr c.first.result (c.args.reader.now.bits % 2 ^ 8) (branch Brtr) c.near_of.ensures.form c.first.ensures c.in-Brtr.is refl
 
 pub jumps-requires-clause-begins : goal.jumps-requires-clause-begins
-jumps-requires-clause-begins c = form_is c.near_of.result nears.Brun c.first.result (c.args.reader.now.bits / 2 ^ 56) (branch Brun) c.near_of.ensures.form c.first.ensures c.in-Brun.is refl
+jumps-requires-clause-begins c = form_is c.near_of.result nears.Brun c.first.result (c.args.reader.now.bits % 2 ^ 8) (branch Brun) c.near_of.ensures.form c.first.ensures c.in-Brun.is refl
 
 pub computes-requires-clause-begins : goal.computes-requires-clause-begins
-computes-requires-clause-begins c = form_is c.near_of.result (nears.Far c.in-Far.code) c.first.result (c.args.reader.now.bits / 2 ^ 56) (Alone c.in-Far.code) c.near_of.ensures.form c.first.ensures c.in-Far.is refl
+computes-requires-clause-begins c = form_is c.near_of.result (nears.Far c.in-Far.code) c.first.result (c.args.reader.now.bits % 2 ^ 8) (Alone c.in-Far.code) c.near_of.ensures.form c.first.ensures c.in-Far.is refl
 
 pub computes-requires-clause-top : goal.computes-requires-clause-top
 computes-requires-clause-top c = c.near_of.ensures.far c.in-Far.code c.in-Far.is
 
 pub evaluates-requires-clause-begins : goal.evaluates-requires-clause-begins
-evaluates-requires-clause-begins c = form_at c.near_of.result nears.Valc c.first.result (c.args.reader.now.bits / 2 ^ 56) (λ top. OneMore (λ low. Valc (top % 64 * 256 + low))) c.near_of.ensures.form c.first.ensures c.in-Valc.is refl
+evaluates-requires-clause-begins c = form_at c.near_of.result nears.Valc c.first.result (c.args.reader.now.bits % 2 ^ 8) (λ top. OneMore (λ low. Valc (top % 64 * 256 + low))) c.near_of.ensures.form c.first.ensures c.in-Valc.is refl
 
 pub stays-requires-clause-begins : goal.stays-requires-clause-begins
-stays-requires-clause-begins c = form_is c.near_of.result nears.Indx c.first.result (c.args.reader.now.bits / 2 ^ 56) (Alone codes.Indx) c.near_of.ensures.form c.first.ensures c.in-Indx.is refl
+stays-requires-clause-begins c = form_is c.near_of.result nears.Indx c.first.result (c.args.reader.now.bits % 2 ^ 8) (Alone codes.Indx) c.near_of.ensures.form c.first.ensures c.in-Indx.is refl
 
 pub stays-requires-in-Nxlv-clause-begins : goal.stays-requires-in-Nxlv-clause-begins
-stays-requires-in-Nxlv-clause-begins c = form_is c.near_of.result nears.Nxlv c.first.result (c.args.reader.now.bits / 2 ^ 56) (Alone codes.Nxlv) c.near_of.ensures.form c.first.ensures c.in-Nxlv.is refl
+stays-requires-in-Nxlv-clause-begins c = form_is c.near_of.result nears.Nxlv c.first.result (c.args.reader.now.bits % 2 ^ 8) (Alone codes.Nxlv) c.near_of.ensures.form c.first.ensures c.in-Nxlv.is refl
 
 pub stays-requires-in-Mkst-clause-begins : goal.stays-requires-in-Mkst-clause-begins
-stays-requires-in-Mkst-clause-begins c = form_is c.near_of.result nears.Mkst c.first.result (c.args.reader.now.bits / 2 ^ 56) (Alone codes.Mkst) c.near_of.ensures.form c.first.ensures c.in-Mkst.is refl
+stays-requires-in-Mkst-clause-begins c = form_is c.near_of.result nears.Mkst c.first.result (c.args.reader.now.bits % 2 ^ 8) (Alone codes.Mkst) c.near_of.ensures.form c.first.ensures c.in-Mkst.is refl
 
 pub stays-requires-in-Stff-clause-begins : goal.stays-requires-in-Stff-clause-begins
-stays-requires-in-Stff-clause-begins c = form_is c.near_of.result nears.Stff c.first.result (c.args.reader.now.bits / 2 ^ 56) (Alone codes.Stff) c.near_of.ensures.form c.first.ensures c.in-Stff.is refl
+stays-requires-in-Stff-clause-begins c = form_is c.near_of.result nears.Stff c.first.result (c.args.reader.now.bits % 2 ^ 8) (Alone codes.Stff) c.near_of.ensures.form c.first.ensures c.in-Stff.is refl
 
 pub stores-requires-clause-begins : goal.stores-requires-clause-begins
-stores-requires-clause-begins c = form_is c.near_of.result nears.Stod c.first.result (c.args.reader.now.bits / 2 ^ 56) (Alone codes.Stod) c.near_of.ensures.form c.first.ensures c.in-Stod.is refl
+stores-requires-clause-begins c = form_is c.near_of.result nears.Stod c.first.result (c.args.reader.now.bits % 2 ^ 8) (Alone codes.Stod) c.near_of.ensures.form c.first.ensures c.in-Stod.is refl
 
 pub stores-requires-in-Ston-clause-begins : goal.stores-requires-in-Ston-clause-begins
-stores-requires-in-Ston-clause-begins c = form_is c.near_of.result nears.Ston c.first.result (c.args.reader.now.bits / 2 ^ 56) (Alone codes.Ston) c.near_of.ensures.form c.first.ensures c.in-Ston.is refl
+stores-requires-in-Ston-clause-begins c = form_is c.near_of.result nears.Ston c.first.result (c.args.reader.now.bits % 2 ^ 8) (Alone codes.Ston) c.near_of.ensures.form c.first.ensures c.in-Ston.is refl
 
 pub loads-requires-clause-begins : goal.loads-requires-clause-begins
-loads-requires-clause-begins c = form_is c.near_of.result nears.Load c.first.result (c.args.reader.now.bits / 2 ^ 56) (Alone codes.Load) c.near_of.ensures.form c.first.ensures c.in-Load.is refl
+loads-requires-clause-begins c = form_is c.near_of.result nears.Load c.first.result (c.args.reader.now.bits % 2 ^ 8) (Alone codes.Load) c.near_of.ensures.form c.first.ensures c.in-Load.is refl
 
 pub enters-requires-clause-begins : goal.enters-requires-clause-begins
-enters-requires-clause-begins c = form_is c.near_of.result nears.Entr c.first.result (c.args.reader.now.bits / 2 ^ 56) (Alone codes.Entr) c.near_of.ensures.form c.first.ensures c.in-Entr.is refl
+enters-requires-clause-begins c = form_is c.near_of.result nears.Entr c.first.result (c.args.reader.now.bits % 2 ^ 8) (Alone codes.Entr) c.near_of.ensures.form c.first.ensures c.in-Entr.is refl
 
 -- ---- what was made
 
@@ -184,12 +184,12 @@ returns-in-Stff c = near_outcome c.args.cpu.now c.stays-in-Stff.new.cpu c.args.r
 pub returns-in-Exit : goal.returns-in-Exit
 returns-in-Exit c =
     left_made c.args.cpu.now c.exits.new.cpu c.args.reader.now codes.Exit c.exits.result c.requires.stands
-    (form_is c.near_of.result nears.Exit c.first.result (c.args.reader.now.bits / 2 ^ 56) (Alone codes.Exit) c.near_of.ensures.form c.first.ensures c.in-Exit.is refl) refl c.exits.new.why c.exits.ensures
+    (form_is c.near_of.result nears.Exit c.first.result (c.args.reader.now.bits % 2 ^ 8) (Alone codes.Exit) c.near_of.ensures.form c.first.ensures c.in-Exit.is refl) refl c.exits.new.why c.exits.ensures
 
 pub returns-in-Retn : goal.returns-in-Retn
 returns-in-Retn c =
     left_made c.args.cpu.now c.exits-in-Retn.new.cpu c.args.reader.now codes.Retn c.exits-in-Retn.result c.requires.stands
-    (form_is c.near_of.result nears.Retn c.first.result (c.args.reader.now.bits / 2 ^ 56) (Alone codes.Retn) c.near_of.ensures.form c.first.ensures c.in-Retn.is refl) refl c.exits-in-Retn.new.why c.exits-in-Retn.ensures
+    (form_is c.near_of.result nears.Retn c.first.result (c.args.reader.now.bits % 2 ^ 8) (Alone codes.Retn) c.near_of.ensures.form c.first.ensures c.in-Retn.is refl) refl c.exits-in-Retn.new.why c.exits-in-Retn.ensures
 
 pub reads_whole-requires-clause-whole : goal.reads_whole-requires-clause-whole
 reads_whole-requires-clause-whole c = subst (λ (z : ℕ). BeginsWhole (form_of z)) c.first.ensures (c.near_of.ensures.whole c.in-Other.is)

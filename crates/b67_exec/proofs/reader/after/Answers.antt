@@ -14,7 +14,7 @@ returns-then-r-lt5 c = λ n i.
       in_word = b.in_word;
       at = λ x plan s m t ordered h runs.
           let same = words-are x c.args.cpu.now plan s m t ordered h runs c.args.r.code (b.code x plan s m t ordered h runs) in
-          stepped c.args.r (code_of m.constants t.segment) (count_at t.place + n) (b.at x plan s m t ordered h runs) (omega (arith, same, i.inside)) c.if-r-lt5.true (count_at t.place + (n + 1)) (omega arith);
+          stepped c.args.r (code_of m.constants t.segment) (count_at t.place + n) (b.at x plan s m t ordered h runs) (omega (arith, same, i.inside)) c.if-r-lt5.true c.rotate_left.result c.rotate_left.ensures (count_at t.place + (n + 1)) (omega arith);
     }
 
 pub overflow_add-r : goal.overflow_add-r

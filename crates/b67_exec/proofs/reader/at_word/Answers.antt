@@ -11,4 +11,4 @@ returns-then-from-code-clause-at c = λ x plan s m t ordered h runs.
 pub returns-clause-at : goal.returns-clause-at
 returns-clause-at c = λ x plan s m t ordered h runs.
     let same = words-are x c.args.cpu.now plan s m t ordered h runs c.args.code (c.requires.code x plan s m t ordered h runs) in
-    opened c.args.code (code_of m.constants t.segment) c.args.word c.loaded.result (omega (arith, same, c.if-from-code.false, c.from.ensures)) (c.loaded.ensures x plan s m t ordered h runs) c.loaded.type_inv
+    opened c.args.code (code_of m.constants t.segment) c.args.word c.loaded.result (omega (arith, same, c.if-from-code.false, c.from.ensures)) (c.loaded.ensures x plan s m t ordered h runs)

@@ -13,7 +13,7 @@ returns-then-r-lt5-clause-next c = λ n i.
         in_word = b.in_word;
         at = λ x plan s m t ordered h runs.
             let same = words-are x c.args.cpu.now plan s m t ordered h runs c.args.r.code (b.code x plan s m t ordered h runs) in
-            stepped c.args.r (code_of m.constants t.segment) (count_at t.place + n) (b.at x plan s m t ordered h runs) (omega (arith, same, i.inside)) c.if-r-lt5.true (count_at t.place + (n + 1)) (omega arith);
+            stepped c.args.r (code_of m.constants t.segment) (count_at t.place + n) (b.at x plan s m t ordered h runs) (omega (arith, same, i.inside)) c.if-r-lt5.true c.rotate_left.result c.rotate_left.ensures (count_at t.place + (n + 1)) (omega arith);
       };
       inside = i.inside;
     }
@@ -36,7 +36,7 @@ returns-clause-next c = λ n i.
         at = λ x plan s m t ordered h runs.
             let same = words-are x c.args.cpu.now plan s m t ordered h runs c.args.r.code (b.code x plan s m t ordered h runs) in
             crossed c.args.r (code_of m.constants t.segment) (count_at t.place + n) (b.at x plan s m t ordered h runs) (omega (arith, c.if-r-lt5.false)) (omega (arith, same, c.if-from-r.false, c.from.ensures))
-            c.loaded.result (c.loaded.ensures x plan s m t ordered h runs) c.loaded.type_inv (count_at t.place + (n + 1)) (omega arith);
+            c.loaded.result (c.loaded.ensures x plan s m t ordered h runs) (count_at t.place + (n + 1)) (omega arith);
       };
       inside = omega (arith, c.if-from-r.false, c.from.ensures);
     }

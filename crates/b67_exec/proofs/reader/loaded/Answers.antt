@@ -1,21 +1,12 @@
-use Rattle.std.proofs.Common.{arith, ap, ◌∙◌, get_or}
-use Rattle.b67_exec.proofs.Readers.{word-in, in-core, range-long}
+use Rattle.std.proofs.Common.{◌+◌, ◌*◌, ◌%◌, ◌^◌, ap, ◌∙◌}
+use Rattle.std.specs.Prelude.{slice_index}
+use Rattle.std.specs.Int.{w64, rotate_left}
+use Rattle.b67_model.specs.Common.{code_of}
+use Rattle.b67_exec.specs.Near.{syllables_of}
 use Rattle.b67_exec.proofs.reader.loaded.Goals as goal
 
-pub words-words-requires : goal.words-words-requires
-words-words-requires c =
-    let q = c.requires.runs in
-    in-core q.storage c.args.cpu.now q.plan q.session q.member q.task q.ordered q.stands q.running c.args.code (c.requires.code q.storage q.plan q.session q.member q.task q.ordered q.stands q.running)
-
-pub bounds-words-from : goal.bounds-words-from
-bounds-words-from c =
-    let q = c.requires.runs in
-    let n = range-long q.storage c.args.cpu.now q.plan q.session q.member q.task q.ordered q.stands q.running c.args.code (c.requires.code q.storage q.plan q.session q.member q.task q.ordered q.stands q.running) c.words-words.result.now c.words-words.ensures in
-    omega (arith, n, c.from.ensures, c.requires.inside)
-
 pub returns : goal.returns
+unfolding syllables_of
 returns c = λ x plan s m t ordered h runs.
-    let w = c.index-words-from.result in
-    let got = c.index-words-from.is ∙ ap (λ i. get_or c.words-words.result.now i w) c.from.ensures in
-    let is = word-in x c.args.cpu.now plan s m t ordered h runs c.args.code (c.requires.code x plan s m t ordered h runs) c.words-words.result.now c.args.word w c.words-words.ensures c.requires.inside got in
-    omega (arith, is, c.bits.ensures.value, c.bits.ensures.small)
+    c.rotate_left.ensures ∙ ap (λ z. rotate_left w64 (z * 2 ^ 16 % 2 ^ 64) (8 + 8 * c.from.result)) (c.word_at-word.ensures.word x plan s m t ordered h runs)
+    ∙ ap (λ z. rotate_left w64 (slice_index (code_of m.constants t.segment) c.args.at.word * 2 ^ 16 % 2 ^ 64) (8 + 8 * z)) c.from.ensures

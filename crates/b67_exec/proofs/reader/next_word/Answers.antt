@@ -11,14 +11,14 @@ overflow_add-word c =
     let same = words-are q.storage c.args.cpu.now q.plan q.session q.member q.task q.ordered q.stands q.running c.args.r.code (b.code q.storage q.plan q.session q.member q.task q.ordered q.stands q.running) in
     omega (arith, long, same, c.requires.stands.inside)
 
-pub loaded-requires-clause-code : goal.loaded-requires-clause-code
-loaded-requires-clause-code c = c.requires.stands.behind.code
+pub word_at-requires-clause-code : goal.word_at-requires-clause-code
+word_at-requires-clause-code c = c.requires.stands.behind.code
 
 pub returns-clause-word : goal.returns-clause-word
-returns-clause-word c = λ x plan s m t ordered h runs. let e = c.loaded.ensures x plan s m t ordered h runs in omega (arith, e)
+returns-clause-word c = λ x plan s m t ordered h runs. let e = c.word_at.ensures.word x plan s m t ordered h runs in omega (arith, e)
 
 pub returns-clause-small : goal.returns-clause-small
-returns-clause-small c = omega (arith, c.loaded.type_inv)
+returns-clause-small c = c.word_at.ensures.small
 
 pub returns-clause-inside : goal.returns-clause-inside
 returns-clause-inside c = omega (arith, c.if-from-r.false, c.from.ensures)
