@@ -7,6 +7,7 @@ ghost use Rattle.b67_model.specs.declared.operators.Op.TheVariants.{Plain, Valc}
 ghost use Rattle.b67_model.specs.declared.operators.Code.TheVariants as codes;
 ghost use Rattle.b67_layout.specs.Meets.{RunsSome};
 ghost use Rattle.b67_refer.specs.Own.{NamesCell};
+ghost use Rattle.b67_fetch.specs.Stores.{StoresFrom};
 ghost use Rattle.b67_exec.specs.Operators.{is_on_top, store_code};
 ghost use Rattle.b67_exec.specs.Near.{SaysDone};
 ghost use Rattle.b67_exec.specs.Far.{MadeOn, MadeAway, MadeWent, MadeLeaving, SaysOn, SaysAway, SaysMade, ShortlyOn, ShortlyAway, OnShortly, WentShortly, LeavesShortly};
@@ -18,7 +19,7 @@ use crate::short_ways::{indexes_own, takes_own};
 use b67_ctl::Irw;
 use b67_entry::{accident, entr, entr_near, exit, retn};
 use b67_exec_cells::top_cell;
-use b67_fetch::{indx, nxlv, stff, stff_named, store, value};
+use b67_fetch::{indx, nxlv, stff, stff_named, store, store_from, value};
 use b67_model::Code;
 use b67_refer::{End, chase, chase_from, near_place};
 use b67_stack::{Cpu, Step};
@@ -246,6 +247,19 @@ pub(crate) fn makes_store(cpu: &mut Cpu, keeps: bool, next: Place, why: &mut Ste
     match store(cpu, keeps, next) {
         Ok(step) => stayed(step, why),
         Err(cell) => entered(enter(cpu, cell), why),
+    }
+}
+
+/// STOD or STON through the couple on top that names the cell at an address, and what became of it.
+#[inline(never)]
+pub(crate) fn makes_store_from(cpu: &mut Cpu, keeps: bool, near: u32, next: Place) -> Went
+    requires runs { RunsSome cpu.old }
+    requires from { StoresFrom cpu.old near }
+    ensures { WentShortly (Plain (store_code keeps)) next cpu.old result cpu.new }
+{
+    match store_from(cpu, keeps, near, next) {
+        Ok(step) => has_stayed(step),
+        Err(cell) => has_entered(enter(cpu, cell)),
     }
 }
 

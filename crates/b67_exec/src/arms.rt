@@ -23,13 +23,12 @@ use crate::apart::{
 use crate::firsts::{Near, near_of};
 use crate::operators::makes_whole;
 use crate::reader::{Reader, after, at_word, behind, first, next_word, place, reader_to};
-use crate::short_ways::{evaluates_own, loads_own};
+use crate::short_ways::{evaluates_own, loads_own, stores_own};
 use b67_arith::Numeric;
 use b67_entry::mkst;
 use b67_exec_cells::{
     branch_to, dlet, drop_cells, dupl, exch, literal, mpcw, namc, on_numbers, top_cell,
 };
-use b67_fetch::store_near;
 use b67_model::Code;
 use b67_stack::{Cpu, Step};
 use b67_word::{Fault, Place};
@@ -430,7 +429,20 @@ fn loads(cpu: &mut Cpu, reader: &mut Reader, why: &mut Step) -> Made
     goes(went, reader, next)
 }
 
-/// STOD, or STON, which keeps the operand.
+/// STOD, or STON, which keeps the operand, and what became of it: the short way, and then the long one.
+#[inline(always)]
+fn makes_any_store(cpu: &mut Cpu, keeps: bool, next: Place, why: &mut Step) -> Went
+    requires { RunsSome cpu.old }
+    ensures { MadeWent (ops.Plain (store_code keeps)) next cpu.old result cpu.new why.new }
+{
+    match stores_own(cpu, keeps, next) {
+        Went::On => Went::On,
+        Went::Away => Went::Away,
+        Went::Not => makes_store(cpu, keeps, next, why),
+    }
+}
+
+/// STOD or STON.
 #[inline(always)]
 fn stores(cpu: &mut Cpu, reader: &mut Reader, keeps: bool, why: &mut Step) -> Made
     requires runs { RunsSome cpu.old }
@@ -439,11 +451,7 @@ fn stores(cpu: &mut Cpu, reader: &mut Reader, keeps: bool, why: &mut Step) -> Ma
     ensures { Makes cpu.old reader.old result cpu.new reader.new why.new }
 {
     let next = after(cpu, *reader);
-    if store_near(cpu, keeps, place(next)) {
-        *reader = next;
-        return Made::On;
-    }
-    let went = makes_store(cpu, keeps, place(next), why);
+    let went = makes_any_store(cpu, keeps, place(next), why);
     goes(went, reader, next)
 }
 

@@ -1,5 +1,5 @@
 -- The word that is followed among the two top ones, where it leads to a procedure.
-use Rattle.std.proofs.Common.{◌≡◌, ◌≢◌, ℕ, ◌-◌, List, [], ◌∷◌, Some, Result, Ok, ◌∙◌, arith}
+use Rattle.std.proofs.Common.{◌≡◌, ◌≢◌, ℕ, ◌-◌, List, Some, Result, Ok, arith}
 use Rattle.std.specs.List.{slice_get}
 use Rattle.b67_word.specs.Tagged.{Tagged}
 use Rattle.b67_word.specs.declared.couples.Place.{Place}
@@ -13,7 +13,7 @@ use Rattle.b67_refer.specs.RunningContext.{RunningContext, IsShown}
 use Rattle.b67_refer.specs.Cells.{StandsFor}
 use Rattle.b67_refer.specs.Ends.{EndMeets}
 use Rattle.b67_exec_cells.specs.Tops.{GivesTwo}
-use Rattle.b67_fetch.proofs.Words.{Choice}
+use Rattle.b67_fetch.specs.Stores.{Choice}
 
 -- what following a word answers
 abbrev pub Leads : Cpu → Tagged → Result End Fault → Type 0

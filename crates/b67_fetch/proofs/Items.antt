@@ -1,6 +1,6 @@
 -- The element that two words give.
 use Rattle.std.proofs.Common.{◌≡◌, ◌≢◌, ℕ, ◌-◌, ◌<◌, List, [], ◌∷◌, ◌++◌, map, length, Result, Ok, Err, refl, sym, ◌∙◌, ap, arith, false, subst, inl, inr}
-use Rattle.std.specs.Prelude.{◌/◌, ◌%◌, ◌^◌, ◌==◌, ◌&&◌, if◌then◌else◌}
+use Rattle.std.specs.Prelude.{◌^◌}
 use Rattle.std.specs.List.{AllByRecursion}
 use Rattle.std.proofs.lemmas.Bool.Decides.{nat_tests}
 use Rattle.b67_word.specs.Tagged.{Tagged, word}
@@ -20,7 +20,7 @@ use Rattle.b67_exec_cells.specs.Elements.{HasElement, HoldsElement, original_des
 use Rattle.b67_exec_cells.proofs.Arrays.{array_is}
 use Rattle.b67_exec_cells.proofs.Rows.{operand_seen}
 use Rattle.b67_fetch.specs.Fetches.{IsFollowed, MayFollow}
-use Rattle.b67_fetch.proofs.Words.{Choice}
+use Rattle.b67_fetch.specs.Stores.{Choice}
 use Rattle.b67_fetch.specs.Indexes.{FindsArray, index_in, FindsItem, FindsTopItem}
 
 abbrev pair : ℕ → ℕ → Answer (ℕ × ℕ)

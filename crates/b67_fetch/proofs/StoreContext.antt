@@ -14,9 +14,9 @@ use Rattle.b67_refer.specs.Ends.{EndMeets}
 use Rattle.b67_refer.specs.declared.ends.End.{End}
 use Rattle.b67_exec_cells.specs.Tops.{GivesTwo}
 use Rattle.b67_exec_cells.specs.Elements.{HasElement}
-use Rattle.b67_fetch.specs.Stores.{ElementAt}
+use Rattle.b67_fetch.specs.Stores.{Choice, ElementAt}
 use Rattle.b67_fetch.proofs.Values.{here_scene, here_shown, followed_stands}
-use Rattle.b67_fetch.proofs.Words.{Choice, Given, given, is_operand, followed}
+use Rattle.b67_fetch.proofs.Words.{Given, given, is_operand, followed}
 
 module _ (x : Storage) (old : Cpu) (plan : Placement) (s : Session) (m : SessionJob) (t : Task) (o : IsInOrderButCounts s) (h : RepresentsSession x old plan s) (runs : IsRunning plan s.jobs m t) (q : Place) where
   pub record Context (p : Tagged × Tagged) (end : Result End Fault) : Type 0 where

@@ -5,7 +5,7 @@ use Rattle.std.proofs.lemmas.Option.{slice_get_within}
 use Rattle.b67_word.specs.Tagged.{Tagged, word}
 use Rattle.b67_word.specs.declared.couples.Place.{Place}
 use Rattle.b67_word.specs.declared.faults.Fault.{Fault}
-use Rattle.b67_word.specs.declared.faults.Fault.TheVariants.{InvalidOperand, MemoryProtect, StackOverflow}
+use Rattle.b67_word.specs.declared.faults.Fault.TheVariants.{InvalidOperand, MemoryProtect}
 use Rattle.b67_model.specs.Common.{Answer, ◌>>=◌, array, no_array, with_element, in_order, AtCell, AtElement, AtArray, AtProc, AtIntrinsic, follow, Word, Operand, operand, Array, Task, SessionJob, height, with_top_cells, with_task, Session, Done, Goes, cells_of, with_cells, store_at}
 use Rattle.b67_model.specs.Keyed.{keyed}
 use Rattle.b67_model.specs.Chase as Chase
@@ -14,7 +14,6 @@ use Rattle.b67_model.specs.Rows as rows
 use Rattle.b67_stack.specs.declared.Cpu.{Cpu}
 use Rattle.b67_stack.specs.declared.Step.{Step}
 use Rattle.b67_stack.specs.declared.Step.TheVariants as step
-use Rattle.b67_stack.specs.declared.What.TheVariants as what
 use Rattle.b67_stack.specs.Represents.{Storage}
 use Rattle.b67_layout.proofs.Fresh.{running_in_order}
 use Rattle.b67_refer.specs.declared.ends.End.TheVariants as end

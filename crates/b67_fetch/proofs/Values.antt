@@ -6,7 +6,7 @@ use Rattle.b67_word.specs.Tagged.{Tagged}
 use Rattle.b67_word.specs.declared.couples.Place.{Place}
 use Rattle.b67_word.specs.declared.faults.Fault.{Fault}
 use Rattle.b67_word.specs.declared.faults.Fault.TheVariants.{StackOverflow}
-use Rattle.b67_model.specs.Common.{Answer, ◌>>=◌, ◌>>◌, needs, evaluates, is_original, AtCell, AtElement, AtArray, AtProc, AtIntrinsic, follow, Word, Name, Row, Element, Proc, Intrinsic, Frame, Array, Task, Job, SessionJob, top, with_top_cells, height, with_task, Starts, IsSegment, Known, known_of, outer_of, reach_of, FramesInOrder, WordInOrder, Session, Done, Goes, leaves_cells}
+use Rattle.b67_model.specs.Common.{Answer, ◌>>=◌, ◌>>◌, needs, evaluates, is_original, AtCell, AtElement, AtArray, AtProc, AtIntrinsic, follow, Word, Name, Row, Frame, Array, Task, Job, SessionJob, top, with_top_cells, height, with_task, Starts, IsSegment, Known, known_of, outer_of, reach_of, FramesInOrder, WordInOrder, Session, Done, Goes, leaves_cells}
 use Rattle.b67_model.specs.Chase as Chase
 use Rattle.b67_layout.specs.Common.{IsInOrderButCounts, Placement, IsRunning, RepresentsSession, here, TouchedIsPresent, IsTouched, IsMade, FindsAbsent, Meets, RunsSome, area_held, IsWordOf, cells, GivesTop}
 use Rattle.b67_model.specs.Rows as rows

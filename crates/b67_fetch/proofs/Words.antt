@@ -1,5 +1,5 @@
 -- The two top cells: which of them is the operand, and which one is followed.
-use Rattle.std.proofs.Common.{◌≡◌, ◌≢◌, ℕ, ◌-◌, List, [], ◌∷◌, ◌++◌, map, Ok, Err, refl, sym, ◌∙◌, ap, arith, false, inl, inr, ◌⊎◌, subst}
+use Rattle.std.proofs.Common.{◌≡◌, ◌≢◌, ℕ, ◌-◌, List, [], ◌∷◌, ◌++◌, map, Ok, Err, refl, sym, ◌∙◌, ap, arith, false, inl, inr, subst}
 use Rattle.b67_word.specs.Tagged.{Tagged, word}
 use Rattle.b67_word.specs.declared.faults.Fault.TheVariants.{InvalidOperand}
 use Rattle.b67_model.specs.Common.{in_order, End, follow, IsSegment, known_of, outer_of, FramesInOrder, WordInOrder, is_original, Word, Operand, Name, Ref, Row, Element, Original, Proc, Intrinsic, operand, Session, Frame, Task, SessionJob, OperatorContext, top}
@@ -12,10 +12,7 @@ use Rattle.b67_stack.specs.Represents.{Storage}
 use Rattle.b67_layout.proofs.Fresh.{running_in_order}
 use Rattle.b67_exec_cells.specs.Tops.{GivesTwo, NoOriginals}
 use Rattle.b67_fetch.specs.Fetches.{IsFollowed}
-
--- which of two words is followed, and which one is stored: the upper one is stored where it is an operand's
-abbrev pub Choice : Tagged × Tagged → Tagged × Tagged → Type 0
-Choice two chosen = ((two.1.tag ≡ 0) × (chosen ≡ two)) ⊎ ((two.1.tag ≢ 0) × (chosen ≡ (two.1, two.0)))
+use Rattle.b67_fetch.specs.Stores.{Choice}
 
 module _ (x : Storage) (plan : Placement) (m : SessionJob) (t : Task) where
   -- a word of tag 0 is an operand's

@@ -1,7 +1,8 @@
 -- Stores through references.
-use Rattle.std.specs.Prelude.{◌≡◌, ◌≢◌, ℕ, ◌+◌, ◌-◌, Bool, true, false, List, [], ◌∷◌, Some, None, Result, Ok, Err, slice_set, slice_get}
+use Rattle.std.specs.Prelude.{◌≡◌, ◌≢◌, ℕ, ◌+◌, ◌-◌, ◌≤◌, ◌⊎◌, Bool, true, false, List, [], ◌∷◌, Some, None, Result, Ok, Err, slice_set, slice_get}
 use Rattle.b67_word.specs.Tagged.{Tagged}
 use Rattle.b67_word.specs.declared.couples.Place.{Place}
+use Rattle.b67_word.specs.declared.faults.Fault.{Fault}
 use Rattle.b67_word.specs.declared.faults.Fault.TheVariants.{StackUnderflow, MemoryProtect}
 use Rattle.b67_model.specs.Common.{Answer, ◌>>=◌, array, in_order, End, follow, Word, operand, SessionJob, OperatorContext}
 use Rattle.b67_stack.specs.declared.Cpu.{Cpu}
@@ -14,7 +15,9 @@ use Rattle.b67_layout.specs.Placement.{Placement}
 use Rattle.b67_layout.specs.Meets.{area_held, ForEach}
 use Rattle.b67_refer.specs.declared.ends.End.{End as EndAt}
 use Rattle.b67_refer.specs.declared.ends.End.TheVariants as end
-use Rattle.b67_refer.specs.Own.{LeadsTo}
+use Rattle.b67_refer.specs.Own.{NamesCell, FollowsTo, LeadsTo}
+use Rattle.b67_layout.specs.Tops.{cells}
+use Rattle.b67_exec_cells.specs.Tops.{GivesTwo}
 use Rattle.b67_exec_cells.specs.Elements.{HasElement}
 
 -- where a number among these cells is to be stored: where the other of the top two leads
@@ -46,6 +49,29 @@ abbrev pub StoresTo : Cpu → EndAt → (at : ℕ) → Type 0
 StoresTo cpu (end.Cell cell) at = cell ≡ at
 StoresTo cpu (end.Element original index) at = ForEach cpu (λ x plan s m t. (n : ℕ) → original ≡ plan.home m.constants.number n → HasElement m.progress.job n index → ElementAt x plan m n original index (Ok at))
 StoresTo cpu _ at = ⊥
+
+-- which of two words is followed, and which one is stored: the upper one is stored where it is an operand's
+abbrev pub Choice : Tagged × Tagged → Tagged × Tagged → Type 0
+Choice two chosen = ((two.1.tag ≡ 0) × (chosen ≡ two)) ⊎ ((two.1.tag ≢ 0) × (chosen ≡ (two.1, two.0)))
+
+-- of the two top words this one is an operand's, and the other one was followed to what was found
+pub record StoresOne (cpu : Cpu) (value : Tagged) (found : Result EndAt Fault) : Type 0 where
+  pub two : Tagged × Tagged
+  pub given : ForEach cpu (λ x plan s m t. GivesTwo x plan m t cpu (cells t) (Ok two))
+  pub above : cpu.regs.f + 2 ≤ cpu.regs.s
+  pub reference : Tagged
+  pub choice : Choice two (reference, value)
+  pub zero : value.tag ≡ 0
+  pub follows : FollowsTo cpu.core cpu.regs cpu.display reference found
+
+-- the top word is a couple over an operand, and names the cell at an address
+pub record StoresFrom (cpu : Cpu) (near : ℕ) : Type 0 where
+  pub two : Tagged × Tagged
+  pub given : ForEach cpu (λ x plan s m t. GivesTwo x plan m t cpu (cells t) (Ok two))
+  pub above : cpu.regs.f + 2 ≤ cpu.regs.s
+  pub operand : two.0.tag ≡ 0
+  pub couple : two.1.tag ≡ 1
+  pub names : NamesCell cpu.core cpu.regs cpu.display two.1 near
 
 -- a store through a word that is no operand's goes to this core address
 pub record StoresThrough (cpu : Cpu) (w : Tagged) (at : ℕ) : Type 0 where

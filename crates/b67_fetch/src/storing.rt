@@ -10,10 +10,10 @@ ghost use Rattle.b67_layout.specs.Meets.{here, RunsSome, ForEach};
 ghost use Rattle.b67_exec_cells.specs.Elements.{HasElement, HoldsElement};
 ghost use Rattle.b67_exec_cells.specs.Tops.{StaysInSegment};
 ghost use Rattle.b67_fetch.specs.Fetches.{enters_at, EntersOrMeets};
-ghost use Rattle.b67_fetch.specs.Stores.{store_end, ElementAt, stored, store_step, CameTo};
+ghost use Rattle.b67_fetch.specs.Stores.{store_end, ElementAt, stored, StoresOne, StoresFrom, store_step, CameTo};
 
 use b67_exec_cells::{array_descriptor, two_cells};
-use b67_refer::{End, chase};
+use b67_refer::{End, chase, chase_from};
 use b67_stack::{Cpu, PROCEDURE, Step, What};
 use b67_word::{Fault, Place, Word};
 
@@ -63,6 +63,54 @@ pub(crate) fn put(cpu: &mut Cpu, at: u32, w: Word, keeps: bool, next: Place)
     cpu.regs.place = next;
 }
 
+/// As `store`, where the operand of the two top cells is this value, and this was found where the other one leads.
+#[inline(always)]
+fn store_to(
+    cpu: &mut Cpu,
+    keeps: bool,
+    value: Word,
+    found: Result<End, Fault>,
+    next: Place,
+) -> Result<Step, u32>
+    requires runs { RunsSome cpu.old }
+    requires one { StoresOne cpu.old value found }
+    ensures row { ForEach cpu.old (λ x plan s m t. let h = here m t next in EntersOrMeets x plan s m (store_step result) cpu.old cpu.new (enters_at (store_end h (cells_of h))) (rows.store keeps h (cells_of h))) }
+    ensures stays { store_step result ≡ Done → StaysInSegment cpu.old cpu.new next }
+    ensures comes { CameTo cpu.new result }
+{
+    let end = match found {
+        Ok(end) => end,
+        Err(fault) => return Ok(Step::Fault(fault)),
+    };
+    let at = match end {
+        End::Cell(at) => at,
+        End::Element { original, index } => match element_address(cpu, original, index) {
+            Ok(at) => at,
+            Err(step) => return Ok(step),
+        },
+        End::Array(_) | End::Intrinsic(_) => {
+            return Ok(Step::Fault(Fault::MemoryProtect));
+        }
+        End::Proc(cell) => return Err(cell),
+    };
+    put(cpu, at, value, keeps, next);
+    Ok(Step::Done)
+}
+
+/// As `store`, where the top cell holds a couple over an operand, and the couple names the cell at an address.
+#[inline(always)]
+pub fn store_from(cpu: &mut Cpu, keeps: bool, near: u32, next: Place) -> Result<Step, u32>
+    requires runs { RunsSome cpu.old }
+    requires from { StoresFrom cpu.old near }
+    ensures row { ForEach cpu.old (λ x plan s m t. let h = here m t next in EntersOrMeets x plan s m (store_step result) cpu.old cpu.new (enters_at (store_end h (cells_of h))) (rows.store keeps h (cells_of h))) }
+    ensures stays { store_step result ≡ Done → StaysInSegment cpu.old cpu.new next }
+    ensures comes { CameTo cpu.new result }
+{
+    let value = cpu.core.get(cpu.regs.s - 1);
+    let found = chase_from(&cpu.core, &cpu.regs, &cpu.display, near);
+    store_to(cpu, keeps, value, found, next)
+}
+
 /// Stores the operand of the two top cells where the other one leads, and takes both off, or only the reference if
 /// the operand is kept. `Ok` is the step. `Err` is the cell of the procedure at which the reference ends, with nothing changed:
 /// the caller then enters it.
@@ -85,23 +133,8 @@ pub fn store(cpu: &mut Cpu, keeps: bool, next: Place) -> Result<Step, u32>
     if value.tag() != 0 {
         return Ok(Step::Fault(Fault::InvalidOperand));
     }
-    let end = match chase(&cpu.core, &cpu.regs, &cpu.display, reference) {
-        Ok(end) => end,
-        Err(fault) => return Ok(Step::Fault(fault)),
-    };
-    let at = match end {
-        End::Cell(at) => at,
-        End::Element { original, index } => match element_address(cpu, original, index) {
-            Ok(at) => at,
-            Err(step) => return Ok(step),
-        },
-        End::Array(_) | End::Intrinsic(_) => {
-            return Ok(Step::Fault(Fault::MemoryProtect));
-        }
-        End::Proc(cell) => return Err(cell),
-    };
-    put(cpu, at, value, keeps, next);
-    Ok(Step::Done)
+    let found = chase(&cpu.core, &cpu.regs, &cpu.display, reference);
+    store_to(cpu, keeps, value, found, next)
 }
 
 /// Stores the operand of the two top cells where the other one leads, takes both off, and goes on at `next`. STACK

@@ -1,5 +1,5 @@
 use Rattle.std.proofs.Common.{sym, ◌∙◌, inl, inr}
-use Rattle.b67_fetch.proofs.Words.{Choice}
+use Rattle.b67_fetch.specs.Stores.{Choice}
 use Rattle.b67_fetch.proofs.Items.{two_followed, fewer, follows_one, chosen_item}
 use Rattle.b67_fetch.proofs.indexing.top_item.Goals.{then-tag-eq0, else-tag-eq0}
 use Rattle.b67_fetch.proofs.indexing.top_item.Goals as goal

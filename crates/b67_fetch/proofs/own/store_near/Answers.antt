@@ -1,5 +1,6 @@
-use Rattle.std.proofs.Common.{◌∙◌, sym, arith}
+use Rattle.std.proofs.Common.{◌≡◌, ℕ, ◌∙◌, sym, subst, arith}
 use Rattle.b67_exec_cells.proofs.Put.{room}
+use Rattle.b67_fetch.specs.Stores.{StoresFrom}
 use Rattle.b67_fetch.proofs.Values.{here_scene, here_shown, followed_stands}
 use Rattle.b67_fetch.proofs.Items.{two_followed}
 use Rattle.b67_fetch.proofs.Owns.{own_inside, own_stored, operand_through, stuffed_through}
@@ -20,15 +21,27 @@ put-requires-clause-at c =
     let q = c.requires in
     own_inside q.storage c.args.cpu.now q.plan q.session q.member q.task q.ordered q.stands q.running c.args.next c.args.keeps c.in-Ok.two.0 c.in-Ok.two.1
     (c.in-Ok.ensures.cells q.storage q.plan q.session q.member q.task q.ordered q.stands q.running) (sym c.tag.ensures.value ∙ c.if-tag-ne0.false) c.near_place-near.result
-    (operand_through c.args.cpu.now c.in-Ok.two.1 c.near_place-near.result (c.near_place-near.ensures.couple c.if-near-ne0.true) (c.near_place-near.ensures.names c.if-near-ne0.true) c.get.result c.get.ensures (sym c.tag-then-near-ne0.ensures.value ∙ c.if-tag-eq0.true))
+    (operand_through c.args.cpu.now c.in-Ok.two.1 c.near_place-near.result (c.near_place-near.ensures.couple c.if-near-ne0.true) (c.near_place-near.ensures.names c.if-near-ne0.true) c.get.result c.get.ensures (sym c.tag-then-near-ne0.ensures.value ∙ c.if-tag-ne0-2.false))
 
 pub put-requires-clause-top : goal.put-requires-clause-top
 put-requires-clause-top c = let r = c.requires in let g = room r.storage c.args.cpu.now r.plan r.session r.member r.task r.ordered r.stands r.running in omega (arith, g.last, g.under, g.inside)
 
-pub returns-then-tag-eq0-clause-row : goal.returns-then-tag-eq0-clause-row
-returns-then-tag-eq0-clause-row c = λ made x plan s m t o h runs.
+pub returns-then-near-ne0-clause-row : goal.returns-then-near-ne0-clause-row
+returns-then-near-ne0-clause-row c = λ made x plan s m t o h runs.
     own_stored x c.args.cpu.now plan s m t o h runs c.args.next c.args.keeps c.in-Ok.two.0 c.in-Ok.two.1 (c.in-Ok.ensures.cells x plan s m t o h runs) (sym c.tag.ensures.value ∙ c.if-tag-ne0.false) c.near_place-near.result
-    (operand_through c.args.cpu.now c.in-Ok.two.1 c.near_place-near.result (c.near_place-near.ensures.couple c.if-near-ne0.true) (c.near_place-near.ensures.names c.if-near-ne0.true) c.get.result c.get.ensures (sym c.tag-then-near-ne0.ensures.value ∙ c.if-tag-eq0.true)) c.in-Ok.ensures.above c.put.new.cpu c.put.ensures
+    (operand_through c.args.cpu.now c.in-Ok.two.1 c.near_place-near.result (c.near_place-near.ensures.couple c.if-near-ne0.true) (c.near_place-near.ensures.names c.if-near-ne0.true) c.get.result c.get.ensures (sym c.tag-then-near-ne0.ensures.value ∙ c.if-tag-ne0-2.false)) c.in-Ok.ensures.above c.put.new.cpu c.put.ensures
+
+pub returns-then-tag-ne0-2-clause-names : goal.returns-then-tag-ne0-2-clause-names
+returns-then-tag-ne0-2-clause-names c = λ near e other.
+    let is : c.near_place-near.result ≡ near = cc in
+    subst (λ (at : ℕ). StoresFrom c.args.cpu.now at) is (record {
+      two = c.in-Ok.two;
+      given = c.in-Ok.ensures.cells;
+      above = c.in-Ok.ensures.above;
+      operand = sym c.tag.ensures.value ∙ c.if-tag-ne0.false;
+      couple = c.near_place-near.ensures.couple c.if-near-ne0.true;
+      names = c.near_place-near.ensures.names c.if-near-ne0.true;
+    })
 
 pub stuffed_operand-stuffed-requires : goal.stuffed_operand-stuffed-requires
 stuffed_operand-stuffed-requires c =
