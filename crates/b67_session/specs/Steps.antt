@@ -11,7 +11,12 @@ use Rattle.b67_session.specs.AttemptStops as stops
 use Rattle.b67_word.specs.declared.faults.Failed.{Failed}
 use Rattle.b67_session_ends.specs.Ends.{Finishes}
 use Rattle.b67_task_switch.specs.Lasting.{BeforeHalt}
+use Rattle.b67_task_switch.specs.declared.counting.Chosen.{Chosen}
 use Rattle.b67_session.specs.Slices.{StandsAt, Prints, PrintsWhole, NextFits, StepsFit, SliceMeets}
+
+-- the task that was chosen, of these parts
+abbrev pub chosen_of : (row job number turn : ℕ) → Chosen
+chosen_of row job number turn = record { row = row; job = job; number = number; turn = turn }
 
 -- a whole step leads from a session to another, and these are its lines
 pub record StepGives (s after : Session) (printed : List RunLine) : Type 0 where

@@ -1,23 +1,27 @@
 //! One step of a session of any jobs and tasks.
 
 ghost use Rattle.std.specs.Prelude.{◌≡◌, ◌≢◌, ℕ, ◌+◌, ◌≤◌, List, Option, None, Err, length};
-ghost use Rattle.b67_model.specs.State.{Task, SessionJob};
+ghost use Rattle.b67_model.specs.Endings.{ends_with};
+ghost use Rattle.b67_model.specs.State.{Condition, Task, SessionJob};
 ghost use Rattle.b67_model.specs.Schedule.{Session};
 ghost use Rattle.b67_layout_storage.specs.Machine.{Says, content_after};
-ghost use Rattle.b67_io.specs.Causes.{Rose};
+ghost use Rattle.b67_io.specs.Causes.{Rose, HasCause};
 ghost use Rattle.b67_law_sessions.specs.Orders.{IsInOrderButLimit};
-ghost use Rattle.b67_law_sessions.specs.Turns.{IsNext};
+ghost use Rattle.b67_law_sessions.specs.Turns.{IsNext, part_of};
 ghost use Rattle.b67_stack.specs.declared.Step.TheVariants.{Done};
 ghost use Rattle.b67_stack.specs.Represents.{Storage};
 ghost use Rattle.b67_exec.specs.Near.{StopsHere};
 ghost use Rattle.b67_layout.specs.Placement.{Placement};
 ghost use Rattle.b67_task_tables.specs.Runs.{Keeps};
 ghost use Rattle.b67_task_tables.specs.Tables.{MachineRepresents};
+ghost use Rattle.b67_task_switch.specs.Counted.{choice_of, CountsHaveRoom};
+ghost use Rattle.b67_session_ends.specs.Closing.{StandsChosen, ChoseSome, Closes};
+ghost use Rattle.b67_session_ends.specs.Holds.{waiting_step, HoldsSo, HoldsSome};
 ghost use Rattle.b67_session_ends.specs.Ends.{StandsBetween};
 ghost use Rattle.b67_session.specs.AttemptStops as stops;
 ghost use Rattle.b67_session.specs.Attempts.{TryLeaves};
 ghost use Rattle.b67_session.specs.Slices.{IsStepDue, StandsAt, IfPresent};
-ghost use Rattle.b67_session.specs.Steps.{EndsStep, Steps};
+ghost use Rattle.b67_session.specs.Steps.{chosen_of, EndsStep, Steps};
 
 use crate::attempting::attempt_told;
 use crate::tries::Tried;
@@ -27,8 +31,9 @@ use b67_io::Sink;
 use b67_mcp::Stop;
 use b67_session_ends::{close, count_one, finish, make_wait};
 use b67_stack::Step;
-use b67_task_switch::choose;
-use b67_task_tables::Machine;
+use b67_task_switch::{Chosen, choose};
+use b67_task_tables::{Machine, TaskState};
+use b67_word::{Ending, Failed};
 
 /// The last part of a step whose operator is counted: the lines of LIMIT, if its job stands at its limit.
 #[inline(always)]
@@ -46,6 +51,60 @@ fn end_step<K: Sink>(machine: &mut Machine, paper: &mut K) -> Result<(), Stop>
         Ok(()) => Ok(()),
         Err(_failed) => Err(Stop::PrintFault),
     }
+}
+
+/// As `close`. The choice comes in parts, so that the loop of steps, which seldom calls this, needs no memory for it.
+#[inline(never)]
+fn ends<K: Sink>(
+    machine: &mut Machine,
+    row: u8,
+    job: u8,
+    number: u32,
+    turn: u32,
+    ending: Ending,
+    paper: &mut K,
+) -> Result<(), Failed>
+    requires row { ChoseSome machine.old (chosen_of row job number turn) }
+    requires room { CountsHaveRoom machine.old.tasks (chosen_of row job number turn) }
+    ensures closes { (x : Storage) (told : Option (List (List ℕ))) (plan : Placement) (s : Session) (m : SessionJob) (t : Task) → StandsChosen x told machine.old plan s m t (chosen_of row job number turn)
+        → Closes K.taken x told plan s (part_of s (choice_of (chosen_of row job number turn)) m t (ends_with m.progress.job t.number ending)) result machine.old machine.new paper.old paper.new }
+    ensures cause { HasCause K.faults paper.old paper.new result }
+    ensures keeps { Keeps machine.old machine.new }
+{
+    let chosen = Chosen {
+        row,
+        job,
+        number,
+        turn,
+    };
+    close(machine, chosen, ending, paper)
+}
+
+/// As `make_wait`, with the choice in parts, too.
+#[inline(never)]
+fn waits<K: Sink>(
+    machine: &mut Machine,
+    row: u8,
+    job: u8,
+    number: u32,
+    turn: u32,
+    state: TaskState,
+    paper: &mut K,
+) -> Result<(), Failed>
+    requires row { HoldsSome machine.old (chosen_of row job number turn) state }
+    requires room { CountsHaveRoom machine.old.tasks (chosen_of row job number turn) }
+    ensures holds { (x : Storage) (told : Option (List (List ℕ))) (plan : Placement) (s : Session) (m : SessionJob) (t : Task) (condition : Condition) → StandsChosen x told machine.old plan s m t (chosen_of row job number turn) → HoldsSo plan m t state condition
+        → Closes K.taken x told plan s (part_of s (choice_of (chosen_of row job number turn)) m t (waiting_step m.progress.job t condition)) result machine.old machine.new paper.old paper.new }
+    ensures cause { HasCause K.faults paper.old paper.new result }
+    ensures keeps { Keeps machine.old machine.new }
+{
+    let chosen = Chosen {
+        row,
+        job,
+        number,
+        turn,
+    };
+    make_wait(machine, chosen, state, paper)
 }
 
 /// Makes one step of a session of which a task lives, with its text printed and its operator counted. After a `Stop` it isn't
@@ -79,11 +138,27 @@ pub(crate) fn step<B: Backing, K: Sink>(
             count_one(&mut machine.tasks, chosen);
             end_step(machine, paper)
         }
-        Ok(Tried::Ends(ending)) => match close(machine, chosen, ending, paper) {
+        Ok(Tried::Ends(ending)) => match ends(
+            machine,
+            chosen.row,
+            chosen.job,
+            chosen.number,
+            chosen.turn,
+            ending,
+            paper,
+        ) {
             Ok(()) => end_step(machine, paper),
             Err(_failed) => Err(Stop::PrintFault),
         },
-        Ok(Tried::Waits(state)) => match make_wait(machine, chosen, state, paper) {
+        Ok(Tried::Waits(state)) => match waits(
+            machine,
+            chosen.row,
+            chosen.job,
+            chosen.number,
+            chosen.turn,
+            state,
+            paper,
+        ) {
             Ok(()) => end_step(machine, paper),
             Err(_failed) => Err(Stop::PrintFault),
         },

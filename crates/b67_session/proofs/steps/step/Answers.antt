@@ -79,117 +79,117 @@ returns-in-Ok-Made-clause-leaves g c = record {
   served = c.attempt_told.ensures.leaves.served;
 }
 
-pub close-requires-clause-row : goal.close-requires-clause-row
-close-requires-clause-row g c =
+pub ends-requires-clause-row : goal.ends-requires-clause-row
+ends-requires-clause-row g c =
     let l = c.requires.due.lives.some in
-    ending_chose c.in-Ok-Ends.ending (tries_as c.attempt_told.result (Ok (tries.Ends c.in-Ok-Ends.ending)) (c.in-Ok-Ends.is ∙ ap (λ (z : Tried). Ok z) c.in-Ok-Ends.field-0-is) (context g (goal.at.close-requires-clause-row g c).After-attempt_told)) l.said l.session l.says l.stands
+    ending_chose c.in-Ok-Ends.ending (tries_as c.attempt_told.result (Ok (tries.Ends c.in-Ok-Ends.ending)) (c.in-Ok-Ends.is ∙ ap (λ (z : Tried). Ok z) c.in-Ok-Ends.field-0-is) (context g (goal.at.ends-requires-clause-row g c).After-attempt_told)) l.said l.session l.says l.stands
 
-pub close-requires-clause-room : goal.close-requires-clause-room
-close-requires-clause-room g c =
+pub ends-requires-clause-room : goal.ends-requires-clause-room
+ends-requires-clause-room g c =
     let l = c.requires.due.lives.some in
-    let x = (tries_as c.attempt_told.result (Ok (tries.Ends c.in-Ok-Ends.ending)) (c.in-Ok-Ends.is ∙ ap (λ (z : Tried). Ok z) c.in-Ok-Ends.field-0-is) (context g (goal.at.close-requires-clause-room g c).After-attempt_told)) in
+    let x = (tries_as c.attempt_told.result (Ok (tries.Ends c.in-Ok-Ends.ending)) (c.in-Ok-Ends.is ∙ ap (λ (z : Tried). Ok z) c.in-Ok-Ends.field-0-is) (context g (goal.at.ends-requires-clause-room g c).After-attempt_told)) in
     close_counts (tries.Ends c.in-Ok-Ends.ending) x x.stay l.said l.session l.says l.stands (ending_made c.in-Ok-Ends.ending x l.said l.session l.says l.stands) (ending_so c.in-Ok-Ends.ending x l.said l.session l.says l.stands)
 
 pub end_step-requires-in-Ok : goal.end_step-requires-in-Ok
 end_step-requires-in-Ok g c =
     let l = c.requires.due.lives.some in
     let x = (tries_as c.attempt_told.result (Ok (tries.Ends c.in-Ok-Ends.ending)) (c.in-Ok-Ends.is ∙ ap (λ (z : Tried). Ok z) c.in-Ok-Ends.field-0-is) (context g (goal.at.end_step-requires-in-Ok g c).After-attempt_told)) in
-    closed_between (tries.Ends c.in-Ok-Ends.ending) x x.stay l.said l.session l.says l.stands (ending_made c.in-Ok-Ends.ending x l.said l.session l.says l.stands) (ending_so c.in-Ok-Ends.ending x l.said l.session l.says l.stands) c.close.new.machine c.close.new.paper (ending_closes c.in-Ok-Ends.ending x l.said l.session l.says l.stands (Ok tt) c.close.new.machine c.close.new.paper c.in-Ok.ensures.closes)
+    closed_between (tries.Ends c.in-Ok-Ends.ending) x x.stay l.said l.session l.says l.stands (ending_made c.in-Ok-Ends.ending x l.said l.session l.says l.stands) (ending_so c.in-Ok-Ends.ending x l.said l.session l.says l.stands) c.ends.new.machine c.ends.new.paper (ending_closes c.in-Ok-Ends.ending x l.said l.session l.says l.stands (Ok tt) c.ends.new.machine c.ends.new.paper c.in-Ok.ensures.closes)
 
 pub returns-in-Ok-clause-row : goal.returns-in-Ok-clause-row
 returns-in-Ok-clause-row g c = λ said s says h.
     (let x = (tries_as c.attempt_told.result (Ok (tries.Ends c.in-Ok-Ends.ending)) (c.in-Ok-Ends.is ∙ ap (λ (z : Tried). Ok z) c.in-Ok-Ends.field-0-is) (context g (goal.at.returns-in-Ok-clause-row g c).After-attempt_told)) in
-    closed_row (tries.Ends c.in-Ok-Ends.ending) x x.stay said s says h (ending_made c.in-Ok-Ends.ending x said s says h) (ending_so c.in-Ok-Ends.ending x said s says h) c.close.new.machine c.close.new.paper (ending_closes c.in-Ok-Ends.ending x said s says h (Ok tt) c.close.new.machine c.close.new.paper c.in-Ok.ensures.closes) c.end_step-in-Ok.result c.end_step-in-Ok.new.machine c.end_step-in-Ok.new.paper c.end_step-in-Ok.ensures.finishes c.end_step-in-Ok.ensures.tasks)
+    closed_row (tries.Ends c.in-Ok-Ends.ending) x x.stay said s says h (ending_made c.in-Ok-Ends.ending x said s says h) (ending_so c.in-Ok-Ends.ending x said s says h) c.ends.new.machine c.ends.new.paper (ending_closes c.in-Ok-Ends.ending x said s says h (Ok tt) c.ends.new.machine c.ends.new.paper c.in-Ok.ensures.closes) c.end_step-in-Ok.result c.end_step-in-Ok.new.machine c.end_step-in-Ok.new.paper c.end_step-in-Ok.ensures.finishes c.end_step-in-Ok.ensures.tasks)
 
 pub returns-in-Ok-clause-present : goal.returns-in-Ok-clause-present
 returns-in-Ok-clause-present g c = λ said s m t says h next.
     (let x = (tries_as c.attempt_told.result (Ok (tries.Ends c.in-Ok-Ends.ending)) (c.in-Ok-Ends.is ∙ ap (λ (z : Tried). Ok z) c.in-Ok-Ends.field-0-is) (context g (goal.at.returns-in-Ok-clause-present g c).After-attempt_told)) in
-    closed_present (tries.Ends c.in-Ok-Ends.ending) x x.stay said s says h (ending_made c.in-Ok-Ends.ending x said s says h) (ending_so c.in-Ok-Ends.ending x said s says h) c.close.new.machine c.close.new.paper (ending_closes c.in-Ok-Ends.ending x said s says h (Ok tt) c.close.new.machine c.close.new.paper c.in-Ok.ensures.closes) c.end_step-in-Ok.result c.end_step-in-Ok.new.machine c.end_step-in-Ok.new.paper c.end_step-in-Ok.ensures.finishes (λ e. let b : ⊥ = cc in b)
-    (λ wants. ending_leaves c.in-Ok-Ends.ending x said s says h wants c.close.new.machine c.close.new.paper c.in-Ok.ensures.closes c.end_step-in-Ok.result c.end_step-in-Ok.new.machine c.end_step-in-Ok.new.paper c.end_step-in-Ok.ensures.finishes) m t next)
+    closed_present (tries.Ends c.in-Ok-Ends.ending) x x.stay said s says h (ending_made c.in-Ok-Ends.ending x said s says h) (ending_so c.in-Ok-Ends.ending x said s says h) c.ends.new.machine c.ends.new.paper (ending_closes c.in-Ok-Ends.ending x said s says h (Ok tt) c.ends.new.machine c.ends.new.paper c.in-Ok.ensures.closes) c.end_step-in-Ok.result c.end_step-in-Ok.new.machine c.end_step-in-Ok.new.paper c.end_step-in-Ok.ensures.finishes (λ e. let b : ⊥ = cc in b)
+    (λ wants. ending_leaves c.in-Ok-Ends.ending x said s says h wants c.ends.new.machine c.ends.new.paper c.in-Ok.ensures.closes c.end_step-in-Ok.result c.end_step-in-Ok.new.machine c.end_step-in-Ok.new.paper c.end_step-in-Ok.ensures.finishes) m t next)
 
 pub returns-in-Ok-clause-leaves : goal.returns-in-Ok-clause-leaves
 returns-in-Ok-clause-leaves g c = record {
-  causes = step_causes g.B.Backing.faults g.K.Sink.faults c.args.backing.now c.attempt_told.new.backing c.args.paper.now c.close.new.paper c.end_step-in-Ok.new.paper c.end_step-in-Ok.result (omega (arith, c.attempt_told.ensures.leaves.causes.printer.later, c.close.ensures.cause.later)) c.end_step-in-Ok.ensures.later c.end_step-in-Ok.ensures.cause c.end_step-in-Ok.ensures.other;
+  causes = step_causes g.B.Backing.faults g.K.Sink.faults c.args.backing.now c.attempt_told.new.backing c.args.paper.now c.ends.new.paper c.end_step-in-Ok.new.paper c.end_step-in-Ok.result (omega (arith, c.attempt_told.ensures.leaves.causes.printer.later, c.ends.ensures.cause.later)) c.end_step-in-Ok.ensures.later c.end_step-in-Ok.ensures.cause c.end_step-in-Ok.ensures.other;
   kept =
       let a = (goal.at.returns-in-Ok-clause-leaves g c).After-attempt_told in
-      keeps_then c.args.machine.now c.close.new.machine c.end_step-in-Ok.new.machine (keeps_then c.args.machine.now c.attempt_told.new.machine c.close.new.machine (kept g a) c.close.ensures.keeps) c.end_step-in-Ok.ensures.keeps;
+      keeps_then c.args.machine.now c.ends.new.machine c.end_step-in-Ok.new.machine (keeps_then c.args.machine.now c.attempt_told.new.machine c.ends.new.machine (kept g a) c.ends.ensures.keeps) c.end_step-in-Ok.ensures.keeps;
   served = c.attempt_told.ensures.leaves.served;
 }
 
-pub returns-in-Err-close-clause-row : goal.returns-in-Err-close-clause-row
-returns-in-Err-close-clause-row g c = λ said s says h.
-    (let x = (tries_as c.attempt_told.result (Ok (tries.Ends c.in-Ok-Ends.ending)) (c.in-Ok-Ends.is ∙ ap (λ (z : Tried). Ok z) c.in-Ok-Ends.field-0-is) (context g (goal.at.returns-in-Err-close-clause-row g c).After-attempt_told)) in
-    cut_row (tries.Ends c.in-Ok-Ends.ending) x x.stay said s says h (ending_made c.in-Ok-Ends.ending x said s says h) (ending_so c.in-Ok-Ends.ending x said s says h) c.in-Err-close._failed c.close.new.machine c.close.new.paper c.requires.due.before_halt (halted g (goal.at.returns-in-Err-close-clause-row g c).After-attempt_told) (ending_closes c.in-Ok-Ends.ending x said s says h (Err c.in-Err-close._failed) c.close.new.machine c.close.new.paper c.in-Err-close.ensures.closes))
+pub returns-in-Err-ends-clause-row : goal.returns-in-Err-ends-clause-row
+returns-in-Err-ends-clause-row g c = λ said s says h.
+    (let x = (tries_as c.attempt_told.result (Ok (tries.Ends c.in-Ok-Ends.ending)) (c.in-Ok-Ends.is ∙ ap (λ (z : Tried). Ok z) c.in-Ok-Ends.field-0-is) (context g (goal.at.returns-in-Err-ends-clause-row g c).After-attempt_told)) in
+    cut_row (tries.Ends c.in-Ok-Ends.ending) x x.stay said s says h (ending_made c.in-Ok-Ends.ending x said s says h) (ending_so c.in-Ok-Ends.ending x said s says h) c.in-Err-ends._failed c.ends.new.machine c.ends.new.paper c.requires.due.before_halt (halted g (goal.at.returns-in-Err-ends-clause-row g c).After-attempt_told) (ending_closes c.in-Ok-Ends.ending x said s says h (Err c.in-Err-ends._failed) c.ends.new.machine c.ends.new.paper c.in-Err-ends.ensures.closes))
 
-pub returns-in-Err-close-clause-present : goal.returns-in-Err-close-clause-present
-returns-in-Err-close-clause-present g c = λ said s m t says h next.
-    (let x = (tries_as c.attempt_told.result (Ok (tries.Ends c.in-Ok-Ends.ending)) (c.in-Ok-Ends.is ∙ ap (λ (z : Tried). Ok z) c.in-Ok-Ends.field-0-is) (context g (goal.at.returns-in-Err-close-clause-present g c).After-attempt_told)) in
-    cut_present (tries.Ends c.in-Ok-Ends.ending) x x.stay said s says h (ending_made c.in-Ok-Ends.ending x said s says h) (ending_so c.in-Ok-Ends.ending x said s says h) c.in-Err-close._failed c.close.new.machine c.close.new.paper (λ e. let b : ⊥ = cc in b)
-    (ap (λ (k : Machine). k.tasks.made) (ending_closes c.in-Ok-Ends.ending x said s says h (Err c.in-Err-close._failed) c.close.new.machine c.close.new.paper c.in-Err-close.ensures.closes).1) m t next)
+pub returns-in-Err-ends-clause-present : goal.returns-in-Err-ends-clause-present
+returns-in-Err-ends-clause-present g c = λ said s m t says h next.
+    (let x = (tries_as c.attempt_told.result (Ok (tries.Ends c.in-Ok-Ends.ending)) (c.in-Ok-Ends.is ∙ ap (λ (z : Tried). Ok z) c.in-Ok-Ends.field-0-is) (context g (goal.at.returns-in-Err-ends-clause-present g c).After-attempt_told)) in
+    cut_present (tries.Ends c.in-Ok-Ends.ending) x x.stay said s says h (ending_made c.in-Ok-Ends.ending x said s says h) (ending_so c.in-Ok-Ends.ending x said s says h) c.in-Err-ends._failed c.ends.new.machine c.ends.new.paper (λ e. let b : ⊥ = cc in b)
+    (ap (λ (k : Machine). k.tasks.made) (ending_closes c.in-Ok-Ends.ending x said s says h (Err c.in-Err-ends._failed) c.ends.new.machine c.ends.new.paper c.in-Err-ends.ensures.closes).1) m t next)
 
-pub returns-in-Err-close-clause-leaves : goal.returns-in-Err-close-clause-leaves
-returns-in-Err-close-clause-leaves g c = record {
-  causes = step_causes g.B.Backing.faults g.K.Sink.faults c.args.backing.now c.attempt_told.new.backing c.args.paper.now c.attempt_told.new.paper c.close.new.paper _ c.attempt_told.ensures.leaves.causes.printer.later c.close.ensures.cause.later (λ e. c.in-Err-close.ensures.cause.failed) (λ e. absurd cc);
+pub returns-in-Err-ends-clause-leaves : goal.returns-in-Err-ends-clause-leaves
+returns-in-Err-ends-clause-leaves g c = record {
+  causes = step_causes g.B.Backing.faults g.K.Sink.faults c.args.backing.now c.attempt_told.new.backing c.args.paper.now c.attempt_told.new.paper c.ends.new.paper _ c.attempt_told.ensures.leaves.causes.printer.later c.ends.ensures.cause.later (λ e. c.in-Err-ends.ensures.cause.failed) (λ e. absurd cc);
   kept =
-      let a = (goal.at.returns-in-Err-close-clause-leaves g c).After-attempt_told in
-      keeps_then c.args.machine.now c.attempt_told.new.machine c.close.new.machine (kept g a) c.close.ensures.keeps;
+      let a = (goal.at.returns-in-Err-ends-clause-leaves g c).After-attempt_told in
+      keeps_then c.args.machine.now c.attempt_told.new.machine c.ends.new.machine (kept g a) c.ends.ensures.keeps;
   served = c.attempt_told.ensures.leaves.served;
 }
 
-pub make_wait-requires-clause-row : goal.make_wait-requires-clause-row
-make_wait-requires-clause-row g c =
+pub waits-requires-clause-row : goal.waits-requires-clause-row
+waits-requires-clause-row g c =
     let l = c.requires.due.lives.some in
-    waiting_some c.in-Ok-Waits.state (tries_as c.attempt_told.result (Ok (tries.Waits c.in-Ok-Waits.state)) (c.in-Ok-Waits.is ∙ ap (λ (z : Tried). Ok z) c.in-Ok-Waits.field-0-is) (context g (goal.at.make_wait-requires-clause-row g c).After-attempt_told)) l.said l.session l.says l.stands
+    waiting_some c.in-Ok-Waits.state (tries_as c.attempt_told.result (Ok (tries.Waits c.in-Ok-Waits.state)) (c.in-Ok-Waits.is ∙ ap (λ (z : Tried). Ok z) c.in-Ok-Waits.field-0-is) (context g (goal.at.waits-requires-clause-row g c).After-attempt_told)) l.said l.session l.says l.stands
 
-pub make_wait-requires-clause-room : goal.make_wait-requires-clause-room
-make_wait-requires-clause-room g c =
+pub waits-requires-clause-room : goal.waits-requires-clause-room
+waits-requires-clause-room g c =
     let l = c.requires.due.lives.some in
-    let x = (tries_as c.attempt_told.result (Ok (tries.Waits c.in-Ok-Waits.state)) (c.in-Ok-Waits.is ∙ ap (λ (z : Tried). Ok z) c.in-Ok-Waits.field-0-is) (context g (goal.at.make_wait-requires-clause-room g c).After-attempt_told)) in
+    let x = (tries_as c.attempt_told.result (Ok (tries.Waits c.in-Ok-Waits.state)) (c.in-Ok-Waits.is ∙ ap (λ (z : Tried). Ok z) c.in-Ok-Waits.field-0-is) (context g (goal.at.waits-requires-clause-room g c).After-attempt_told)) in
     close_counts (tries.Waits c.in-Ok-Waits.state) x x.stay l.said l.session l.says l.stands (waiting_made c.in-Ok-Waits.state x l.said l.session l.says l.stands) (waiting_so c.in-Ok-Waits.state x l.said l.session l.says l.stands)
 
-pub end_step-requires-in-Ok-make_wait : goal.end_step-requires-in-Ok-make_wait
-end_step-requires-in-Ok-make_wait g c =
+pub end_step-requires-in-Ok-waits : goal.end_step-requires-in-Ok-waits
+end_step-requires-in-Ok-waits g c =
     let l = c.requires.due.lives.some in
-    let x = (tries_as c.attempt_told.result (Ok (tries.Waits c.in-Ok-Waits.state)) (c.in-Ok-Waits.is ∙ ap (λ (z : Tried). Ok z) c.in-Ok-Waits.field-0-is) (context g (goal.at.end_step-requires-in-Ok-make_wait g c).After-attempt_told)) in
-    closed_between (tries.Waits c.in-Ok-Waits.state) x x.stay l.said l.session l.says l.stands (waiting_made c.in-Ok-Waits.state x l.said l.session l.says l.stands) (waiting_so c.in-Ok-Waits.state x l.said l.session l.says l.stands) c.make_wait.new.machine c.make_wait.new.paper (waiting_closes c.in-Ok-Waits.state x l.said l.session l.says l.stands (Ok tt) c.make_wait.new.machine c.make_wait.new.paper c.in-Ok-make_wait.ensures.holds)
+    let x = (tries_as c.attempt_told.result (Ok (tries.Waits c.in-Ok-Waits.state)) (c.in-Ok-Waits.is ∙ ap (λ (z : Tried). Ok z) c.in-Ok-Waits.field-0-is) (context g (goal.at.end_step-requires-in-Ok-waits g c).After-attempt_told)) in
+    closed_between (tries.Waits c.in-Ok-Waits.state) x x.stay l.said l.session l.says l.stands (waiting_made c.in-Ok-Waits.state x l.said l.session l.says l.stands) (waiting_so c.in-Ok-Waits.state x l.said l.session l.says l.stands) c.waits.new.machine c.waits.new.paper (waiting_closes c.in-Ok-Waits.state x l.said l.session l.says l.stands (Ok tt) c.waits.new.machine c.waits.new.paper c.in-Ok-waits.ensures.holds)
 
-pub returns-in-Ok-make_wait-clause-row : goal.returns-in-Ok-make_wait-clause-row
-returns-in-Ok-make_wait-clause-row g c = λ said s says h.
-    (let x = (tries_as c.attempt_told.result (Ok (tries.Waits c.in-Ok-Waits.state)) (c.in-Ok-Waits.is ∙ ap (λ (z : Tried). Ok z) c.in-Ok-Waits.field-0-is) (context g (goal.at.returns-in-Ok-make_wait-clause-row g c).After-attempt_told)) in
-    closed_row (tries.Waits c.in-Ok-Waits.state) x x.stay said s says h (waiting_made c.in-Ok-Waits.state x said s says h) (waiting_so c.in-Ok-Waits.state x said s says h) c.make_wait.new.machine c.make_wait.new.paper (waiting_closes c.in-Ok-Waits.state x said s says h (Ok tt) c.make_wait.new.machine c.make_wait.new.paper c.in-Ok-make_wait.ensures.holds) c.end_step-in-Ok-make_wait.result c.end_step-in-Ok-make_wait.new.machine c.end_step-in-Ok-make_wait.new.paper c.end_step-in-Ok-make_wait.ensures.finishes c.end_step-in-Ok-make_wait.ensures.tasks)
+pub returns-in-Ok-waits-clause-row : goal.returns-in-Ok-waits-clause-row
+returns-in-Ok-waits-clause-row g c = λ said s says h.
+    (let x = (tries_as c.attempt_told.result (Ok (tries.Waits c.in-Ok-Waits.state)) (c.in-Ok-Waits.is ∙ ap (λ (z : Tried). Ok z) c.in-Ok-Waits.field-0-is) (context g (goal.at.returns-in-Ok-waits-clause-row g c).After-attempt_told)) in
+    closed_row (tries.Waits c.in-Ok-Waits.state) x x.stay said s says h (waiting_made c.in-Ok-Waits.state x said s says h) (waiting_so c.in-Ok-Waits.state x said s says h) c.waits.new.machine c.waits.new.paper (waiting_closes c.in-Ok-Waits.state x said s says h (Ok tt) c.waits.new.machine c.waits.new.paper c.in-Ok-waits.ensures.holds) c.end_step-in-Ok-waits.result c.end_step-in-Ok-waits.new.machine c.end_step-in-Ok-waits.new.paper c.end_step-in-Ok-waits.ensures.finishes c.end_step-in-Ok-waits.ensures.tasks)
 
-pub returns-in-Ok-make_wait-clause-present : goal.returns-in-Ok-make_wait-clause-present
-returns-in-Ok-make_wait-clause-present g c = λ said s m t says h next.
-    (let x = (tries_as c.attempt_told.result (Ok (tries.Waits c.in-Ok-Waits.state)) (c.in-Ok-Waits.is ∙ ap (λ (z : Tried). Ok z) c.in-Ok-Waits.field-0-is) (context g (goal.at.returns-in-Ok-make_wait-clause-present g c).After-attempt_told)) in
-    closed_present (tries.Waits c.in-Ok-Waits.state) x x.stay said s says h (waiting_made c.in-Ok-Waits.state x said s says h) (waiting_so c.in-Ok-Waits.state x said s says h) c.make_wait.new.machine c.make_wait.new.paper (waiting_closes c.in-Ok-Waits.state x said s says h (Ok tt) c.make_wait.new.machine c.make_wait.new.paper c.in-Ok-make_wait.ensures.holds) c.end_step-in-Ok-make_wait.result c.end_step-in-Ok-make_wait.new.machine c.end_step-in-Ok-make_wait.new.paper c.end_step-in-Ok-make_wait.ensures.finishes (λ e. let b : ⊥ = cc in b)
-    (λ wants. waiting_leaves c.in-Ok-Waits.state x said s says h wants c.make_wait.new.machine c.make_wait.new.paper c.in-Ok-make_wait.ensures.holds c.end_step-in-Ok-make_wait.result c.end_step-in-Ok-make_wait.new.machine c.end_step-in-Ok-make_wait.new.paper c.end_step-in-Ok-make_wait.ensures.finishes) m t next)
+pub returns-in-Ok-waits-clause-present : goal.returns-in-Ok-waits-clause-present
+returns-in-Ok-waits-clause-present g c = λ said s m t says h next.
+    (let x = (tries_as c.attempt_told.result (Ok (tries.Waits c.in-Ok-Waits.state)) (c.in-Ok-Waits.is ∙ ap (λ (z : Tried). Ok z) c.in-Ok-Waits.field-0-is) (context g (goal.at.returns-in-Ok-waits-clause-present g c).After-attempt_told)) in
+    closed_present (tries.Waits c.in-Ok-Waits.state) x x.stay said s says h (waiting_made c.in-Ok-Waits.state x said s says h) (waiting_so c.in-Ok-Waits.state x said s says h) c.waits.new.machine c.waits.new.paper (waiting_closes c.in-Ok-Waits.state x said s says h (Ok tt) c.waits.new.machine c.waits.new.paper c.in-Ok-waits.ensures.holds) c.end_step-in-Ok-waits.result c.end_step-in-Ok-waits.new.machine c.end_step-in-Ok-waits.new.paper c.end_step-in-Ok-waits.ensures.finishes (λ e. let b : ⊥ = cc in b)
+    (λ wants. waiting_leaves c.in-Ok-Waits.state x said s says h wants c.waits.new.machine c.waits.new.paper c.in-Ok-waits.ensures.holds c.end_step-in-Ok-waits.result c.end_step-in-Ok-waits.new.machine c.end_step-in-Ok-waits.new.paper c.end_step-in-Ok-waits.ensures.finishes) m t next)
 
-pub returns-in-Ok-make_wait-clause-leaves : goal.returns-in-Ok-make_wait-clause-leaves
-returns-in-Ok-make_wait-clause-leaves g c = record {
-  causes = step_causes g.B.Backing.faults g.K.Sink.faults c.args.backing.now c.attempt_told.new.backing c.args.paper.now c.make_wait.new.paper c.end_step-in-Ok-make_wait.new.paper c.end_step-in-Ok-make_wait.result (omega (arith, c.attempt_told.ensures.leaves.causes.printer.later, c.make_wait.ensures.cause.later)) c.end_step-in-Ok-make_wait.ensures.later c.end_step-in-Ok-make_wait.ensures.cause c.end_step-in-Ok-make_wait.ensures.other;
+pub returns-in-Ok-waits-clause-leaves : goal.returns-in-Ok-waits-clause-leaves
+returns-in-Ok-waits-clause-leaves g c = record {
+  causes = step_causes g.B.Backing.faults g.K.Sink.faults c.args.backing.now c.attempt_told.new.backing c.args.paper.now c.waits.new.paper c.end_step-in-Ok-waits.new.paper c.end_step-in-Ok-waits.result (omega (arith, c.attempt_told.ensures.leaves.causes.printer.later, c.waits.ensures.cause.later)) c.end_step-in-Ok-waits.ensures.later c.end_step-in-Ok-waits.ensures.cause c.end_step-in-Ok-waits.ensures.other;
   kept =
-      let a = (goal.at.returns-in-Ok-make_wait-clause-leaves g c).After-attempt_told in
-      keeps_then c.args.machine.now c.make_wait.new.machine c.end_step-in-Ok-make_wait.new.machine (keeps_then c.args.machine.now c.attempt_told.new.machine c.make_wait.new.machine (kept g a) c.make_wait.ensures.keeps) c.end_step-in-Ok-make_wait.ensures.keeps;
+      let a = (goal.at.returns-in-Ok-waits-clause-leaves g c).After-attempt_told in
+      keeps_then c.args.machine.now c.waits.new.machine c.end_step-in-Ok-waits.new.machine (keeps_then c.args.machine.now c.attempt_told.new.machine c.waits.new.machine (kept g a) c.waits.ensures.keeps) c.end_step-in-Ok-waits.ensures.keeps;
   served = c.attempt_told.ensures.leaves.served;
 }
 
-pub returns-in-Err-make_wait-clause-row : goal.returns-in-Err-make_wait-clause-row
-returns-in-Err-make_wait-clause-row g c = λ said s says h.
-    (let x = (tries_as c.attempt_told.result (Ok (tries.Waits c.in-Ok-Waits.state)) (c.in-Ok-Waits.is ∙ ap (λ (z : Tried). Ok z) c.in-Ok-Waits.field-0-is) (context g (goal.at.returns-in-Err-make_wait-clause-row g c).After-attempt_told)) in
-    cut_row (tries.Waits c.in-Ok-Waits.state) x x.stay said s says h (waiting_made c.in-Ok-Waits.state x said s says h) (waiting_so c.in-Ok-Waits.state x said s says h) c.in-Err-make_wait._failed c.make_wait.new.machine c.make_wait.new.paper c.requires.due.before_halt (halted g (goal.at.returns-in-Err-make_wait-clause-row g c).After-attempt_told) (waiting_closes c.in-Ok-Waits.state x said s says h (Err c.in-Err-make_wait._failed) c.make_wait.new.machine c.make_wait.new.paper c.in-Err-make_wait.ensures.holds))
+pub returns-in-Err-waits-clause-row : goal.returns-in-Err-waits-clause-row
+returns-in-Err-waits-clause-row g c = λ said s says h.
+    (let x = (tries_as c.attempt_told.result (Ok (tries.Waits c.in-Ok-Waits.state)) (c.in-Ok-Waits.is ∙ ap (λ (z : Tried). Ok z) c.in-Ok-Waits.field-0-is) (context g (goal.at.returns-in-Err-waits-clause-row g c).After-attempt_told)) in
+    cut_row (tries.Waits c.in-Ok-Waits.state) x x.stay said s says h (waiting_made c.in-Ok-Waits.state x said s says h) (waiting_so c.in-Ok-Waits.state x said s says h) c.in-Err-waits._failed c.waits.new.machine c.waits.new.paper c.requires.due.before_halt (halted g (goal.at.returns-in-Err-waits-clause-row g c).After-attempt_told) (waiting_closes c.in-Ok-Waits.state x said s says h (Err c.in-Err-waits._failed) c.waits.new.machine c.waits.new.paper c.in-Err-waits.ensures.holds))
 
-pub returns-in-Err-make_wait-clause-present : goal.returns-in-Err-make_wait-clause-present
-returns-in-Err-make_wait-clause-present g c = λ said s m t says h next.
-    (let x = (tries_as c.attempt_told.result (Ok (tries.Waits c.in-Ok-Waits.state)) (c.in-Ok-Waits.is ∙ ap (λ (z : Tried). Ok z) c.in-Ok-Waits.field-0-is) (context g (goal.at.returns-in-Err-make_wait-clause-present g c).After-attempt_told)) in
-    cut_present (tries.Waits c.in-Ok-Waits.state) x x.stay said s says h (waiting_made c.in-Ok-Waits.state x said s says h) (waiting_so c.in-Ok-Waits.state x said s says h) c.in-Err-make_wait._failed c.make_wait.new.machine c.make_wait.new.paper (λ e. let b : ⊥ = cc in b)
-    (ap (λ (k : Machine). k.tasks.made) (waiting_closes c.in-Ok-Waits.state x said s says h (Err c.in-Err-make_wait._failed) c.make_wait.new.machine c.make_wait.new.paper c.in-Err-make_wait.ensures.holds).1) m t next)
+pub returns-in-Err-waits-clause-present : goal.returns-in-Err-waits-clause-present
+returns-in-Err-waits-clause-present g c = λ said s m t says h next.
+    (let x = (tries_as c.attempt_told.result (Ok (tries.Waits c.in-Ok-Waits.state)) (c.in-Ok-Waits.is ∙ ap (λ (z : Tried). Ok z) c.in-Ok-Waits.field-0-is) (context g (goal.at.returns-in-Err-waits-clause-present g c).After-attempt_told)) in
+    cut_present (tries.Waits c.in-Ok-Waits.state) x x.stay said s says h (waiting_made c.in-Ok-Waits.state x said s says h) (waiting_so c.in-Ok-Waits.state x said s says h) c.in-Err-waits._failed c.waits.new.machine c.waits.new.paper (λ e. let b : ⊥ = cc in b)
+    (ap (λ (k : Machine). k.tasks.made) (waiting_closes c.in-Ok-Waits.state x said s says h (Err c.in-Err-waits._failed) c.waits.new.machine c.waits.new.paper c.in-Err-waits.ensures.holds).1) m t next)
 
-pub returns-in-Err-make_wait-clause-leaves : goal.returns-in-Err-make_wait-clause-leaves
-returns-in-Err-make_wait-clause-leaves g c = record {
-  causes = step_causes g.B.Backing.faults g.K.Sink.faults c.args.backing.now c.attempt_told.new.backing c.args.paper.now c.attempt_told.new.paper c.make_wait.new.paper _ c.attempt_told.ensures.leaves.causes.printer.later c.make_wait.ensures.cause.later (λ e. c.in-Err-make_wait.ensures.cause.failed) (λ e. absurd cc);
+pub returns-in-Err-waits-clause-leaves : goal.returns-in-Err-waits-clause-leaves
+returns-in-Err-waits-clause-leaves g c = record {
+  causes = step_causes g.B.Backing.faults g.K.Sink.faults c.args.backing.now c.attempt_told.new.backing c.args.paper.now c.attempt_told.new.paper c.waits.new.paper _ c.attempt_told.ensures.leaves.causes.printer.later c.waits.ensures.cause.later (λ e. c.in-Err-waits.ensures.cause.failed) (λ e. absurd cc);
   kept =
-      let a = (goal.at.returns-in-Err-make_wait-clause-leaves g c).After-attempt_told in
-      keeps_then c.args.machine.now c.attempt_told.new.machine c.make_wait.new.machine (kept g a) c.make_wait.ensures.keeps;
+      let a = (goal.at.returns-in-Err-waits-clause-leaves g c).After-attempt_told in
+      keeps_then c.args.machine.now c.attempt_told.new.machine c.waits.new.machine (kept g a) c.waits.ensures.keeps;
   served = c.attempt_told.ensures.leaves.served;
 }
 
