@@ -250,16 +250,22 @@ pub(crate) fn makes_store(cpu: &mut Cpu, keeps: bool, next: Place, why: &mut Ste
     }
 }
 
-/// STOD or STON through the couple on top that names the cell at an address, and what became of it.
+/// The same, through the couple on top that names the cell at an address.
 #[inline(never)]
-pub(crate) fn makes_store_from(cpu: &mut Cpu, keeps: bool, near: u32, next: Place) -> Went
+pub(crate) fn makes_store_from(
+    cpu: &mut Cpu,
+    keeps: bool,
+    near: u32,
+    next: Place,
+    why: &mut Step,
+) -> Went
     requires runs { RunsSome cpu.old }
     requires from { StoresFrom cpu.old near }
-    ensures { WentShortly (Plain (store_code keeps)) next cpu.old result cpu.new }
+    ensures { MadeWent (Plain (store_code keeps)) next cpu.old result cpu.new why.new }
 {
     match store_from(cpu, keeps, near, next) {
-        Ok(step) => has_stayed(step),
-        Err(cell) => has_entered(enter(cpu, cell)),
+        Ok(step) => stayed(step, why),
+        Err(cell) => entered(enter(cpu, cell), why),
     }
 }
 

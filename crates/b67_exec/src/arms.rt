@@ -18,17 +18,18 @@ ghost use Rattle.b67_exec.specs.Far.{MadeOn, MadeAway, MadeWent, MadeLeaving, Le
 use crate::apart::{
     Went, is_done, makes_entr, makes_exit, makes_far_stff, makes_far_valc, makes_indx,
     makes_last_exit, makes_last_retn, makes_load, makes_nxlv, makes_plain, makes_retn, makes_stff,
-    makes_store,
+    makes_store, makes_store_from,
 };
 use crate::firsts::{Near, near_of};
 use crate::operators::makes_whole;
 use crate::reader::{Reader, after, at_word, behind, first, next_word, place, reader_to};
-use crate::short_ways::{evaluates_own, loads_own, stores_own};
+use crate::short_ways::{evaluates_own, loads_own};
 use b67_arith::Numeric;
 use b67_entry::mkst;
 use b67_exec_cells::{
     branch_to, dlet, drop_cells, dupl, exch, literal, mpcw, namc, on_numbers, top_cell,
 };
+use b67_fetch::store_near;
 use b67_model::Code;
 use b67_stack::{Cpu, Step};
 use b67_word::{Fault, Place};
@@ -429,20 +430,7 @@ fn loads(cpu: &mut Cpu, reader: &mut Reader, why: &mut Step) -> Made
     goes(went, reader, next)
 }
 
-/// STOD, or STON, which keeps the operand, and what became of it: the short way, and then the long one.
-#[inline(always)]
-fn makes_any_store(cpu: &mut Cpu, keeps: bool, next: Place, why: &mut Step) -> Went
-    requires { RunsSome cpu.old }
-    ensures { MadeWent (ops.Plain (store_code keeps)) next cpu.old result cpu.new why.new }
-{
-    match stores_own(cpu, keeps, next) {
-        Went::On => Went::On,
-        Went::Away => Went::Away,
-        Went::Not => makes_store(cpu, keeps, next, why),
-    }
-}
-
-/// STOD or STON.
+/// STOD, or STON, which keeps the operand.
 #[inline(always)]
 fn stores(cpu: &mut Cpu, reader: &mut Reader, keeps: bool, why: &mut Step) -> Made
     requires runs { RunsSome cpu.old }
@@ -451,7 +439,18 @@ fn stores(cpu: &mut Cpu, reader: &mut Reader, keeps: bool, why: &mut Step) -> Ma
     ensures { Makes cpu.old reader.old result cpu.new reader.new why.new }
 {
     let next = after(cpu, *reader);
-    let went = makes_any_store(cpu, keeps, place(next), why);
+    let near = match store_near(cpu, keeps, place(next)) {
+        Ok(()) => {
+            *reader = next;
+            return Made::On;
+        }
+        Err(near) => near,
+    };
+    if near != 0 {
+        let went = makes_store_from(cpu, keeps, near, place(next), why);
+        return goes(went, reader, next);
+    }
+    let went = makes_store(cpu, keeps, place(next), why);
     goes(went, reader, next)
 }
 

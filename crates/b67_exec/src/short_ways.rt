@@ -5,13 +5,12 @@ ghost use Rattle.b67_model.specs.declared.operators.Op.TheVariants.{Plain, Valc}
 ghost use Rattle.b67_model.specs.declared.operators.Code.TheVariants as codes;
 ghost use Rattle.b67_ctl.specs.Layout.{IsPlace};
 ghost use Rattle.b67_layout.specs.Meets.{RunsSome};
-ghost use Rattle.b67_exec.specs.Operators.{store_code};
 ghost use Rattle.b67_exec.specs.Far.{OnShortly, WentShortly};
 
-use crate::apart::{Went, has_stayed, is_made, makes_store_from, makes_valc_from};
+use crate::apart::{Went, has_stayed, is_made, makes_valc_from};
 use b67_ctl::Irw;
 use b67_exec_cells::top_cell;
-use b67_fetch::{indx_at, nxlv_at, own_item, store_near, value};
+use b67_fetch::{indx_at, nxlv_at, own_item, value};
 use b67_refer::{End, near_place};
 use b67_stack::Cpu;
 use b67_word::Place;
@@ -32,23 +31,6 @@ pub(crate) fn evaluates_own(cpu: &mut Cpu, couple: u16, next: Place) -> Went
         return makes_valc_from(cpu, at, next);
     }
     has_stayed(value(cpu, 0, End::Cell(at), next))
-}
-
-/// STOD or STON where its reference needs no call, or through a near cell, and what became of it.
-#[inline(always)]
-pub(crate) fn stores_own(cpu: &mut Cpu, keeps: bool, next: Place) -> Went
-    requires { RunsSome cpu.old }
-    ensures { WentShortly (Plain (store_code keeps)) next cpu.old result cpu.new }
-{
-    match store_near(cpu, keeps, next) {
-        Ok(()) => Went::On,
-        Err(near) => {
-            if near == 0 {
-                return Went::Not;
-            }
-            makes_store_from(cpu, keeps, near, next)
-        }
-    }
 }
 
 /// LOAD of a near operand, and whether it was made.
