@@ -38,11 +38,9 @@ field_err taken a b c hand mid now (Err f) xs x y ys i e p q =
     subst (Punched taken a c hand now (Err f)) (ap (λ (t : List ℕ). joined xs ++ (t ++ joined ys)) e ∙ sym (joined_append xs (x ∷ ys)))
     (punched_then taken a b c hand mid now (Err f) (joined xs) (y ++ joined ys) p (punched_stop taken b c mid now (Err f) y y (joined ys) refl refl q))
 
--- the fields of an image in its brackets
-pub eleven : (a b c d e f g h i j k : List ℕ) → joined (a ∷ b ∷ c ∷ d ∷ e ∷ f ∷ g ∷ h ∷ i ∷ j ∷ k ∷ []) ≡ a ++ ((b ++ (c ++ (d ++ e))) ++ (f ++ (g ++ (h ++ (i ++ (j ++ k))))))
-eleven a b c d e f g h i j k =
-    let t : List ℕ = f ++ (g ++ (h ++ (i ++ (j ++ k)))) in
-    let r4 : (d ++ e) ++ t ≡ d ++ (e ++ t) = append_assoc d e t in
-    let r3 : (c ++ (d ++ e)) ++ t ≡ c ++ (d ++ (e ++ t)) = append_assoc c (d ++ e) t ∙ ap (λ (s : List ℕ). c ++ s) r4 in
-    let r2 : (b ++ (c ++ (d ++ e))) ++ t ≡ b ++ (c ++ (d ++ (e ++ t))) = append_assoc b (c ++ (d ++ e)) t ∙ ap (λ (s : List ℕ). b ++ s) r3 in
-    ap (λ (s : List ℕ). a ++ (b ++ (c ++ (d ++ (e ++ (f ++ (g ++ (h ++ (i ++ (j ++ s)))))))))) (append-nil k) ∙ ap (λ (s : List ℕ). a ++ s) (sym r2)
+-- fields in their brackets
+pub four : (a b c d : List ℕ) → joined (a ∷ b ∷ c ∷ d ∷ []) ≡ a ++ (b ++ (c ++ d))
+four a b c d = ap (λ (s : List ℕ). a ++ (b ++ (c ++ s))) (append-nil d)
+
+pub five : (a b c d e : List ℕ) → joined (a ∷ b ∷ c ∷ d ∷ e ∷ []) ≡ a ++ (b ++ (c ++ (d ++ e)))
+five a b c d e = ap (λ (s : List ℕ). a ++ (b ++ (c ++ (d ++ s)))) (append-nil e)

@@ -4,6 +4,7 @@ pub mod Gathers
 pub mod Again
 pub mod Joining
 pub mod Loops
+mod Steps
 pub mod Forms
 pub mod Shapes
 pub mod Octets

@@ -1,8 +1,7 @@
 -- The numbers of an image, each within its range.
-use Rattle.std.specs.Prelude.{ℕ, zero, suc, ◌+◌, ◌^◌, ◌==◌, ◌&&◌, nat_lt, nat_le, ℤ, nat_abs, Bool, List, [], ◌∷◌, length, take, drop, Option, Some, None, if◌then◌else◌}
+use Rattle.std.specs.Prelude.{ℕ, ◌+◌, ◌^◌, ◌==◌, ◌&&◌, nat_lt, nat_le, ℤ, nat_abs, Bool, List, length, take, drop, Option, Some, None, if◌then◌else◌}
 use Rattle.std.specs.Int.{w8, w16, w32, w64, cast_signed}
 use Rattle.b67_word.specs.Tagged.{Tagged}
-use Rattle.b67_word.specs.declared.couples.Place.{Place}
 use Rattle.b67_core.specs.Numbers.{word_of}
 use Rattle.b67_ctl.specs.declared.map.TheConstants.{SLOTS}
 use Rattle.b67_ctl.specs.declared.registers.Regs.{Regs}
@@ -14,7 +13,7 @@ use Rattle.b67_task_tables.specs.declared.tables.TaskState.TheVariants.{Ready, A
 use Rattle.b67_task_tables.specs.declared.tables.TaskRow.{TaskRow}
 use Rattle.b67_task_tables.specs.declared.tables.JobRow.{JobRow}
 use Rattle.b67_image.specs.Parts.{ToldCounts, ImageParts}
-use Rattle.b67_image.specs.Giving.{◌>>=◌, ItemReader, read_number}
+use Rattle.b67_image_numbers.specs.Giving.{◌>>=◌, ItemReader, read_number, read_many, read_place}
 use Rattle.b67_model.specs.declared.limits.TheConstants.{LEAST_CORE, MOST_CORE, MOST_SECTORS, LEAST_STACK, MOST_STACK, MOST_JOBS, MOST_PARTS, GREATEST, MOST_QUANTUM, MOST_LIMIT, MOST_NUMBER, MOST_MADE, MOST_SWITCHES}
 
 -- what passes a test
@@ -27,14 +26,6 @@ is_within low high n = nat_le low n && nat_le n high
 -- a number within these bounds
 abbrev pub number_within : ℕ → ℕ → ℕ × List ℕ → Option (ℕ × List ℕ)
 number_within low high n = if_passes (is_within low high n.0) n
-
--- as many items as the count says
-unfoldable pub read_many : {X : Type 0} → ItemReader X → ℕ → ItemReader (List X)
-read_many read zero bytes = Some ([], bytes)
-read_many read (suc n) bytes = do
-  first ← read bytes
-  others ← read_many read n first.1
-  Some (first.0 ∷ others.0, others.1)
 
 -- a number of items, within these bounds
 unfoldable pub read_count : (low high : ℕ) → ItemReader ℕ
@@ -50,12 +41,6 @@ read_word bytes = read_number w64 bytes >>= λ n. if_passes (nat_lt n.0 (2 ^ 51)
 
 unfoldable pub read_core : ItemReader (List Tagged)
 read_core bytes = read_counted LEAST_CORE MOST_CORE read_word bytes
-
-unfoldable pub read_place : ItemReader Place
-read_place bytes = do
-  word ← read_number w16 bytes
-  syllable ← read_number w8 word.1
-  Some (record { word = word.0; syllable = syllable.0 }, syllable.1)
 
 -- a stack has 64 to 16,383 words
 unfoldable pub read_regs : ItemReader Regs

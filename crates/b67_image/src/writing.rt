@@ -179,25 +179,43 @@ fn put_rows<K: Sink>(sink: &mut K, hand: &mut Hand, rows: &[TaskRow]) -> Result<
     Ok(())
 }
 
+/// Puts core and the registers.
+fn put_cpu<K: Sink>(sink: &mut K, hand: &mut Hand, machine: &Machine) -> Result<(), Failed>
+    ensures row { Punched K.taken sink.old sink.new hand.old hand.new result (cpu_bytes (parts_of machine.now)) }
+    ensures cause { HasCause K.faults sink.old sink.new result }
+{
+    let cpu = &machine.cpu;
+    put_core(sink, hand, &cpu.core)?;
+    hand.punch(sink, regs_item(cpu.regs).as_slice())?;
+    put_display(sink, hand, &cpu.display)?;
+    put_critical(sink, hand, &cpu.critical)?;
+    Ok(())
+}
+
+/// Puts the tables of jobs and tasks.
+fn put_tables<K: Sink>(sink: &mut K, hand: &mut Hand, machine: &Machine) -> Result<(), Failed>
+    ensures row { Punched K.taken sink.old sink.new hand.old hand.new result (tables_bytes (parts_of machine.now)) }
+    ensures cause { HasCause K.faults sink.old sink.new result }
+{
+    let tasks = &machine.tasks;
+    hand.punch(sink, counts_item(tasks).as_slice())?;
+    put_switches(sink, hand, tasks.switches.as_slice())?;
+    put_jobs(sink, hand, tasks.jobs.as_slice())?;
+    put_rows(sink, hand, tasks.rows.as_slice())?;
+    Ok(())
+}
+
 /// The fields of an image, in their order.
 #[tactic(auto, unfolding(crate::specs::Spelling::image_bytes))]
 fn put_machine<K: Sink>(sink: &mut K, hand: &mut Hand, machine: &Machine) -> Result<(), Failed>
     ensures row { Punched K.taken sink.old sink.new hand.old hand.new result (image_bytes (parts_of machine.now)) }
     ensures cause { HasCause K.faults sink.old sink.new result }
 {
-    let cpu = &machine.cpu;
-    let tasks = &machine.tasks;
     hand.punch(sink, &HEADER.to_be_bytes())?;
-    put_core(sink, hand, &cpu.core)?;
-    hand.punch(sink, regs_item(cpu.regs).as_slice())?;
-    put_display(sink, hand, &cpu.display)?;
-    put_critical(sink, hand, &cpu.critical)?;
+    put_cpu(sink, hand, machine)?;
     hand.punch(sink, areas_item(machine.areas).as_slice())?;
     put_sectors(sink, hand, &machine.sectors)?;
-    hand.punch(sink, counts_item(tasks).as_slice())?;
-    put_switches(sink, hand, tasks.switches.as_slice())?;
-    put_jobs(sink, hand, tasks.jobs.as_slice())?;
-    put_rows(sink, hand, tasks.rows.as_slice())?;
+    put_tables(sink, hand, machine)?;
     Ok(())
 }
 

@@ -5,3 +5,5 @@ pub mod Mnemonics
 pub mod Programs
 pub mod Sessions
 pub mod TaskPrograms
+pub mod Operators
+pub mod Listing

@@ -22,8 +22,8 @@ use Rattle.b67_model_text.specs.Statements.{segment, row}
 use Rattle.b67_model_text.specs.Asm.{Scope, SegmentContent, after_operator, is_in_range, call_operator, denoted, is_code, is_numbers, is_entry_card, own}
 use Rattle.b67_model_text.specs.Pass.{Added, with_added, syllable_behind, entries_behind, pass_content}
 use Rattle.b67_model_text.proofs.Contents.{Adds, headed}
-use Rattle.b67_law_listing.proofs.Packing.{packed_length}
-use Rattle.b67_law_listing.proofs.Laying.{laid_whole}
+use Rattle.b67_law_examples.proofs.Packing.{packed_length}
+use Rattle.b67_law_examples.proofs.Laying.{laid_whole}
 use Rattle.b67_promises.proofs.HexBack.{IsByte}
 use Rattle.b67_model.specs.declared.limits.TheConstants.{MOST_SEGMENT}
 

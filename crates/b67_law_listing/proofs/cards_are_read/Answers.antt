@@ -1,5 +1,0 @@
-use Rattle.b67_law_listing.proofs.Programs.{cards_read}
-use Rattle.b67_law_listing.proofs.cards_are_read.Goals as goal
-
-pub returns : goal.returns
-returns c = cards_read

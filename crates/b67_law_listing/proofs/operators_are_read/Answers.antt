@@ -1,5 +1,0 @@
-use Rattle.b67_law_listing.proofs.Laying.{listing_is}
-use Rattle.b67_law_listing.proofs.operators_are_read.Goals as goal
-
-pub returns : goal.returns
-returns c = listing_is
