@@ -7,7 +7,7 @@ import collections, os, re, sys
 BOUNDS = {
     'crates': 68,
     'longest chain': 14,
-    'ways down crates.txt': 209474,
+    'ways down crates.txt': 209488,
     'definition names in two crates': 42,
     'longest function outside tests': 37,
     'contracts over eight clauses': 10,

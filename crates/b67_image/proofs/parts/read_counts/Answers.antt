@@ -1,4 +1,4 @@
-use Rattle.std.proofs.Common.{◌≡◌, None, refl, arith}
+use Rattle.std.proofs.Common.{◌≡◌, None, refl}
 use Rattle.std.proofs.lemmas.Result.{err_from_is_err_and}
 use Rattle.b67_model.specs.declared.limits.TheConstants.{MOST_QUANTUM}
 use Rattle.b67_image.specs.Reading.{number_within, read_counts}
