@@ -29,11 +29,10 @@ fn many_of(rest: &str) -> Option<Many<'_>> {
 
 /// Whether a line is one that a text has by itself.
 pub fn is_own_line(how: &str, rest: &str) -> bool {
-    match how {
-        "" | "-" => true,
-        "*" => many_of(rest).is_some(),
-        _ => false,
+    if how == "*" {
+        return many_of(rest).is_some();
     }
+    how.is_empty() || how == "-"
 }
 
 // The number that a byte represents in a text of many: `@` its count, `&` the next one, `%` 1 to 8 in turn.
