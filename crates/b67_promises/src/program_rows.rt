@@ -2,13 +2,12 @@
 
 ghost use Rattle.std.specs.Prelude.{◌≡◌, ◌≤◌, ◌<◌, ◌^◌, length};
 
+use crate::given::{length_of, remove_file, same, write_file};
 use crate::run_in_memory_twice;
 use b67_backing::Backing;
 use b67_program::{lead_to_one_file, open_apart, serve_in_memory};
 use std::alloc::{AllocError, Global};
-use std::fs;
 use std::process::Abort;
-use std::test::Fail;
 
 /// MKST / NAMC 0,9 / LT8 2 / LT8 3 / ADD / ENTR / EXIT.
 const SUM: &str =
@@ -18,30 +17,30 @@ const SUM: &str =
 const PATH: &str = "b67_program_sectors";
 
 #[test]
-fn paths_lead_to_one_file(rt: HostRuntime) -> Result<(), Fail> {
-    fs::write(&rt, PATH, b"".as_slice())?;
-    assert!(rt; lead_to_one_file(&rt, PATH, PATH));
-    assert!(rt; !lead_to_one_file(&rt, PATH, "/dev/stdout"));
-    fs::remove_file(&rt, PATH)?;
-    assert!(rt; !lead_to_one_file(&rt, PATH, PATH));
-    Ok(())
+fn paths_lead_to_one_file(rt: HostRuntime) {
+    write_file(&rt, PATH, b"");
+    same(&rt, lead_to_one_file(&rt, PATH, PATH), true);
+    same(&rt, lead_to_one_file(&rt, PATH, "/dev/stdout"), false);
+    remove_file(&rt, PATH);
+    same(&rt, lead_to_one_file(&rt, PATH, PATH), false);
 }
 
 /// A file of this name isn't there either.
 const PRINTED: &str = "b67_program_lines";
 
+// Whether a sector is read of the file at a path, where lines are printed into that of another or the same.
+fn is_backing(rt: &HostRuntime, path: &str, printed: &str) -> bool {
+    open_apart(rt, path, printed).read(1, &mut [0; 30]).is_ok()
+}
+
 // A file that lines are printed into is no backing, and stays as it is; another one is.
 #[test]
-fn prints_into_no_backing(rt: HostRuntime) -> Result<(), Fail> {
-    fs::write(&rt, PRINTED, b"".as_slice())?;
-    let mut sector = [0u64; 30];
-    let mut same = open_apart(&rt, PRINTED, PRINTED);
-    assert!(rt; same.read(1, &mut sector).is_err());
-    assert!(rt; fs::metadata(&rt, PRINTED)?.len() == 0);
-    let mut other = open_apart(&rt, PRINTED, "/dev/null");
-    assert!(rt; other.read(1, &mut sector).is_ok());
-    fs::remove_file(&rt, PRINTED)?;
-    Ok(())
+fn prints_into_no_backing(rt: HostRuntime) {
+    write_file(&rt, PRINTED, b"");
+    same(&rt, is_backing(&rt, PRINTED, PRINTED), false);
+    same(&rt, length_of(&rt, PRINTED), 0);
+    same(&rt, is_backing(&rt, PRINTED, "/dev/null"), true);
+    remove_file(&rt, PRINTED);
 }
 
 // Makes a call: its status, and how many bytes it printed.
@@ -57,13 +56,6 @@ fn served(
     (status, printed)
 }
 
-// The status and the count of bytes are these, and the lines stand in front.
-fn is_served(rt: &impl Abort, was: (u8, usize), paper: &[u8], status: u8, lines: &[u8]) {
-    assert_eq!(rt; was.0, status);
-    assert_eq!(rt; was.1, lines.len());
-    assert!(rt; paper.starts_with(lines));
-}
-
 /// Calls over so many sectors of zeros and so much room, and compares the status and what is printed.
 fn serves_so(
     rt: &impl Abort,
@@ -74,18 +66,13 @@ fn serves_so(
     room: usize,
     status: u8,
     lines: &str,
-) -> Result<(), Fail> {
-    let mut sectors = Vec::from_elem(alloc, [0u64; 30], count)?;
-    let mut paper = Vec::from_elem(alloc, 0u8, room)?;
-    let was = served(
-        alloc,
-        words,
-        text.as_bytes(),
-        sectors.as_mut_slice(),
-        paper.as_mut_slice(),
-    );
-    is_served(rt, was, paper.as_slice(), status, lines.as_bytes());
-    Ok(())
+) {
+    let mut sectors = Vec::from_elem(alloc, [0u64; 30], count).expect(rt, "memory");
+    let mut paper = Vec::from_elem(alloc, 0u8, room).expect(rt, "memory");
+    let was = served(alloc, words, text.as_bytes(), &mut sectors, &mut paper);
+    same(rt, was, (status, lines.len()));
+    let begins = paper.as_slice().starts_with(lines.as_bytes());
+    same(rt, (lines, begins), (lines, true));
 }
 
 const RUN: [&str; 5] = ["run", "--core", "4096", "--backing", "b"];
@@ -105,14 +92,14 @@ const USAGE: &str = "USAGE: b67 run --core N --backing PATH\n";
 
 // The words, the text, the number of sectors, the room, the status and what is printed.
 #[test]
-fn serves_in_memory(rt: HostRuntime) -> Result<(), Fail> {
+fn serves_in_memory(rt: HostRuntime) {
     let alloc = rt.alloc();
-    serves_so(&rt, alloc, &RUN, SUM, 9, 99, 0, LINES)?;
-    serves_so(&rt, alloc, &RUN, SUM, 0, 99, 255, "")?;
-    serves_so(&rt, alloc, &RUN, SUM, 9, 6, 8, "1.1 5\n")?;
-    serves_so(&rt, alloc, &RUN, "?JOB a\n", 9, 99, 2, REFUSED)?;
-    serves_so(&rt, alloc, &CHECK, SUM, 1, 99, 0, ADMITTED)?;
-    serves_so(&rt, alloc, &NO_COMMAND, SUM, 1, 99, 1, USAGE)
+    serves_so(&rt, alloc, &RUN, SUM, 9, 99, 0, LINES);
+    serves_so(&rt, alloc, &RUN, SUM, 0, 99, 255, "");
+    serves_so(&rt, alloc, &RUN, SUM, 9, 6, 8, "1.1 5\n");
+    serves_so(&rt, alloc, &RUN, "?JOB a\n", 9, 99, 2, REFUSED);
+    serves_so(&rt, alloc, &CHECK, SUM, 1, 99, 0, ADMITTED);
+    serves_so(&rt, alloc, &NO_COMMAND, SUM, 1, 99, 1, USAGE);
 }
 
 const MORE: [&str; 5] = ["run", "--core", "5000", "--backing", "b"];
@@ -144,13 +131,10 @@ fn runs_twice(
 }
 
 #[test]
-fn runs_in_memory_twice(rt: HostRuntime) -> Result<(), Fail> {
-    let sectors = [[0u64; 30]; 9];
+fn runs_in_memory_twice(rt: HostRuntime) {
     let (mut lines, mut other_lines) = ([0u8; 99], [0u8; 99]);
-    let statuses = runs_twice(rt.alloc(), &sectors, &mut lines, &mut other_lines)?;
-    assert_eq!(rt; statuses.0, 0);
-    assert_eq!(rt; statuses.1, 0);
-    assert!(rt; lines.starts_with(LINES.as_bytes()));
-    assert!(rt; other_lines.starts_with(LINES.as_bytes()));
-    Ok(())
+    let statuses = runs_twice(rt.alloc(), &[[0; 30]; 9], &mut lines, &mut other_lines);
+    same(&rt, statuses.ok(), Some((0, 0)));
+    same(&rt, lines.starts_with(LINES.as_bytes()), true);
+    same(&rt, other_lines.starts_with(LINES.as_bytes()), true);
 }

@@ -1,9 +1,9 @@
 //! A search and steps from an image, over memory alone.
 
+use crate::given::same;
 use b67_program::{CodePlace, Place, Sought, find_in_memory, serve_in_memory, step_in_memory};
 use std::alloc::Global;
 use std::process::Abort;
-use std::test::Fail;
 
 /// MKST / NAMC 0,9 / LT8 2 / LT8 3 / ADD / ENTR / EXIT.
 const SUM: &str =
@@ -41,10 +41,9 @@ fn found(alloc: Global, from: u64) -> Option<u64> {
 }
 
 #[test]
-fn finds_in_memory(rt: HostRuntime) -> Result<(), Fail> {
-    assert!(rt; found(rt.alloc(), 0) == Some(4));
-    assert!(rt; found(rt.alloc(), 5) == None);
-    Ok(())
+fn finds_in_memory(rt: HostRuntime) {
+    same(&rt, found(rt.alloc(), 0), Some(4));
+    same(&rt, found(rt.alloc(), 5), None);
 }
 
 const IMAGE: [&str; 5] = ["image", "--core", "4096", "--backing", "b"];
@@ -71,36 +70,24 @@ fn stepped(
     (status, printed)
 }
 
-/// Goes on by so many operators, and compares the status and what is printed first.
-fn steps_so(
-    rt: &impl Abort,
-    alloc: Global,
-    most: u64,
-    status: u8,
-    begin: &str,
-) -> Result<usize, Fail> {
-    let mut sectors = Vec::from_elem(alloc, [0u64; 30], 9)?;
-    let mut image = Vec::from_elem(alloc, 0u8, 99_999)?;
-    let mut lines = Vec::from_elem(alloc, 0u8, 99_999)?;
-    let was = stepped(
-        alloc,
-        most,
-        sectors.as_mut_slice(),
-        image.as_mut_slice(),
-        lines.as_mut_slice(),
-    );
-    assert_eq!(rt; was.0, status);
-    assert!(rt; lines.as_slice().starts_with(begin.as_bytes()));
-    Ok(was.1)
+/// Goes on by so many operators, and compares the status and what is printed first: how many bytes are printed.
+fn steps_so(rt: &impl Abort, alloc: Global, most: u64, status: u8, begin: &str) -> usize {
+    let mut sectors = [[0u64; 30]; 9];
+    let mut image = Vec::from_elem(alloc, 0u8, 99_999).expect(rt, "memory");
+    let mut lines = Vec::from_elem(alloc, 0u8, 99_999).expect(rt, "memory");
+    let (given, printed) = stepped(alloc, most, &mut sectors, &mut image, &mut lines);
+    same(rt, (most, given), (most, status));
+    let begins = lines.as_slice().starts_with(begin.as_bytes());
+    same(rt, (most, begins), (most, true));
+    printed
 }
 
 // The count of operators, the status and the first bytes.
 #[test]
-fn steps_in_memory(rt: HostRuntime) -> Result<(), Fail> {
+fn steps_in_memory(rt: HostRuntime) {
     let alloc = rt.alloc();
-    steps_so(&rt, alloc, 1, 3, "?IMAGE\n")?;
-    steps_so(&rt, alloc, 4, 3, "1.1 5\n?IMAGE\n")?;
-    let printed = steps_so(&rt, alloc, 99, 0, "1.1 5\n1.1 ENDED\n")?;
-    assert_eq!(rt; printed, 16);
-    Ok(())
+    steps_so(&rt, alloc, 1, 3, "?IMAGE\n");
+    steps_so(&rt, alloc, 4, 3, "1.1 5\n?IMAGE\n");
+    let printed = steps_so(&rt, alloc, 99, 0, "1.1 5\n1.1 ENDED\n");
+    same(&rt, printed, 16);
 }

@@ -78,7 +78,7 @@ fn copied<B: Backing>(
 }
 
 /// Copies words over a device of which a read and a write fail: whether they are saved and restored.
-fn turns(rt: &impl Abort, alloc: Global, read: i64, write: i64) -> [bool; 2] {
+fn turns(rt: &impl Abort, alloc: Global, read: i64, write: i64) -> (bool, bool) {
     let mut core = written(rt, alloc);
     let mut sectors = three(rt, alloc);
     let mut backing = device_of(rt, alloc, 3, read, write);
@@ -88,18 +88,24 @@ fn turns(rt: &impl Abort, alloc: Global, read: i64, write: i64) -> [bool; 2] {
         same(rt, core.get(79), Word::of(3, 0xffff_ffff_ffff));
         same(rt, backing.calls(), 4);
     }
-    [saved.is_ok(), restored.is_ok()]
+    (saved.is_ok(), restored.is_ok())
 }
 
 #[test]
 fn reads_and_writes_fail_by_their_numbers(rt: HostRuntime) {
     let alloc = rt.alloc();
-    same(&rt, turns(&rt, alloc, 0, 0), [true, true]);
-    same(&rt, turns(&rt, alloc, 3, 3), [true, true]);
-    same(&rt, turns(&rt, alloc, 1, 0), [true, false]);
-    same(&rt, turns(&rt, alloc, 2, 0), [true, false]);
-    same(&rt, turns(&rt, alloc, 0, 1), [false, true]);
-    same(&rt, turns(&rt, alloc, 2, 2), [false, false]);
+    same(&rt, turns(&rt, alloc, 0, 0), (true, true));
+    same(&rt, turns(&rt, alloc, 3, 3), (true, true));
+    same(&rt, turns(&rt, alloc, 1, 0), (true, false));
+    same(&rt, turns(&rt, alloc, 2, 0), (true, false));
+    same(&rt, turns(&rt, alloc, 0, 1), (false, true));
+    same(&rt, turns(&rt, alloc, 2, 2), (false, false));
+}
+
+/// These numbers stand in the halves of a sector.
+fn has_halves(rt: &impl Abort, sector: &[u64; 30], first: u64, last: u64) {
+    same(rt, &sector[..15], [first; 15].as_slice());
+    same(rt, &sector[15..], [last; 15].as_slice());
 }
 
 #[test]
@@ -110,8 +116,7 @@ fn a_failed_write_stores_half_a_sector(rt: HostRuntime) {
     same(&rt, backing.write(1, &[9; 30]).is_ok(), false);
     let mut sector = [0; 30];
     same(&rt, backing.read(1, &mut sector).is_ok(), true);
-    same(&rt, &sector[..15], [9; 15].as_slice());
-    same(&rt, &sector[15..], [8; 15].as_slice());
+    has_halves(&rt, &sector, 9, 8);
 }
 
 #[test]

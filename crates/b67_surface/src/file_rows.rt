@@ -1,20 +1,19 @@
 //! A file of sectors over real files, in folders that the tests make where they run.
 
-use crate::given::same;
+use crate::given::{length_of, remove_file, same};
 use b67_backing::{Backing, FileBacking};
 use std::alloc::{Alloc, Global};
 use std::fs::{File, OpenFile, OpenOptions, Permissions};
 use std::os::unix::fs::PermissionsExt;
 use std::process::Abort;
 use std::rt::Files;
-use std::test::Fail;
 use std::{fs, io};
 
 /// How many bytes the file has.
 const LENGTH: u64 = 15_728_640;
 
 /// An empty folder for one test.
-fn folder(rt: &HostRuntime, test: &str) -> Result<String, Fail> {
+fn folder(rt: &HostRuntime, test: &str) -> io::Result<String> {
     let id = std::process::id(rt.process());
     let name = format!(in rt.alloc(); "b67_surface_{test}_{id}")?;
     let _ = fs::remove_dir_all(rt, name.as_str());
@@ -38,10 +37,6 @@ fn make_file(rt: &impl Files, path: &str, start: &[u8], length: u64) -> io::Resu
         .write(true)
         .open(rt, path)?
         .set_len(length)
-}
-
-fn length_of(rt: &(impl Abort + Files), path: &str) -> u64 {
-    fs::metadata(rt, path).expect(rt, "a file").len()
 }
 
 fn bytes_of(rt: &(impl Abort + Files<File = File> + Alloc<A = Global>), path: &str) -> Vec<u8> {
@@ -115,32 +110,39 @@ fn reads_each<B: Backing>(rt: &impl Abort, backing: &mut B, places: &[(u32, usiz
     }
 }
 
+/// Writes the sectors into a file that isn't there yet.
+fn fill(rt: &(impl Abort + Files<File = File>), path: &str) {
+    let mut backing = FileBacking::at(rt, path);
+    same(rt, backing.sectors(), 65_536);
+    same(rt, length_of(rt, path), LENGTH);
+    writes_each(rt, &mut backing, &PLACES);
+}
+
+/// The sectors lie there, and all other bytes are 0.
+fn lie_alone(rt: &impl Abort, bytes: &[u8]) {
+    same(rt, bytes.len() as u64, LENGTH);
+    each_lies(rt, bytes, &PLACES);
+    same(rt, bytes.iter().filter(|byte| **byte != 0).count(), 9 * 240);
+}
+
+/// The sectors are read from the file, and zeros from those beside them.
+fn reads_back(rt: &(impl Abort + Files<File = File>), path: &str) {
+    let mut backing = FileBacking::at(rt, path);
+    reads_each(rt, &mut backing, &PLACES);
+    reads(rt, &mut backing, 4, [0; 30]);
+    reads(rt, &mut backing, 32_766, [0; 30]);
+    reads(rt, &mut backing, 32_770, [0; 30]);
+    reads(rt, &mut backing, 65_533, [0; 30]);
+}
+
 #[test]
-fn sectors_lie_at_their_places(rt: HostRuntime) -> Result<(), Fail> {
-    let folder = folder(&rt, "places")?;
+fn sectors_lie_at_their_places(rt: HostRuntime) {
+    let folder = folder(&rt, "places").expect(&rt, "a folder");
     let path = path_in(&rt, folder.as_str());
-    {
-        let mut backing = FileBacking::at(&rt, path.as_str());
-        same(&rt, backing.sectors(), 65_536);
-        same(&rt, length_of(&rt, path.as_str()), LENGTH);
-        writes_each(&rt, &mut backing, &PLACES);
-    }
-    let bytes = bytes_of(&rt, path.as_str());
-    same(&rt, bytes.len() as u64, LENGTH);
-    each_lies(&rt, &bytes, &PLACES);
-    same(
-        &rt,
-        bytes.iter().filter(|byte| **byte != 0).count(),
-        9 * 240,
-    );
-    let mut backing = FileBacking::at(&rt, path.as_str());
-    reads_each(&rt, &mut backing, &PLACES);
-    reads(&rt, &mut backing, 4, [0; 30]);
-    reads(&rt, &mut backing, 32_766, [0; 30]);
-    reads(&rt, &mut backing, 32_770, [0; 30]);
-    reads(&rt, &mut backing, 65_533, [0; 30]);
+    fill(&rt, path.as_str());
+    lie_alone(&rt, &bytes_of(&rt, path.as_str()));
+    reads_back(&rt, path.as_str());
     remove(&rt, folder);
-    Ok(())
 }
 
 /// A write and a read of sector n fail.
@@ -173,12 +175,12 @@ fn stays(rt: &(impl Abort + Files<File = File> + Alloc<A = Global>), path: &str,
     let before = bytes_of(rt, path);
     same(rt, before.len() as u64, length);
     every_call_fails(rt, path);
-    assert!(rt; bytes_of(rt, path) == before, "a file of {length} bytes");
+    same(rt, (length, bytes_of(rt, path) == before), (length, true));
 }
 
 #[test]
-fn files_of_other_lengths_stay(rt: HostRuntime) -> Result<(), Fail> {
-    let folder = folder(&rt, "lengths")?;
+fn files_of_other_lengths_stay(rt: HostRuntime) {
+    let folder = folder(&rt, "lengths").expect(&rt, "a folder");
     let path = path_in(&rt, folder.as_str());
     stays(&rt, path.as_str(), 1);
     stays(&rt, path.as_str(), 9);
@@ -188,19 +190,20 @@ fn files_of_other_lengths_stay(rt: HostRuntime) -> Result<(), Fail> {
     stays(&rt, path.as_str(), LENGTH + 1);
     stays(&rt, path.as_str(), 20_000_000);
     remove(&rt, folder);
-    Ok(())
+}
+
+fn gets_its_length(rt: &(impl Abort + Files<File = File>), path: &str) {
+    make_file(rt, path, b"", 0).expect(rt, "a file");
+    let mut backing = FileBacking::at(rt, path);
+    same(rt, length_of(rt, path), LENGTH);
+    reads(rt, &mut backing, 65_536, [0; 30]);
 }
 
 #[test]
-fn an_empty_file_gets_its_length(rt: HostRuntime) -> Result<(), Fail> {
-    let folder = folder(&rt, "empty")?;
-    let path = path_in(&rt, folder.as_str());
-    make_file(&rt, path.as_str(), b"", 0).expect(&rt, "a file");
-    let mut backing = FileBacking::at(&rt, path.as_str());
-    same(&rt, length_of(&rt, path.as_str()), LENGTH);
-    reads(&rt, &mut backing, 65_536, [0; 30]);
+fn an_empty_file_gets_its_length(rt: HostRuntime) {
+    let folder = folder(&rt, "empty").expect(&rt, "a folder");
+    gets_its_length(&rt, path_in(&rt, folder.as_str()).as_str());
     remove(&rt, folder);
-    Ok(())
 }
 
 /// A file that another handle has locked stays as it is.
@@ -212,66 +215,88 @@ fn stays_held(rt: &(impl Abort + Files<File = File> + Alloc<A = Global>), path: 
     same(rt, length_of(rt, path), length);
 }
 
-#[test]
-fn a_file_that_another_handle_holds_stays(rt: HostRuntime) -> Result<(), Fail> {
-    let folder = folder(&rt, "held")?;
-    let path = path_in(&rt, folder.as_str());
-    stays_held(&rt, path.as_str(), 0);
-    stays_held(&rt, path.as_str(), LENGTH);
-    {
-        let mut first = FileBacking::at(&rt, path.as_str());
-        writes(&rt, &mut first, 1);
-        every_call_fails(&rt, path.as_str());
-        reads(&rt, &mut first, 1, numbers_of(1));
-    }
-    let mut later = FileBacking::at(&rt, path.as_str());
-    reads(&rt, &mut later, 1, numbers_of(1));
-    remove(&rt, folder);
-    Ok(())
+/// While a handle has a file, every call of another one fails.
+fn holds(rt: &(impl Abort + Files<File = File>), path: &str) {
+    let mut first = FileBacking::at(rt, path);
+    writes(rt, &mut first, 1);
+    every_call_fails(rt, path);
+    reads(rt, &mut first, 1, numbers_of(1));
+}
+
+fn reads_later(rt: &(impl Abort + Files<File = File>), path: &str) {
+    let mut later = FileBacking::at(rt, path);
+    reads(rt, &mut later, 1, numbers_of(1));
 }
 
 #[test]
-fn a_folder_and_a_missing_folder_fail(rt: HostRuntime) -> Result<(), Fail> {
-    let folder = folder(&rt, "folders")?;
-    let missing = format!(in rt.alloc(); "{folder}/none/b").expect(&rt, "memory");
+fn a_file_that_another_handle_holds_stays(rt: HostRuntime) {
+    let folder = folder(&rt, "held").expect(&rt, "a folder");
+    let path = path_in(&rt, folder.as_str());
+    stays_held(&rt, path.as_str(), 0);
+    stays_held(&rt, path.as_str(), LENGTH);
+    holds(&rt, path.as_str());
+    reads_later(&rt, path.as_str());
+    remove(&rt, folder);
+}
+
+fn is_folder(rt: &(impl Abort + Files), path: &str) -> bool {
+    fs::metadata(rt, path).expect(rt, "a folder").is_dir()
+}
+
+fn path_missing(rt: &(impl Abort + Alloc<A = Global>), folder: &str) -> String {
+    format!(in rt.alloc(); "{folder}/none/b").expect(rt, "memory")
+}
+
+#[test]
+fn a_folder_and_a_missing_folder_fail(rt: HostRuntime) {
+    let folder = folder(&rt, "folders").expect(&rt, "a folder");
+    let missing = path_missing(&rt, folder.as_str());
     every_call_fails(&rt, folder.as_str());
     every_call_fails(&rt, missing.as_str());
     every_call_fails(&rt, "");
     every_call_fails(&rt, "/dev/null");
-    let is_folder = fs::metadata(&rt, folder.as_str())
-        .expect(&rt, "a folder")
-        .is_dir();
-    same(&rt, is_folder, true);
+    same(&rt, is_folder(&rt, folder.as_str()), true);
     same(&rt, fs::exists(&rt, missing.as_str()).ok(), Some(false));
     remove(&rt, folder);
-    Ok(())
+}
+
+fn set_mode(rt: &(impl Abort + Files), path: &str, mode: u32) {
+    fs::set_permissions(rt, path, Permissions::from_mode(mode)).expect(rt, "a mode");
+}
+
+/// Whether a file may be read and written.
+fn may_open(rt: &impl Files, path: &str) -> bool {
+    OpenOptions::new()
+        .read(true)
+        .write(true)
+        .open(rt, path)
+        .is_ok()
+}
+
+fn begins_with_seven(rt: &impl Abort, bytes: &[u8]) {
+    same(rt, bytes.len() as u64, LENGTH);
+    same(rt, bytes.first(), Some(&b'7'));
 }
 
 /// A file of the right length stays as it is under a mode that doesn't let it be read and written.
 fn stays_under(rt: &(impl Abort + Files<File = File> + Alloc<A = Global>), path: &str, mode: u32) {
     make_file(rt, path, b"7", LENGTH).expect(rt, "a file");
-    fs::set_permissions(rt, path, Permissions::from_mode(mode)).expect(rt, "a mode");
-    let how = OpenOptions::new().read(true).write(true).open(rt, path);
-    let may = how.is_ok();
-    drop(how);
-    if !may {
+    set_mode(rt, path, mode);
+    if !may_open(rt, path) {
         every_call_fails(rt, path);
     }
-    fs::set_permissions(rt, path, Permissions::from_mode(0o600)).expect(rt, "a mode");
-    let bytes = bytes_of(rt, path);
-    same(rt, bytes.len() as u64, LENGTH);
-    same(rt, bytes.first(), Some(&b'7'));
-    fs::remove_file(rt, path).expect(rt, "a file");
+    set_mode(rt, path, 0o600);
+    begins_with_seven(rt, &bytes_of(rt, path));
+    remove_file(rt, path);
 }
 
 // Who may do all is refused nothing: then the file is opened.
 #[test]
-fn a_file_without_permission_stays(rt: HostRuntime) -> Result<(), Fail> {
-    let folder = folder(&rt, "permission")?;
+fn a_file_without_permission_stays(rt: HostRuntime) {
+    let folder = folder(&rt, "permission").expect(&rt, "a folder");
     let path = path_in(&rt, folder.as_str());
     stays_under(&rt, path.as_str(), 0o000);
     stays_under(&rt, path.as_str(), 0o200);
     stays_under(&rt, path.as_str(), 0o400);
     remove(&rt, folder);
-    Ok(())
 }

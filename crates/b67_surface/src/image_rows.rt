@@ -1,9 +1,11 @@
 //! A small image: the machine that is read of it, and that it is printed again. What is refused of it are rows of `b67_rows`.
 
+ghost use Rattle.std.specs.Prelude.{◌≡◌};
+
 use crate::given::{nth, paper_of, same};
 use b67_core::to_number;
 use b67_image::{read_image, write_image};
-use b67_io::Tape;
+use b67_io::{Paper, Tape};
 use b67_task_tables::{JobRow, Machine, TaskState};
 use b67_word::{Bytes, Numbers};
 use std::alloc::Global;
@@ -205,15 +207,26 @@ fn tables_are_read(rt: HostRuntime) {
     same(&rt, nth(&rt, rows, 0).state, waits);
 }
 
+/// Whether the image of a machine is printed.
+fn is_printed(machine: &Machine, printer: &mut Paper) -> bool
+    requires { machine.now.tasks.printed ≡ 0 }
+{
+    write_image(machine, printer).is_ok()
+}
+
+/// Prints the image of a machine of which no line is printed in part.
+fn print(rt: &impl Abort, machine: &Machine, printer: &mut Paper) {
+    assert!(rt; machine.tasks.printed == 0);
+    same(rt, is_printed(machine, printer), true);
+}
+
+fn are_lines(rt: &impl Abort, alloc: Global, bytes: &[u8]) {
+    same(rt, bytes, text(rt, alloc, &LINES).as_slice());
+}
+
 #[test]
 fn the_image_is_printed_again(rt: HostRuntime) {
-    let machine = machine(&rt, rt.alloc());
     let mut printer = paper_of(&rt, rt.alloc(), 8000, 0);
-    assert!(rt; machine.tasks.printed == 0);
-    same(&rt, write_image(&machine, &mut printer).is_ok(), true);
-    same(
-        &rt,
-        printer.bytes(),
-        text(&rt, rt.alloc(), &LINES).as_slice(),
-    );
+    print(&rt, &machine(&rt, rt.alloc()), &mut printer);
+    are_lines(&rt, rt.alloc(), printer.bytes());
 }

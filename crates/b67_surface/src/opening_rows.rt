@@ -4,6 +4,7 @@ ghost use Rattle.std.specs.Prelude.{◌≡◌, ◌<◌, ◌≤◌, ◌^◌, leng
 ghost use Rattle.b67_session_open.specs.Decks.{DeckInRange};
 
 use crate::given::{device_of, nth, same};
+use b67_backing::Backing;
 use b67_codefile::read;
 use b67_core::Core;
 use b67_load_verify::{Admitted, verify};
@@ -68,7 +69,20 @@ fn deck(rt: &impl Abort, alloc: Global, stack: u16) -> Deck
     }
 }
 
-/// Opens it in 256 words of core, over so many sectors, where the write of that number fails.
+/// Opens a deck in 256 words of core.
+fn open_small<B: Backing>(
+    alloc: Global,
+    deck: &Deck,
+    programs: &[Admitted],
+    backing: &mut B,
+) -> Result<Machine, OpenFault>
+    requires range { DeckInRange deck.now }
+    requires each { length programs.now ≡ length deck.now.jobs }
+{
+    open(alloc, deck, programs, 256, backing)
+}
+
+/// Opens it over so many sectors, where the write of that number fails.
 fn opened(
     rt: &impl Abort,
     alloc: Global,
@@ -80,7 +94,7 @@ fn opened(
     let mut backing = device_of(rt, alloc, sectors, 0, failing);
     let programs = [program(rt, alloc)];
     let deck = deck(rt, alloc, stack);
-    open(alloc, &deck, &programs, 256, &mut backing)
+    open_small(alloc, &deck, &programs, &mut backing)
 }
 
 /// What is refused, if anything.

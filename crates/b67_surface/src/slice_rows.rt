@@ -114,13 +114,13 @@ struct Slices {
 
 /// Asks for `n` steps twice.
 fn two_slices<B: Backing, K: Sink>(
-    session: &mut Session,
+    mut session: Session,
     n: u64,
     backing: &mut B,
     paper: &mut K,
 ) -> Slices
-    requires open { IsOpen (B.holds backing.old) session.old }
-    requires sized { B.size backing.old + 1 ≡ length session.old.sectors.links }
+    requires open { IsOpen (B.holds backing.old) session }
+    requires sized { B.size backing.old + 1 ≡ length session.sectors.links }
 {
     let first = session.slice(n, backing, paper);
     let made = session.machine().tasks.made;
@@ -160,11 +160,11 @@ fn sliced(
 {
     let mut backing = device_of(rt, alloc, sectors, fails.read, fails.write);
     let mut paper = paper_of(rt, alloc, 1000, fails.put);
-    let Some(mut session) = opened(alloc, core, deck, &mut backing) else {
+    let Some(session) = opened(alloc, core, deck, &mut backing) else {
         panic!(rt; "not opened")
     };
-    let run = two_slices(&mut session, n, &mut backing, &mut paper);
-    let calls = [fails.read, fails.write, fails.put];
+    let run = two_slices(session, n, &mut backing, &mut paper);
+    let calls = (fails.read, fails.write, fails.put);
     same(rt, (calls, run.second), (calls, Ok(Progress::Ended)));
     same(rt, (calls, paper.bytes()), (calls, lines));
     run
@@ -281,26 +281,49 @@ fn make_slices<B: Backing, K: Sink>(
     true
 }
 
+/// The same of a session: also how many steps its machine has counted then.
+fn count_slices<B: Backing, K: Sink>(
+    mut session: Session,
+    slices: u64,
+    steps: u64,
+    backing: &mut B,
+    paper: &mut K,
+) -> (bool, u64)
+    requires open { IsOpen (B.holds backing.old) session }
+    requires sized { B.size backing.old + 1 ≡ length session.sectors.links }
+{
+    let all = make_slices(&mut session, slices, steps, backing, paper);
+    (all, session.machine().tasks.made)
+}
+
 /// So many slices of so many steps of EIGHT in its least core: how many steps its machine has counted, and the device's calls.
 fn counts_of_slices(rt: &impl Abort, alloc: Global, slices: u64, steps: u64) -> (u64, u64) {
     let mut backing = device_of(rt, alloc, 4096, 0, 0);
     let mut paper = paper_of(rt, alloc, 1000, 0);
     let deck = text_of(rt, alloc, STACK, EIGHT);
-    let Some(mut session) = opened(alloc, 910, deck, &mut backing) else {
+    let Some(session) = opened(alloc, 910, deck, &mut backing) else {
         panic!(rt; "not opened")
     };
-    let all = make_slices(&mut session, slices, steps, &mut backing, &mut paper);
+    let (all, made) = count_slices(session, slices, steps, &mut backing, &mut paper);
     same(rt, (slices, steps, all), (slices, steps, true));
-    (session.machine().tasks.made, backing.calls())
+    (made, backing.calls())
+}
+
+/// EIGHT with a halt at a count.
+fn halted_deck(rt: &impl Abort, alloc: Global, halt: u64) -> Bytes {
+    let cards = format!(in alloc; "?STACK 256\n?HALT {halt}\n").expect(rt, "memory");
+    text_of(rt, alloc, cards.as_bytes(), EIGHT)
+}
+
+fn status_over<B: Backing>(rt: &impl Abort, alloc: Global, deck: Bytes, backing: &mut B) -> u8 {
+    run_over(rt, alloc, "910", deck, backing).status
 }
 
 /// How many calls of the device a run of EIGHT makes that halts at a count.
 fn halted_calls(rt: &impl Abort, alloc: Global, halt: u64) -> u64 {
-    let cards = format!(in alloc; "?STACK 256\n?HALT {halt}\n").expect(rt, "memory");
     let mut backing = device_of(rt, alloc, 4096, 0, 0);
-    let deck = text_of(rt, alloc, cards.as_bytes(), EIGHT);
-    let outcome = run_over(rt, alloc, "910", deck, &mut backing);
-    same(rt, (halt, outcome.status), (halt, 3));
+    let status = status_over(rt, alloc, halted_deck(rt, alloc, halt), &mut backing);
+    same(rt, (halt, status), (halt, 3));
     backing.calls()
 }
 

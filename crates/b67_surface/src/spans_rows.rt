@@ -11,7 +11,6 @@ use b67_stack::Cpu;
 use b67_word::{Place, Word};
 use std::alloc::{AllocError, Global};
 use std::process::Abort;
-use std::test::Fail;
 
 /// The dictionaries of two jobs, of two entries and of one, and five slots of 16 words from word 167 on. In slot 0 the first
 /// task of job 1 runs, on 8 words. In slot 1 its child waits, on 5 words; in slot 2 the first task of job 2, on 3 words; in
@@ -93,8 +92,10 @@ fn span(from: u32, upto: u32) -> Option<Span> {
 }
 
 #[test]
-fn spans_are_where_copies_can_be(rt: HostRuntime) -> Result<(), Fail> {
-    let cpu = family(rt.alloc())?;
+fn spans_are_where_copies_can_be(rt: HostRuntime) {
+    let Ok(cpu) = family(rt.alloc()) else {
+        panic!(rt; "memory")
+    };
     let parent = span(168, 176);
     let child = span(184, 189);
     let other = span(200, 203);
@@ -116,5 +117,4 @@ fn spans_are_where_copies_can_be(rt: HostRuntime) -> Result<(), Fail> {
     );
     spans_are(&rt, &cpu, 201, [None, None, span(202, 203), None, None]);
     spans_are(&rt, &cpu, 216, [None, None, None, span(217, 218), None]);
-    Ok(())
 }
