@@ -27,7 +27,7 @@ use Rattle.b67_job.specs.Command.{command_line_of}
 use Rattle.b67_job.specs.Device.{Device}
 use Rattle.b67_job.specs.Judgement.{Judgement, Refused, Prints, printed, asked}
 use Rattle.b67_job.specs.Due.{WasGiven, Answered}
-use Rattle.b67_promises.specs.Cards.{AsksForCheck, BeginsCommand, HoldPrinted, HoldsInstead, IsAccepted, accepted, memory_wanted, IsAcceptedAlike, accepted_alike, memory_wanted_alike}
+use Rattle.b67_promises.specs.Cards.{AsksForCheck, BeginsCommand, HoldPrinted, HoldsInstead, IsTakenText, accepted, memory_wanted, IsAcceptedAlike, accepted_alike, memory_wanted_alike}
 use Rattle.b67_promises.proofs.Renumbered.{texts_of}
 use Rattle.b67_promises.proofs.Bodies.{IsBegin}
 use Rattle.b67_promises.proofs.TurnCards.{cards_at}
@@ -130,10 +130,10 @@ module _ {T B L : Type 0} {words : List (Bor (List ℕ))} {left : T → Option (
       by_end (printing_fails eight rose) = absurd (omega (arith, rose, worked))
       by_end (memory_is_wanted nine) = inr nine
 
-  is_accepted : (text : List ℕ) → check_verdict other ≡ Ok text → IsAccepted answer
+  is_accepted : (text : List ℕ) → check_verdict other ≡ Ok text → IsTakenText answer
   is_accepted text e = by_case (accepts text e)
     where
-      by_case : Accepts text → IsAccepted answer
+      by_case : Accepts text → IsTakenText answer
       by_case (inl a) = accepted a.0
       by_case (inr nine) = memory_wanted nine
 
@@ -169,7 +169,7 @@ module _ {T B L : Type 0} {words : List (Bor (List ℕ))} {left : T → Option (
     pub convert_is_accepted : (source made : List ℕ) → HoldPrinted (codes "?HEX") bytes other source made → convert_verdict source ≡ Ok made → IsAcceptedAlike taken' old' new' taken old new answer
     convert_is_accepted source made h e = alike (λ p is. convert_accepted bytes other p is fits source made h e)
 
-    pub bound_is_accepted : (made : List ℕ) → HoldsInstead bytes other made → Binds made → IsAccepted answer
+    pub bound_is_accepted : (made : List ℕ) → HoldsInstead bytes other made → Binds made → IsTakenText answer
     bound_is_accepted made h b =
         let f = first_printed in
         let c = checked bytes f.0 f.1 in

@@ -60,9 +60,9 @@ pub record HoldsInstead (bytes other printed : List ℕ) : Type 0 where
   pub ends : BeginsCommand next
 
 -- a call of `check` accepts its deck, or memory was refused to it
-pub data IsAccepted (status : ℕ) : Type 0 where
-  accepted : status ≡ 0 → IsAccepted status
-  memory_wanted : status ≡ 9 → IsAccepted status
+pub data IsTakenText (status : ℕ) : Type 0 where
+  accepted : status ≡ 0 → IsTakenText status
+  memory_wanted : status ≡ 9 → IsTakenText status
 
 -- it accepts its deck, and prints the text that another call printed; or memory was refused to it
 pub data IsAcceptedAlike {K L : Type 0} (taken : K → Option (List ℕ)) (old new : K) (taken' : L → Option (List ℕ)) (old' new' : L) (status : ℕ) : Type 0 where

@@ -7,7 +7,7 @@ ghost use Rattle.b67_task_tables.specs.declared.tables.Machine.{Machine};
 ghost use Rattle.b67_job.specs.Device.{device_of};
 ghost use Rattle.b67_job.specs.Due.{Answered};
 ghost use Rattle.b67_promises.specs.Paging.{AsksForRun, SameLines};
-ghost use Rattle.b67_promises.specs.Cards.{AsksForAsm, AsksForConvert, AsksForBind, AsksForCheck, HoldPrinted, HoldsInstead, IsAccepted, IsAcceptedAlike, CodefilesHoldPrograms, ConvertingKeepsPrograms, DecksOpenOneSession};
+ghost use Rattle.b67_promises.specs.Cards.{AsksForAsm, AsksForConvert, AsksForBind, AsksForCheck, HoldPrinted, HoldsInstead, IsTakenText, IsAcceptedAlike, CodefilesHoldPrograms, ConvertingKeepsPrograms, DecksOpenOneSession};
 
 use b67_backing::Backing;
 use b67_io::{Sink, Source};
@@ -120,7 +120,7 @@ pub fn check_printed<
     ensures bind { (text printed bytes other : List ℕ) → AsksForBind made_words.now → AsksForCheck words.now → AsksForCheck other_words.now
         → R.left source.old ≡ Some text → P.taken cards.old ≡ Some [] → P.taken cards.new ≡ Some printed → S.left deck.old ≡ Some bytes → T.left other_deck.old ≡ Some other
         → HoldsInstead bytes other printed → length other ≤ limit → Stayed T.faults other_deck.old other_deck.new → Stayed L.faults other_printer.old other_printer.new
-        → result.0 ≡ 0 → result.1 ≡ 0 → IsAccepted result.2 }
+        → result.0 ≡ 0 → result.1 ≡ 0 → IsTakenText result.2 }
 
     // The first status is that of a call of `run` on the source, the cards and the spare backing.
     ensures made_call { (machine : Option Machine) × Answered made_words.now R.left R.faults source.old source.new (device_of A.holds A.size A.faults spare.old spare.new)
