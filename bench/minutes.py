@@ -6,7 +6,7 @@ the rows of a table, then the sum of each, what the system counted for all proce
 `rt ci --anew` at the top, over all or over these crates and those below them, and a third of a second at a time reads what each
 process below it has used so far; so it misses some tenths of a second of each, and the system's count is the higher one. That has
 besides the compilers of programs, the runs of programs and tests, and rt itself. Call it in a clone of its own with nothing beside
-it, for some forty minutes on four processors. What the gate prints goes to the standard error, and a gate that fails is the status.
+it, for half an hour on four processors. What the gate prints goes to the standard error, and a gate that fails is the status.
 """
 import collections
 import os
