@@ -1,5 +1,5 @@
 -- The entering of a marked activation record in the code's own values.
-use Rattle.std.proofs.Common.{◌≡◌, ◌≢◌, ℕ, ◌+◌, ◌<◌, ◌≤◌, List, reverse, Err, sym, ◌∙◌, true, false, not, ◌==◌, slice_set, subst, arith}
+use Rattle.std.proofs.Common.{◌≡◌, ◌≢◌, ℕ, ◌+◌, ◌<◌, ◌≤◌, List, reverse, Err, sym, true, false, not, ◌==◌, slice_set, subst, arith}
 use Rattle.b67_word.specs.Tagged.{Tagged}
 use Rattle.b67_word.specs.declared.couples.Place.{Place}
 use Rattle.b67_word.specs.declared.faults.Fault.TheVariants.{InvalidOperand}

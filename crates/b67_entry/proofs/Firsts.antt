@@ -1,20 +1,20 @@
 -- The top activation record before ENTR: its mark, and its first cell.
-use Rattle.std.proofs.Common.{◌≡◌, ◌≢◌, ℕ, ◌+◌, ◌-◌, List, [], ◌∷◌, ◌++◌, length, map, reverse, Some, None, Err, refl, sym, ◌∙◌, ap, arith, true, false, inl, inr, subst, length-append}
+use Rattle.std.proofs.Common.{◌≡◌, ◌≢◌, ℕ, ◌+◌, ◌-◌, ◌<◌, List, [], ◌∷◌, ◌++◌, length, map, reverse, Option, Some, None, Err, refl, sym, ◌∙◌, ap, arith, true, false, inl, inr, subst, length-append}
 use Rattle.std.specs.List.{slice_get, AllByRecursion}
-use Rattle.std.proofs.lemmas.Bool.{false≢true}
 use Rattle.std.proofs.lemmas.List.{reverse-reverse}
+use Rattle.std.proofs.lemmas.Option.{same_Some, slice_get_within}
 use Rattle.b67_word.specs.Tagged.{Tagged}
 use Rattle.b67_word.specs.declared.couples.Place.{Place}
 use Rattle.b67_word.specs.declared.faults.Fault.TheVariants.{InvalidOperand, StackUnderflow}
 use Rattle.b67_ctl.specs.Layout.{flag_bit}
 use Rattle.b67_ctl.specs.declared.marks.Mscw.{Mscw}
-use Rattle.b67_model.specs.Common.{Answer, ◌>>=◌, Word, Operand, Name, Ref, Row, Element, Proc, Intrinsic, Frame, Standing, Array, Task, Job, SessionJob, OperatorContext, top, below_top, End, follow, follow_reference, cells_of, top_of, entr, entr_at, entr_with, Session, Starts, Known, IsSegment, WordInOrder, FramesInOrder, known_of, outer_of, reach_of, called_at, called_by, called_on}
+use Rattle.b67_model.specs.Common.{Answer, ◌>>=◌, Word, Operand, Name, Ref, Row, Element, Proc, Intrinsic, Frame, Standing, Array, Job, OperatorContext, top, below_top, End, follow, follow_reference, cells_of, top_of, entr, entr_at, entr_with, Done, Starts, Known, IsSegment, WordInOrder, FramesInOrder, known_of, outer_of, reach_of, called_at, called_by, called_on}
 use Rattle.b67_ctl.specs.declared.registers.Regs.{Regs}
 use Rattle.b67_lemmas.specs.Lists.{Has}
 use Rattle.b67_lemmas.proofs.Members.{all_in, reverse_cons}
 use Rattle.b67_model.specs.Words as Words
 use Rattle.b67_model.specs.State as State
-use Rattle.b67_layout.specs.Common.{IsInOrderButCounts, Placement, spot_in, outer_spots, spots, shape, head, activations, machine_view, stack_of_task, here, IsRunning, RepresentsSession}
+use Rattle.b67_layout.specs.Common.{Placement, spot_in, outer_spots, spots, shape, head, activations, machine_view, stack_of_task, here, RunsSome}
 use Rattle.b67_stack.specs.declared.Cpu.{Cpu}
 use Rattle.b67_stack.specs.Common.{Shape, Fits, StackPlace, Marked, Activation, mark_of, top_mark, RunsOn, top_cells, Storage}
 use Rattle.b67_stack.proofs.Slots.{running_slot}
@@ -23,10 +23,11 @@ use Rattle.b67_stack.proofs.Cells.{cell_word}
 use Rattle.b67_layout.proofs.Common.{slot_is, runs_here, running_in_order}
 use Rattle.b67_refer.specs.RunningContext.{RunningContext}
 use Rattle.b67_refer.specs.Cells.{StandsFor}
-use Rattle.b67_refer.proofs.Scenes.{scene}
 use Rattle.b67_layout_records.proofs.Enters.{IsMarkedWith, marked_stack}
 use Rattle.b67_refer.specs.Ends.{IsReference}
 use Rattle.b67_entry.specs.Procedures.{CallsWith}
+use Rattle.b67_entry.proofs.Environments.{plain}
+use Rattle.b67_entry.proofs.RetnContext.{IsTopMark, mark_is}
 
 -- what the mark says of how the frame stands
 module _ (plan : Placement) (j : ℕ) (job : Job) (k : ℕ) (outer : ℕ → StackPlace) where
@@ -99,93 +100,123 @@ entr_goes h st first arguments end marked up leads = grind arith
 pub entr_empty : (h : OperatorContext) (st : Standing) → st ≡ State.Marked → cells_of h ≡ [] → (entr h st ≡ Err StackUnderflow) × (called_on h st ≡ None)
 entr_empty h st marked none = (ap (entr h) marked ∙ ap (λ (cs : List Word). entr_with h (reverse cs)) none, ap (called_on h) marked ∙ ap (λ (cs : List Word). called_by h (reverse cs)) none)
 
-module _ (x : Storage) (old : Cpu) (plan : Placement) (s : Session) (m : SessionJob) (t : Task) (q : Place) (o : IsInOrderButCounts s) (h : RepresentsSession x old plan s) (runs : IsRunning plan s.jobs m t) where
-  abbrev pub stack_now : List Activation
-  stack_now = stack_of_task plan m.constants.number m.progress.job plan.running t
+-- the running task's scene
+abbrev pub scene_of : {cpu : Cpu} → RunsSome cpu → RunningContext cpu.core cpu.regs
+scene_of {cpu = cpu} r = plain r.storage cpu r.plan r.session r.member r.task r.ordered r.stands r.running
 
-  mark_now : (top_mark old.regs.slot stack_now).entered ≡ (top_mark plan.running stack_now).entered
-  mark_now = ap (λ (k : ℕ). (top_mark k stack_now).entered) (slot_is x old plan s m t h runs)
+-- what the row answers, and what it calls
+abbrev pub Comes : {cpu : Cpu} → RunsSome cpu → Place → Answer Done → Option ℕ → Type 0
+Comes r q answer call = (entr (here r.member r.task q) (top_of (here r.member r.task q)).standing ≡ answer) × (called_on (here r.member r.task q) (top_of (here r.member r.task q)).standing ≡ call)
 
-  pub faults_entered : (k : Mscw) → k ≡ top_mark old.regs.slot stack_now → k.entered ≡ true → (entr (here m t q) (top_of (here m t q)).standing ≡ Err InvalidOperand) × (called_on (here m t q) (top_of (here m t q)).standing ≡ None)
-  faults_entered k is e = entered_top plan m.constants.number m.progress.job plan.running (outer_spots plan m.constants.number m.progress.job t.critical t.parents) (here m t q) t.frames (sym mark_now ∙ ap (λ (z : Mscw). z.entered) (sym is) ∙ e)
+-- the first cell is a reference, and the row goes by where it leads
+pub record Referring {cpu : Cpu} (r : RunsSome cpu) (q : Place) (w : Tagged) : Type 0 where
+  pub reference : Word
+  pub arguments : List Word
+  pub stands : StandsFor (scene_of r) (cpu.regs.f + 1) (top r.task.frames).identity w reference
+  pub with : CallsWith r.task reference arguments
+  pub goes : (end : Answer End) → follow (here r.member r.task q) reference ≡ end → Comes r q (end >>= entr_at (here r.member r.task q) arguments) (called_at end)
 
-  module _ (k : Mscw) (is : k ≡ top_mark old.regs.slot stack_now) (unentered : k.entered ≡ false) where
-    pub marked : (top t.frames).standing ≡ State.Marked
-    marked = marked_top plan m.constants.number m.progress.job plan.running (outer_spots plan m.constants.number m.progress.job t.critical t.parents) t.frames (sym mark_now ∙ ap (λ (z : Mscw). z.entered) (sym is) ∙ unentered)
+module _ (cpu : Cpu) (q : Place) (r : RunsSome cpu) (mark : Mscw) (marks : IsTopMark cpu mark) where
+  abbrev stack_now : List Activation
+  stack_now = stack_of_task r.plan r.member.constants.number r.member.progress.job r.plan.running r.task
 
-    cells_is : top_cells stack_now ≡ map (shape plan m.constants.number m.progress.job (spot_in plan.running (outer_spots plan m.constants.number m.progress.job t.critical t.parents) t.frames)) (top t.frames).cells
-    cells_is = top_cells_is plan m.constants.number m.progress.job plan.running (outer_spots plan m.constants.number m.progress.job t.critical t.parents) t.frames
+  abbrev outer : ℕ → StackPlace
+  outer = outer_spots r.plan r.member.constants.number r.member.progress.job r.task.critical r.task.parents
 
-    empty : (old.regs.s ≡ old.regs.f → top_cells stack_now ≡ []) × (top_cells stack_now ≡ [] → old.regs.s ≡ old.regs.f)
+  entered_is : (top_mark r.plan.running stack_now).entered ≡ mark.entered
+  entered_is = ap (λ (k : ℕ). (top_mark k stack_now).entered) (sym (slot_is r.storage cpu r.plan r.session r.member r.task r.stands r.running)) ∙ ap (λ (z : Mscw). z.entered) (sym (mark_is cpu mark marks r))
+
+  pub faults_entered : mark.entered ≡ true → Comes r q (Err InvalidOperand) None
+  faults_entered e = entered_top r.plan r.member.constants.number r.member.progress.job r.plan.running outer (here r.member r.task q) r.task.frames (entered_is ∙ e)
+
+  module _ (unentered : mark.entered ≡ false) where
+    marked : (top r.task.frames).standing ≡ State.Marked
+    marked = marked_top r.plan r.member.constants.number r.member.progress.job r.plan.running outer r.task.frames (entered_is ∙ unentered)
+
+    cells_is : top_cells stack_now ≡ map (shape r.plan r.member.constants.number r.member.progress.job (spot_in r.plan.running outer r.task.frames)) (top r.task.frames).cells
+    cells_is = top_cells_is r.plan r.member.constants.number r.member.progress.job r.plan.running outer r.task.frames
+
+    empty : (cpu.regs.s ≡ cpu.regs.f → top_cells stack_now ≡ []) × (top_cells stack_now ≡ [] → cpu.regs.s ≡ cpu.regs.f)
     empty =
-        let e = empty_at x old.core old.regs (machine_view plan s.jobs) old.regs.slot stack_now k 0 h.holds.memory (runs_here x old plan s m t h runs) is (ap flag_bit (sym unentered)) in
+        let on = runs_here r.storage cpu r.plan r.session r.member r.task r.stands r.running in
+        let e = empty_at r.storage cpu.core cpu.regs (machine_view r.plan r.session.jobs) cpu.regs.slot stack_now mark 0 r.stands.holds.memory on (mark_is cpu mark marks r) (ap flag_bit (sym unentered)) in
         (λ z. e.0 (omega (arith, z)), λ z. omega (arith, e.1 z))
 
     no_cells : (g : Word → Shape) (cs : List Word) → map g cs ≡ [] → cs ≡ []
     no_cells g [] e = refl
     no_cells g (c ∷ cs) e = cc
 
-    pub faults_empty : old.regs.s ≡ old.regs.f → (entr (here m t q) (top_of (here m t q)).standing ≡ Err StackUnderflow) × (called_on (here m t q) (top_of (here m t q)).standing ≡ None)
-    faults_empty e = entr_empty (here m t q) (top t.frames).standing marked (no_cells _ (top t.frames).cells (sym cells_is ∙ empty.0 e))
+    pub faults_empty : cpu.regs.s ≡ cpu.regs.f → Comes r q (Err StackUnderflow) None
+    faults_empty e = entr_empty (here r.member r.task q) (top r.task.frames).standing marked (no_cells _ (top r.task.frames).cells (sym cells_is ∙ empty.0 e))
 
     -- the first cell
-    pub record Facing : Type 0 where
-      pub first : Word
-      pub arguments : List Word
-      pub up : reverse (top t.frames).cells ≡ first ∷ arguments
-      pub with : IsMarkedWith t.frames first (reverse arguments)
-      pub word : Tagged
-      pub there : slice_get old.core (old.regs.f + 1) ≡ Some word
-      pub fits : Fits x.held (shape plan m.constants.number m.progress.job (spots plan m.constants.number m.progress.job t) first) (old.regs.f + 1) word
-      pub order : WordInOrder (IsSegment m.constants) m.progress.job.arrays (reach_of m.progress.job t) (top t.frames).identity first
+    record Facing : Type 0 where
+      first : Word
+      arguments : List Word
+      up : reverse (top r.task.frames).cells ≡ first ∷ arguments
+      with : IsMarkedWith r.task.frames first (reverse arguments)
+      word : Tagged
+      there : slice_get cpu.core (cpu.regs.f + 1) ≡ Some word
+      fits : Fits r.storage.held (shape r.plan r.member.constants.number r.member.progress.job (spots r.plan r.member.constants.number r.member.progress.job r.task) first) (cpu.regs.f + 1) word
+      order : WordInOrder (IsSegment r.member.constants) r.member.progress.job.arrays (reach_of r.member.progress.job r.task) (top r.task.frames).identity first
 
-    pub facing : old.regs.s ≢ old.regs.f → Facing
-    facing some =
-        let j = m.constants.number in
-        let job = m.progress.job in
-        let outer = outer_spots plan j job t.critical t.parents in
-        let sh = shape plan j job (spot_in plan.running outer t.frames) in
-        let g = (running_in_order plan s m t o runs).1 in
-        let cs = (top t.frames).cells in
-        let p = parted cs (λ e. some (empty.1 (cells_is ∙ ap (map sh) e))) in
-        let with : IsMarkedWith t.frames p.first (reverse p.arguments) = record { some = g.some; marked = marked; cells = p.down } in
-        let stack : List Activation = record { head = Marked; cells = map sh (reverse p.arguments) ++ sh p.first ∷ [] } ∷ activations plan j job plan.running outer (below_top t.frames) in
-        let on : RunsOn (machine_view plan s.jobs) plan.running stack = subst (RunsOn (machine_view plan s.jobs) plan.running) (marked_stack plan j job plan.running outer t.frames p.first (reverse p.arguments) with)
-        (subst (λ (n : ℕ). RunsOn (machine_view plan s.jobs) n stack_now) (slot_is x old plan s m t h runs) (runs_here x old plan s m t h runs)) in
-        let top_is = running_slot x old.core old.regs (machine_view plan s.jobs) plan.running stack h.holds.memory on in
-        let c = cell_word x old.core old.regs (machine_view plan s.jobs) plan.running (record { head = Marked; cells = map sh (reverse p.arguments) ++ sh p.first ∷ [] }) (activations plan j job plan.running outer (below_top t.frames)) h.holds.memory on (map sh (reverse p.arguments)) (sh p.first) [] refl in
-        let at : old.regs.s - length (map sh (reverse p.arguments)) ≡ old.regs.f + 1 = omega (arith, top_is.top, top_is.mark, length-append (map sh (reverse p.arguments)) (sh p.first ∷ [])) in
-        let C : ℕ → Type 0 = λ n. (w : Tagged) × (slice_get old.core n ≡ Some w) × Fits x.held (sh p.first) n w in
-        let d = subst C at c in
-        let F : ℕ → Type 0 = λ n. Fits x.held (shape plan j job (spot_in n outer t.frames) p.first) (old.regs.f + 1) d.0 in
-        record {
-          first = p.first;
-          arguments = p.arguments;
-          up = p.up;
-          with = with;
-          word = d.0;
-          there = d.1;
-          fits = subst F runs.slot d.2;
-          order = all_in (WordInOrder (IsSegment m.constants) job.arrays (map known_of t.frames ++ outer_of job t) (top t.frames).identity) cs p.first (top_words (IsSegment m.constants) job.arrays (outer_of job t) t.frames g.frames) (subst (λ (ws : List Word). Has ws p.first) (sym p.down) (last_has (reverse p.arguments) p.first));
-        }
+    module _ (some : cpu.regs.s ≢ cpu.regs.f) where
+      facing : Facing
+      facing =
+          let x = r.storage in
+          let plan = r.plan in
+          let p = machine_view plan r.session.jobs in
+          let j = r.member.constants.number in
+          let job = r.member.progress.job in
+          let t = r.task in
+          let memory = r.stands.holds.memory in
+          let sh = shape plan j job (spot_in plan.running outer t.frames) in
+          let g = (running_in_order plan r.session r.member t r.ordered r.running).1 in
+          let cs = (top t.frames).cells in
+          let c = parted cs (λ e. some (empty.1 (cells_is ∙ ap (map sh) e))) in
+          let with : IsMarkedWith t.frames c.first (reverse c.arguments) = record { some = g.some; marked = marked; cells = c.down } in
+          let frame : Activation = record { head = Marked; cells = map sh (reverse c.arguments) ++ sh c.first ∷ [] } in
+          let below = activations plan j job plan.running outer (below_top t.frames) in
+          let on : RunsOn p plan.running (frame ∷ below) = subst (RunsOn p plan.running) (marked_stack plan j job plan.running outer t.frames c.first (reverse c.arguments) with)
+          (subst (λ (n : ℕ). RunsOn p n stack_now) (slot_is x cpu plan r.session r.member t r.stands r.running) (runs_here x cpu plan r.session r.member t r.stands r.running)) in
+          let top_is = running_slot x cpu.core cpu.regs p plan.running (frame ∷ below) memory on in
+          let word = cell_word x cpu.core cpu.regs p plan.running frame below memory on (map sh (reverse c.arguments)) (sh c.first) [] refl in
+          let at : cpu.regs.s - length (map sh (reverse c.arguments)) ≡ cpu.regs.f + 1 = omega (arith, top_is.top, top_is.mark, length-append (map sh (reverse c.arguments)) (sh c.first ∷ [])) in
+          let C : ℕ → Type 0 = λ n. (w : Tagged) × (slice_get cpu.core n ≡ Some w) × Fits x.held (sh c.first) n w in
+          let d = subst C at word in
+          let F : ℕ → Type 0 = λ n. Fits x.held (shape plan j job (spot_in n outer t.frames) c.first) (cpu.regs.f + 1) d.0 in
+          record {
+            first = c.first;
+            arguments = c.arguments;
+            up = c.up;
+            with = with;
+            word = d.0;
+            there = d.1;
+            fits = subst F r.running.slot d.2;
+            order = all_in (WordInOrder (IsSegment r.member.constants) job.arrays (map known_of t.frames ++ outer_of job t) (top t.frames).identity) cs c.first (top_words (IsSegment r.member.constants) job.arrays (outer_of job t) t.frames g.frames) (subst (λ (ws : List Word). Has ws c.first) (sym c.down) (last_has (reverse c.arguments) c.first));
+          }
 
-    pub faults_other : (some : old.regs.s ≢ old.regs.f) → (facing some).word.tag ≢ 1 → (entr (here m t q) (top_of (here m t q)).standing ≡ Err InvalidOperand) × (called_on (here m t q) (top_of (here m t q)).standing ≡ None)
-    faults_other some ne =
-        let f = facing some in
-        entr_goes (here m t q) (top t.frames).standing f.first f.arguments (Err InvalidOperand) marked f.up
-        (refers_not (IsSegment m.constants) m.progress.job.arrays (reach_of m.progress.job t) (top t.frames).identity x plan m.constants.number m.progress.job (spots plan m.constants.number m.progress.job t) (old.regs.f + 1) f.word (here m t q) f.first f.order f.fits ne)
+      pub first_inside : cpu.regs.f + 1 < length cpu.core
+      first_inside = slice_get_within _ _ _ facing.there
 
-    module _ (some : old.regs.s ≢ old.regs.f) (tag : (facing some).word.tag ≡ 1) where
-      pub is_reference : IsReference (facing some).first
-      is_reference = let f = facing some in refers (IsSegment m.constants) m.progress.job.arrays (reach_of m.progress.job t) (top t.frames).identity x plan m.constants.number m.progress.job (spots plan m.constants.number m.progress.job t) (old.regs.f + 1) f.word f.first f.order f.fits tag
+      module _ (w : Tagged) (got : slice_get cpu.core (cpu.regs.f + 1) ≡ Some w) where
+        fits : Fits r.storage.held (shape r.plan r.member.constants.number r.member.progress.job (spots r.plan r.member.constants.number r.member.progress.job r.task) facing.first) (cpu.regs.f + 1) w
+        fits =
+            let F : Tagged → Type 0 = λ z. Fits r.storage.held (shape r.plan r.member.constants.number r.member.progress.job (spots r.plan r.member.constants.number r.member.progress.job r.task) facing.first) (cpu.regs.f + 1) z in
+            subst F (same_Some _ _ (sym facing.there ∙ got)) facing.fits
 
-      pub first_stands : StandsFor (scene [] x old.core old.regs old.critical plan s m t o h.holds runs) (old.regs.f + 1) (top t.frames).identity (facing some).word (facing some).first
-      first_stands = let f = facing some in stands_for (scene [] x old.core old.regs old.critical plan s m t o h.holds runs) (old.regs.f + 1) (top t.frames).identity f.word f.first is_reference f.fits f.order
+        pub faults_other : w.tag ≢ 1 → Comes r q (Err InvalidOperand) None
+        faults_other ne =
+            entr_goes (here r.member r.task q) (top r.task.frames).standing facing.first facing.arguments (Err InvalidOperand) marked facing.up
+            (refers_not (IsSegment r.member.constants) r.member.progress.job.arrays (reach_of r.member.progress.job r.task) (top r.task.frames).identity r.storage r.plan r.member.constants.number r.member.progress.job (spots r.plan r.member.constants.number r.member.progress.job r.task) (cpu.regs.f + 1) w (here r.member r.task q) facing.first facing.order fits ne)
 
-      pub calling : CallsWith t (facing some).first (facing some).arguments
-      calling = let f = facing some in record { some = f.with.some; marked = f.with.marked; cells = f.with.cells; refers = is_reference }
-
-      -- the row, by where its reference leads
-      pub goes : (end : Answer End) → follow (here m t q) (facing some).first ≡ end
-          → (entr (here m t q) (top_of (here m t q)).standing ≡ (end >>= entr_at (here m t q) (facing some).arguments)) × (called_on (here m t q) (top_of (here m t q)).standing ≡ called_at end)
-      goes end leads = let f = facing some in entr_goes (here m t q) (top t.frames).standing f.first f.arguments end marked f.up (same_follow (here m t q) f.first is_reference ∙ leads)
+        pub referring : w.tag ≡ 1 → Referring r q w
+        referring tag =
+            let is : IsReference facing.first = refers (IsSegment r.member.constants) r.member.progress.job.arrays (reach_of r.member.progress.job r.task) (top r.task.frames).identity r.storage r.plan r.member.constants.number r.member.progress.job (spots r.plan r.member.constants.number r.member.progress.job r.task) (cpu.regs.f + 1) w facing.first facing.order fits tag in
+            record {
+              reference = facing.first;
+              arguments = facing.arguments;
+              stands = stands_for (scene_of r) (cpu.regs.f + 1) (top r.task.frames).identity w facing.first is fits facing.order;
+              with = record { some = facing.with.some; marked = facing.with.marked; cells = facing.with.cells; refers = is };
+              goes = λ end leads. entr_goes (here r.member r.task q) (top r.task.frames).standing facing.first facing.arguments end marked facing.up (same_follow (here r.member r.task q) facing.first is ∙ leads);
+            }

@@ -31,3 +31,4 @@ pub mod Sites
 pub mod Entering
 pub mod Environments
 pub mod Nears
+pub mod Stops

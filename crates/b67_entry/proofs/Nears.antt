@@ -1,5 +1,5 @@
 -- The displacement that a couple's word names.
-use Rattle.std.proofs.Common.{◌≡◌, ℕ, sym, ◌∙◌, ap}
+use Rattle.std.proofs.Common.{◌≡◌, ℕ, ◌∙◌, ap}
 use Rattle.b67_word.specs.Tagged.{Tagged}
 use Rattle.b67_word.specs.Couples.{couple}
 use Rattle.b67_word.specs.declared.couples.Couple.{Couple}

@@ -29,7 +29,7 @@ IsTopMark cpu mark =
     (x : Storage) (p : MachineView) (stack : List Activation) → Represents x cpu.core cpu.regs p → RunsOn p cpu.regs.slot stack → mark ≡ top_mark cpu.regs.slot stack
 
 module _ (cpu : Cpu) (mark : Mscw) (marks : IsTopMark cpu mark) where
-  abbrev mark_is : (r : RunsSome cpu) → mark ≡ top_mark cpu.regs.slot (stack_of_task r.plan r.member.constants.number r.member.progress.job r.plan.running r.task)
+  abbrev pub mark_is : (r : RunsSome cpu) → mark ≡ top_mark cpu.regs.slot (stack_of_task r.plan r.member.constants.number r.member.progress.job r.plan.running r.task)
   mark_is r = marks r.storage (machine_view r.plan r.session.jobs) _ r.stands.holds.memory (runs_here r.storage cpu r.plan r.session r.member r.task r.stands r.running)
 
   pub is_pending : (r : RunsSome cpu) (next : Place) → not mark.entered ≡ true → retn (here r.member r.task next) ≡ Err MarkPending

@@ -1,5 +1,5 @@
 -- The frame is left and a word is put on the caller's: the machine represents the session afterwards.
-use Rattle.std.proofs.Common.{◌≡◌, ◌≢◌, ℕ, List, ◌∷◌, map, Ok, sym, ◌∙◌, ap, Bool, true, false, not, inl, inr, subst, arith}
+use Rattle.std.proofs.Common.{◌≡◌, ◌≢◌, ℕ, List, ◌∷◌, map, Ok, sym, ◌∙◌, ap, Bool, false, not, inl, inr, subst, arith}
 use Rattle.std.specs.Prelude.{◌==◌}
 use Rattle.std.proofs.lemmas.Bool.{true≢false}
 use Rattle.std.proofs.lemmas.Bool.Decides.{eqb_tells}

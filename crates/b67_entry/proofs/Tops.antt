@@ -2,7 +2,7 @@
 use Rattle.std.proofs.Common.{◌≡◌, ◌≢◌, ℕ, ◌+◌, List, [], ◌∷◌, length, Option, Some, None, refl, ◌∙◌, ap, arith, true, false, subst}
 use Rattle.b67_model.specs.State as State
 use Rattle.b67_model.specs.Common.{Standing, Return, Frame, Task, JobConstants, Job, level_of_frame, running, IsSegment, ReturnsInOrder, StackInOrder, TaskInOrder}
-use Rattle.b67_stack.specs.Common.{Shape, StackPlace, Head, Marked, Entered, Activation, head_size, top_size, mark_of, top_mark}
+use Rattle.b67_stack.specs.Common.{Shape, StackPlace, Head, Activation, head_size, top_size, mark_of, top_mark}
 use Rattle.b67_layout.specs.Common.{Placement, head, activations}
 
 -- marked, or entered as the bottom one, or entered over others with a return to these

@@ -1,23 +1,13 @@
 -- The word that is followed among the two top ones, where it leads to a procedure.
-use Rattle.std.proofs.Common.{◌≡◌, ◌≢◌, ℕ, ◌-◌, List, Some, Result, Ok, arith}
+use Rattle.std.proofs.Common.{◌≡◌, ◌≢◌, ◌-◌, List, Some, Ok, arith}
 use Rattle.std.specs.List.{slice_get}
 use Rattle.b67_word.specs.Tagged.{Tagged}
-use Rattle.b67_word.specs.declared.couples.Place.{Place}
-use Rattle.b67_word.specs.declared.faults.Fault.{Fault}
-use Rattle.b67_model.specs.Common.{Word, Task, SessionJob, follow}
+use Rattle.b67_model.specs.Common.{Word, Task, SessionJob}
 use Rattle.b67_stack.specs.declared.Cpu.{Cpu}
 use Rattle.b67_stack.specs.Represents.{Storage}
-use Rattle.b67_layout.specs.Common.{Placement, here}
-use Rattle.b67_refer.specs.declared.ends.End.{End}
-use Rattle.b67_refer.specs.RunningContext.{RunningContext, IsShown}
-use Rattle.b67_refer.specs.Cells.{StandsFor}
-use Rattle.b67_refer.specs.Ends.{EndMeets}
+use Rattle.b67_layout.specs.Common.{Placement}
 use Rattle.b67_exec_cells.specs.Tops.{GivesTwo}
 use Rattle.b67_fetch.specs.Stores.{Choice}
-
--- what following a word answers
-abbrev pub Leads : Cpu → Tagged → Result End Fault → Type 0
-Leads cpu w found = (a : RunningContext cpu.core cpu.regs) (q : Place) → IsShown a cpu.display → (at owner : ℕ) (v : Word) → StandsFor a at owner w v → EndMeets a q found (follow (here a.member a.task q) v)
 
 -- the two words that were read
 pub two_words : (x : Storage) (plan : Placement) (m : SessionJob) (t : Task) (cpu : Cpu) (ws : List Word) (two : Tagged × Tagged) → GivesTwo x plan m t cpu ws (Ok two) → (slice_get cpu.core (cpu.regs.s - 1) ≡ Some two.0) × (slice_get cpu.core cpu.regs.s ≡ Some two.1)

@@ -7,8 +7,7 @@ use Rattle.b67_word.specs.declared.faults.Fault.{Fault}
 use Rattle.b67_word.specs.declared.faults.Fault.TheVariants.{InvalidOperand}
 use Rattle.b67_ctl.specs.declared.descriptors.DataDesc.{DataDesc}
 use Rattle.b67_ctl.specs.Descriptors.{data_word, IsDataDesc}
-use Rattle.b67_model.specs.Common.{Answer, ◌>>=◌, Word, Operand, Name, Ref, Row, Element, Original, Proc, Intrinsic, Task, SessionJob, follow, array_of, array_at, Session}
-use Rattle.b67_model.specs.Words as Words
+use Rattle.b67_model.specs.Common.{Answer, ◌>>=◌, Word, Row, Element, Task, SessionJob, follow, array_of, array_at, Session}
 use Rattle.b67_model.specs.Chase as Chase
 use Rattle.b67_layout.specs.Common.{IsInOrderButCounts, Placement, IsRunning, RepresentsSession, here}
 use Rattle.b67_refer.specs.declared.ends.End.{End}
@@ -25,15 +24,9 @@ use Rattle.b67_fetch.specs.Indexes.{array_in, FindsArray}
 module _ (x : Storage) (plan : Placement) (m : SessionJob) (t : Task) (q : Place) where
   -- a word that is no descriptor is followed
   not_row : (w : Tagged) (v : Word) → IsFollowed x plan m t w v → w.tag ≢ 5 → array_of (here m t q) v ≡ (follow (here m t q) v >>= array_at)
-  not_row w (Operand bits) i ne = refl
-  not_row w (Name c) i ne = refl
-  not_row w (Ref f o) i ne = refl
   not_row w (Row a) i ne = absurd (ne (ap (λ (z : Tagged). z.tag) i.is.is))
   not_row w (Element a k) i ne = absurd (ne (ap (λ (z : Tagged). z.tag) i.is.is))
-  not_row w (Original a) i ne = refl
-  not_row w (Proc g l p) i ne = refl
-  not_row w (Intrinsic n) i ne = refl
-  not_row w (Words.Segment n) i ne = refl
+  not_row w _ i ne = refl
 
   -- by the end of the reference
   at_end : (core : List Tagged) (found : End) (e : Answer Chase.End) → FindsEnd plan m core (Ok found) e → FindsArray plan m (array_in found) (e >>= array_at)

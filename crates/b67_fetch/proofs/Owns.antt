@@ -1,15 +1,15 @@
 -- STOD and STON where the top cell is followed without a search, and arrays found so.
-use Rattle.std.proofs.Common.{◌≡◌, ℕ, ◌+◌, ◌<◌, ◌≤◌, ◌∷◌, List, Bool, Ok, Err, refl, sym, arith, inr, length, subst}
-use Rattle.b67_word.specs.Tagged.{Tagged, word}
+use Rattle.std.proofs.Common.{◌≡◌, ℕ, ◌+◌, ◌<◌, ◌≤◌, List, Bool, Ok, Err, refl, arith, inr, length}
+use Rattle.b67_word.specs.Tagged.{Tagged}
 use Rattle.b67_word.specs.declared.couples.Place.{Place}
 use Rattle.b67_word.specs.declared.faults.Fault.{Fault}
 use Rattle.b67_word.specs.declared.faults.Fault.TheVariants.{InvalidOperand}
 use Rattle.b67_ctl.specs.declared.registers.Regs.{Regs}
-use Rattle.std.specs.Prelude.{if◌then◌else◌, Some, slice_get}
+use Rattle.std.specs.Prelude.{Some, slice_get}
 use Rattle.b67_model.specs.Chase as Chase
-use Rattle.b67_model.specs.Common.{Answer, ◌>>=◌, Done, Operand, Session, Task, SessionJob, cells_of, follow, in_order, Word, array_of}
+use Rattle.b67_model.specs.Common.{Answer, Done, Session, Task, SessionJob, cells_of, follow, Word, array_of}
 use Rattle.b67_model.specs.Rows as rows
-use Rattle.b67_layout.specs.Common.{IsInOrderButCounts, Placement, IsRunning, IsMade, RepresentsSession, here, cells}
+use Rattle.b67_layout.specs.Common.{IsInOrderButCounts, Placement, IsRunning, IsMade, RepresentsSession, RunsSome, ForEach, here, cells}
 use Rattle.b67_stack.specs.declared.Cpu.{Cpu}
 use Rattle.b67_stack.specs.declared.Step.TheVariants as step
 use Rattle.b67_stack.specs.Represents.{Storage}
@@ -21,13 +21,12 @@ use Rattle.b67_refer.specs.RunningContext.{RunningContext, live_of}
 use Rattle.b67_refer.proofs.Follows.{follows_none}
 use Rattle.b67_refer.proofs.Owns.{named_operand}
 use Rattle.b67_exec_cells.specs.Tops.{GivesTwo}
-use Rattle.b67_fetch.specs.Fetches.{EntersOrMeets, IsFollowed, enters_at}
+use Rattle.b67_fetch.specs.Fetches.{EntersOrMeets, IsFollowed}
 use Rattle.b67_fetch.specs.Indexes.{FindsArray, array_in}
 use Rattle.b67_fetch.proofs.Found.{found_end}
 use Rattle.b67_fetch.proofs.Values.{here_scene, here_shown, followed_stands, finds_end}
-use Rattle.b67_fetch.specs.Stores.{stored, StoresTo, StoresThrough}
-use Rattle.b67_fetch.proofs.StoreContext.{Context, context}
-use Rattle.b67_fetch.proofs.Stores.{followed_end, cell_inside, cell_done, element_inside, element_done}
+use Rattle.b67_fetch.specs.Stores.{stored, StoresThrough}
+use Rattle.b67_fetch.proofs.StoreContext.{Context, context, inside, done_stores}
 
 -- what is done enters no procedure
 done_made : (x : Storage) (plan : Placement) (s : Session) (m : SessionJob) (old new : Cpu) (enters : Bool) (answer : Answer Done) → EntersOrMeets x plan s m step.Done old new enters answer → IsMade x plan s m old new answer
@@ -55,43 +54,21 @@ stuffed_through x cpu plan s m t o h runs w v i at ends = record {
   there = refl;
 }
 
-module _ (x : Storage) (old : Cpu) (plan : Placement) (s : Session) (m : SessionJob) (t : Task) (o : IsInOrderButCounts s) (h : RepresentsSession x old plan s) (runs : IsRunning plan s.jobs m t) (q : Place) (keeps : Bool)
-    (lower upper : Tagged) (found : GivesTwo x plan m t old (cells t) (Ok (lower, upper))) (zero : lower.tag ≡ 0) (at : ℕ) (through : StoresThrough old upper at) where
-  its_context : Context x old plan s m t o h runs q (upper, lower) (Ok through.end)
-  its_context = context x old plan s m t o h runs q (lower, upper) (upper, lower) found (inr (through.other, refl)) zero (Ok through.end) through.leads
+-- what is made by the row, of whichever session the machine represents
+abbrev pub MadeSo : (old : Cpu) (q : Place) (keeps : Bool) (new : Cpu) → Type 0
+MadeSo old q keeps new = ForEach old (λ x plan s m t. let h = here m t q in IsMade x plan s m old new (rows.store keeps h (cells_of h)))
 
-  abbrev end_found : Answer Chase.End
-  end_found = follow (here m t q) (in_order its_context.cells.first its_context.cells.second).0
+module _ (old : Cpu) (q : Place) (keeps : Bool) (lower upper : Tagged) (found : ForEach old (λ x plan s m t. GivesTwo x plan m t old (cells t) (Ok (lower, upper)))) (zero : lower.tag ≡ 0) (at : ℕ) (through : StoresThrough old upper at) where
+  its_context : (r : RunsSome old) → Context old q r (upper, lower) (Ok through.end)
+  its_context r = context old q r (lower, upper) (upper, lower) found (inr (through.other, refl)) zero (Ok through.end) through.leads
 
-  pub own_inside : at < length old.core
-  own_inside = by through.end through.there its_context.leads where
-    by : (e : End) → StoresTo old e at → EndMeets (here_scene x old plan s m t o h runs) q (Ok e) end_found → at < length old.core
-    by (end.Cell cell) there leads = subst (λ (k : ℕ). k < length old.core) there (cell_inside x old plan s m t o h runs q keeps cell end_found leads)
-    by (end.Element original index) there leads = element_inside x old plan s m t o h runs q keeps original index at end_found leads (there x plan s m t o h runs)
-    by (end.Array original) there leads = absurd there
-    by (end.Proc cell) there leads = absurd there
-    by (end.Intrinsic n) there leads = absurd there
+  pub own_inside : RunsSome old → at < length old.core
+  own_inside r = inside old q r keeps (upper, lower) (Ok through.end) (its_context r) at through.end refl through.there
 
-  -- what is made where the word is stored at an address
-  abbrev Made : ℕ → Type 0
-  Made i = EntersOrMeets x plan s m step.Done old (stored old i (word 0 its_context.bits) keeps q) (enters_at end_found)
-      (end_found >>= rows.store_at (here m t q) its_context.cells.rest (if keeps then Operand its_context.bits ∷ its_context.cells.rest else its_context.cells.rest) its_context.bits)
-
-  pub own_stored : old.regs.f + 2 ≤ old.regs.s → (new : Cpu) → new ≡ stored old at lower keeps q → IsMade x plan s m old new (rows.store keeps (here m t q) (cells_of (here m t q)))
-  own_stored above new is =
-      let k = its_context in
-      let N : Cpu → Type 0 = λ z. IsMade x plan s m old z (rows.store keeps (here m t q) (cells_of (here m t q))) in
-      let T : Tagged → Type 0 = λ v. IsMade x plan s m old (stored old at v keeps q) (rows.store keeps (here m t q) (cells_of (here m t q))) in
-      subst N (sym is) (subst T (sym k.word_is) (done_made x plan s m old (stored old at (word 0 k.bits) keeps q) _ _
-      (followed_end x old plan s m t o h runs q keeps (upper, lower) k.cells step.Done (stored old at (word 0 k.bits) keeps q) k.bits k.operand (by through.end through.there k.leads)))) where
-        by : (e : End) → StoresTo old e at → EndMeets (here_scene x old plan s m t o h runs) q (Ok e) end_found → Made at
-        by (end.Cell cell) there leads = let k = its_context in
-            subst Made there (cell_done x old plan s m t o h runs q keeps k.cells.first k.cells.second k.cells.rest k.cells.is above k.bits k.operand cell leads)
-        by (end.Element original index) there leads = let k = its_context in
-            element_done x old plan s m t o h runs q keeps k.cells.first k.cells.second k.cells.rest k.cells.is above k.bits k.operand original index at leads (there x plan s m t o h runs)
-        by (end.Array original) there leads = absurd there
-        by (end.Proc cell) there leads = absurd there
-        by (end.Intrinsic n) there leads = absurd there
+  pub own_stored : old.regs.f + 2 ≤ old.regs.s → (new : Cpu) → new ≡ stored old at lower keeps q → MadeSo old q keeps new
+  own_stored above new is x plan s m t o h runs =
+      let r : RunsSome old = record { storage = x; plan = plan; session = s; member = m; task = t; ordered = o; stands = h; running = runs } in
+      done_made x plan s m old new _ _ (done_stores old q r keeps (upper, lower) (Ok through.end) (its_context r) at above through.end refl through.there new is)
 
 -- a couple of an original leads to its array
 pub at_array : (e : End) (original : ℕ) → array_in e ≡ Ok original → e ≡ end.Array original

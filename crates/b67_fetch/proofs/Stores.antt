@@ -6,7 +6,7 @@ use Rattle.b67_word.specs.Tagged.{Tagged, word}
 use Rattle.b67_word.specs.declared.couples.Place.{Place}
 use Rattle.b67_word.specs.declared.faults.Fault.{Fault}
 use Rattle.b67_word.specs.declared.faults.Fault.TheVariants.{InvalidOperand, MemoryProtect}
-use Rattle.b67_model.specs.Common.{Answer, ◌>>=◌, array, no_array, with_element, in_order, AtCell, AtElement, AtArray, AtProc, AtIntrinsic, follow, Word, Operand, operand, Array, Task, SessionJob, height, with_top_cells, with_task, Session, Done, Goes, cells_of, with_cells, store_at}
+use Rattle.b67_model.specs.Common.{Answer, ◌>>=◌, array, no_array, with_element, in_order, AtCell, AtElement, follow, Word, Operand, operand, Array, Task, SessionJob, height, with_top_cells, with_task, Session, Done, Goes, cells_of, with_cells, store_at}
 use Rattle.b67_model.specs.Keyed.{keyed}
 use Rattle.b67_model.specs.Chase as Chase
 use Rattle.b67_layout.specs.Common.{IsInOrderButCounts, Placement, IsRunning, RepresentsSession, here, IsMade, Meets, cells}
@@ -16,8 +16,9 @@ use Rattle.b67_stack.specs.declared.Step.{Step}
 use Rattle.b67_stack.specs.declared.Step.TheVariants as step
 use Rattle.b67_stack.specs.Represents.{Storage}
 use Rattle.b67_layout.proofs.Fresh.{running_in_order}
+use Rattle.b67_refer.specs.declared.ends.End.{End}
 use Rattle.b67_refer.specs.declared.ends.End.TheVariants as end
-use Rattle.b67_refer.specs.RunningContext.{RunningContext, live_of}
+use Rattle.b67_refer.specs.RunningContext.{live_of}
 use Rattle.b67_refer.specs.Cells.{IsCellAt}
 use Rattle.b67_refer.specs.Ends.{EndMeets, IsElementOf}
 use Rattle.b67_refer.proofs.Items.{array_is as item_is}
@@ -33,10 +34,15 @@ use Rattle.b67_fetch.proofs.Elements as Elements
 use Rattle.b67_fetch.proofs.Words.{Given, plain_two}
 use Rattle.b67_lemmas.proofs.Members.{keyed_falls}
 
-module _ (x : Storage) (old : Cpu) (plan : Placement) (s : Session) (m : SessionJob) (t : Task) (o : IsInOrderButCounts s) (h : RepresentsSession x old plan s) (runs : IsRunning plan s.jobs m t) (q : Place) (keeps : Bool) where
-  abbrev a : RunningContext old.core old.regs
-  a = here_scene x old plan s m t o h runs
+-- what is answered at an end that nothing is stored into
+abbrev pub Unstored : Result End Fault → Step → Type 0
+Unstored (Err fault) answered = answered ≡ step.Fault fault
+Unstored (Ok (end.Proc cell)) answered = answered ≡ step.Call 255
+Unstored (Ok (end.Array original)) answered = answered ≡ step.Fault MemoryProtect
+Unstored (Ok (end.Intrinsic n)) answered = answered ≡ step.Fault MemoryProtect
+Unstored _ answered = ⊥
 
+module _ (x : Storage) (old : Cpu) (plan : Placement) (s : Session) (m : SessionJob) (t : Task) (o : IsInOrderButCounts s) (h : RepresentsSession x old plan s) (runs : IsRunning plan s.jobs m t) (q : Place) (keeps : Bool) where
   -- the cells that are left
   abbrev kept : ℕ → List Word → List Word
   kept bits rest = if keeps then Operand bits ∷ rest else rest
@@ -76,17 +82,12 @@ module _ (x : Storage) (old : Cpu) (plan : Placement) (s : Session) (m : Session
 
   -- by the end that was found
   module _ (r : Step) (new : Cpu) (rest : List Word) (bits : ℕ) where
-    pub at_fault : (fault : Fault) (y : Answer Chase.End) → EndMeets (here_scene x old plan s m t o h runs) q (Err fault) y → r ≡ step.Fault fault → new ≡ old → ForEnd r new rest bits y
-    at_fault fault y e is same = grind arith
-
-    pub at_proc : (at : ℕ) (y : Answer Chase.End) → EndMeets (here_scene x old plan s m t o h runs) q (Ok (end.Proc at)) y → r ≡ step.Call 255 → new ≡ old → ForEnd r new rest bits y
-    at_proc at y e is same = grind arith
-
-    pub at_array : (original : ℕ) (y : Answer Chase.End) → EndMeets (here_scene x old plan s m t o h runs) q (Ok (end.Array original)) y → r ≡ step.Fault MemoryProtect → new ≡ old → ForEnd r new rest bits y
-    at_array original y e is same = grind arith
-
-    pub at_intrinsic : (k : ℕ) (y : Answer Chase.End) → EndMeets (here_scene x old plan s m t o h runs) q (Ok (end.Intrinsic k)) y → r ≡ step.Fault MemoryProtect → new ≡ old → ForEnd r new rest bits y
-    at_intrinsic k y e is same = grind arith
+    pub at_other : (found : Result End Fault) (y : Answer Chase.End) → EndMeets (here_scene x old plan s m t o h runs) q found y → Unstored found r → new ≡ old → ForEnd r new rest bits y
+    at_other (Err fault) y e other same = grind arith
+    at_other (Ok (end.Proc at)) y e other same = grind arith
+    at_other (Ok (end.Array original)) y e other same = grind arith
+    at_other (Ok (end.Intrinsic n)) y e other same = grind arith
+    at_other (Ok _) y e other same = absurd other
 
     at_cell : (at : ℕ) (w : Word) (y : Answer Chase.End) → follow (here m t q) w ≡ y → EndMeets (here_scene x old plan s m t o h runs) q (Ok (end.Cell at)) y
         → ((f offset b : ℕ) → follow (here m t q) w ≡ Ok (AtCell f offset b) → IsCellAt (here_scene x old plan s m t o h runs) q at f offset (Operand b) → Meets x plan s m r old new (store_at (here m t q) rest (kept bits rest) bits (AtCell f offset b))) → ForEnd r new rest bits y
@@ -97,11 +98,7 @@ module _ (x : Storage) (old : Cpu) (plan : Placement) (s : Session) (m : Session
     at_element original index w (Ok (AtElement n i)) z e done =
         let P : ℕ → Type 0 = λ k. follow (here m t q) w ≡ Ok (AtElement n k) → (HasElement m.progress.job n k) → Meets x plan s m r old new (store_at (here m t q) rest (kept bits rest) bits (AtElement n k)) in
         subst P e.0 (λ z has. done n z e.1.array_of.home has) z (of_item original n i e.1)
-    at_element original index w (Ok (AtCell f offset b)) z e done = absurd e
-    at_element original index w (Ok (AtArray n)) z e done = absurd e
-    at_element original index w (Ok (AtProc f segment level place)) z e done = absurd e
-    at_element original index w (Ok (AtIntrinsic n)) z e done = absurd e
-    at_element original index w (Err y) z e done = absurd e
+    at_element original index w _ z e done = absurd e
 
   -- an array of the job, by its identity
   found : (n index : ℕ) (e : HasElement m.progress.job n index) → keyed (λ (z : Array). z.identity) e.item.identity m.progress.job.arrays ≡ Some e.item
@@ -130,20 +127,12 @@ module _ (x : Storage) (old : Cpu) (plan : Placement) (s : Session) (m : Session
   named original index (Ok (AtElement n i)) e =
       let P : ℕ → Type 0 = λ k. HasElement m.progress.job n k in
       record { number = n; home = e.1.array_of.home; element = subst P (sym e.0) (of_item original n i e.1) }
-  named original index (Ok (AtCell f offset b)) e = absurd e
-  named original index (Ok (AtArray n)) e = absurd e
-  named original index (Ok (AtProc f segment level place)) e = absurd e
-  named original index (Ok (AtIntrinsic n)) e = absurd e
-  named original index (Err y) e = absurd e
+  named original index _ e = absurd e
 
   pub holds : (original index : ℕ) (y : Answer Chase.End) → EndMeets (here_scene x old plan s m t o h runs) q (Ok (end.Element original index)) y → HoldsElement old original index
   holds original index y e =
       let n = named original index y e in
       record { runs = record { storage = x; plan = plan; session = s; member = m; task = t; ordered = o; stands = h; running = runs }; number = n.number; home = n.home; element = n.element }
-
-  -- what was answered for the element's place
-  abbrev Places : ℕ → ℕ → Result ℕ Step → Type 0
-  Places original index result = (n : ℕ) → original ≡ plan.home m.constants.number n → HasElement m.progress.job n index → ElementAt x plan m n original index result
 
   pub element_inside : (original index at : ℕ) (y : Answer Chase.End) → EndMeets (here_scene x old plan s m t o h runs) q (Ok (end.Element original index)) y
       → ((n : ℕ) → original ≡ plan.home m.constants.number n → HasElement m.progress.job n index → ElementAt x plan m n original index (Ok at)) → at < length old.core

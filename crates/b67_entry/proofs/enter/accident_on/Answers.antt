@@ -17,6 +17,7 @@ use Rattle.b67_entry.proofs.Unasked.{pcw_there, pcw_fits, level_small, rooms, sa
 use Rattle.b67_ctl.specs.declared.registers.Regs.{Regs}
 use Rattle.b67_refer.specs.RunningContext.{RunningContext, IsShown}
 use Rattle.b67_refer.specs.Displays.{EntersOver}
+use Rattle.b67_entry.proofs.Stops.{not_done}
 use Rattle.b67_entry.proofs.enter.accident_on.Goals as goal
 
 -- two words were written over a top: the others stay
@@ -78,7 +79,7 @@ returns-then-env-procedure c = record {
       let two : c.procedure_at-procedure.result.level ≡ level = ap (λ (z : Pcw). z.level) pcw in
       (Unasked.refused c.args.cpu.now c.args.regs a q c.args.cell f segment level place e.procedure c.args.value c.args.back c.requires.back (λ z. c.if-env-procedure.true (omega (arith, one, two, z))), refl);
   above = λ i h. refl;
-  top = λ e. cc;
+  top = λ e. absurd (not_done _ tt e);
 }
 
 pub returns-then-regs-lt2 : goal.returns-then-regs-lt2
@@ -90,7 +91,7 @@ returns-then-regs-lt2 c = record {
       let two : c.procedure_at-procedure.result.level ≡ level = ap (λ (z : Pcw). z.level) pcw in
       (Unasked.full c.args.cpu.now c.args.regs a q c.args.cell f segment level place e.procedure c.args.value c.args.back c.requires.back (omega (arith, one, two, c.if-env-procedure.false)) (omega (arith, c.if-regs-lt2.true, (rooms c.args.cpu.now c.args.regs a q c.args.cell f segment level place e.procedure).last)), refl);
   above = λ i h. refl;
-  top = λ e. cc;
+  top = λ e. absurd (not_done _ tt e);
 }
 
 pub begin-requires-clause-run : goal.begin-requires-clause-run

@@ -10,6 +10,7 @@ use Rattle.b67_entry.proofs.Exits.{leaves_pending, leaves_critical, leaves_last}
 use Rattle.b67_entry.proofs.Leaving.{under, on_top, on_stack, may_return, scene_left, exit_goes_on}
 use Rattle.b67_entry.proofs.Sorted.{is_pending, is_entered, is_last, returns_of}
 use Rattle.b67_entry.proofs.Environments.{plain, holds_now, caller_slots}
+use Rattle.b67_entry.proofs.Stops.{not_done}
 use Rattle.b67_entry.proofs.leave.exit.Goals as goal
 
 pub top_mark-mark-requires : goal.top_mark-mark-requires
@@ -24,7 +25,7 @@ returns-then-not-mark c = record {
     refl,
   );
   core = refl;
-  top = λ e. cc;
+  top = λ e. absurd (not_done _ tt e);
 }
 
 pub returns-then-is_critical : goal.returns-then-is_critical
@@ -36,7 +37,7 @@ returns-then-is_critical c = record {
     refl,
   );
   core = refl;
-  top = λ e. cc;
+  top = λ e. absurd (not_done _ tt e);
 }
 
 pub returns-then-mark-eq0 : goal.returns-then-mark-eq0
@@ -48,7 +49,7 @@ returns-then-mark-eq0 c = record {
     refl,
   );
   core = refl;
-  top = λ e. cc;
+  top = λ e. absurd (not_done _ tt e);
 }
 
 pub caller-regs-requires : goal.caller-regs-requires

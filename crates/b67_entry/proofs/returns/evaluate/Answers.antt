@@ -18,6 +18,7 @@ use Rattle.b67_entry.specs.Left.{caller_stack}
 use Rattle.b67_refer.proofs.Chains.{level_is, level_low}
 use Rattle.b67_ctl.specs.declared.registers.Regs.{Regs}
 use Rattle.b67_entry.proofs.Candidates.{shown_there, follows_there, found_end, made_there, enters_there, entered_there}
+use Rattle.b67_entry.proofs.Stops.{not_done}
 use Rattle.b67_entry.proofs.returns.evaluate.Goals as goal
 
 pub chase-requires : goal.chase-requires
@@ -173,7 +174,7 @@ returns-in-None c = record {
       let g = subst (λ (z : Option Tagged). GivesElement x plan m n c.in-Ok-Element.index z) c.in-None.is gives in
       (element_absent x cpu plan s m t o h runs a v c.args.word b no_operand c.in-Ok-Element.original n c.in-Ok-Element.index e q g, refl));
   above = λ i low. refl;
-  top = λ e. cc;
+  top = λ e. absurd (not_done _ tt e);
 }
 
 pub returns-in-Ok-Proc : goal.returns-in-Ok-Proc
@@ -199,7 +200,7 @@ returns-in-Ok-Array c = record {
       let no_operand = not_operand x cpu plan s m t o h runs v c.args.word b.word c.requires.tag in
       (array_refused x cpu plan s m t o h runs a v c.args.word b no_operand c.in-Ok-Array.field-0-0 k, refl));
   above = λ i low. refl;
-  top = λ e. cc;
+  top = λ e. absurd (not_done _ tt e);
 }
 
 pub returns-in-Ok-Intrinsic : goal.returns-in-Ok-Intrinsic
@@ -211,7 +212,7 @@ returns-in-Ok-Intrinsic c = record {
       let no_operand = not_operand x cpu plan s m t o h runs v c.args.word b.word c.requires.tag in
       (intrinsic_refused x cpu plan s m t o h runs a v c.args.word b no_operand c.in-Ok-Intrinsic.field-0-0 k, refl));
   above = λ i low. refl;
-  top = λ e. cc;
+  top = λ e. absurd (not_done _ tt e);
 }
 
 pub returns-in-Err : goal.returns-in-Err
@@ -222,5 +223,5 @@ returns-in-Err c = record {
       let no_operand = not_operand x cpu plan s m t o h runs v c.args.word b.word c.requires.tag in
       (fault_refused x cpu plan s m t o h runs a v c.args.word b no_operand c.in-Err.fault (subst (λ (z : Result End Fault). EndMeets (scene x cpu plan s m t o h runs a) a.back.place z (follow (seen x cpu plan s m t o h runs a) v)) c.in-Err.is E), refl));
   above = λ i low. refl;
-  top = λ e. cc;
+  top = λ e. absurd (not_done _ tt e);
 }

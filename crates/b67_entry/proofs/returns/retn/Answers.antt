@@ -6,6 +6,7 @@ use Rattle.b67_entry.proofs.Retning.{room, operand_is}
 use Rattle.b67_entry.proofs.RetnContext.{is_pending, is_empty, top_word, is_refused, is_held, is_outermost, context, returning, regs_are, context_left, held_left, top_low}
 use Rattle.b67_law_order.proofs.Maps.{IsOperand}
 use Rattle.b67_entry.proofs.Putting.{room_left, put_above, put_done, evaluated}
+use Rattle.b67_entry.proofs.Stops.{not_done}
 use Rattle.b67_entry.proofs.returns.retn.Goals as goal
 use Rattle.b67_entry.proofs.returns.retn.Goals.{else-mark-via-then-mark+else-tag-ne0, else-mark-via-else-mark}
 
@@ -17,7 +18,7 @@ returns-then-not-mark c = record {
   row = λ x plan s m t o h runs next.
       (is_pending c.args.cpu.now c.top_mark-mark.result c.top_mark-mark.ensures (record { storage = x; plan = plan; session = s; member = m; task = t; ordered = o; stands = h; running = runs }) next c.if-not-mark.true, refl);
   above = λ i low. refl;
-  top = λ e. cc;
+  top = λ e. absurd (not_done _ tt e);
 }
 
 pub overflow_add-cpu : goal.overflow_add-cpu
@@ -31,7 +32,7 @@ returns-then-cpu c = record {
   row = λ x plan s m t o h runs next.
       (is_empty c.args.cpu.now c.top_mark-mark.result c.top_mark-mark.ensures (record { storage = x; plan = plan; session = s; member = m; task = t; ordered = o; stands = h; running = runs }) next c.if-not-mark.false c.if-cpu.true, refl);
   above = λ i low. refl;
-  top = λ e. cc;
+  top = λ e. absurd (not_done _ tt e);
 }
 
 pub get-word-requires : goal.get-word-requires
@@ -53,7 +54,7 @@ returns-in-Some c = record {
     refl,
   );
   above = λ i low. refl;
-  top = λ e. cc;
+  top = λ e. absurd (not_done _ tt e);
 }
 
 pub returns-then-is_critical : goal.returns-then-is_critical
@@ -64,7 +65,7 @@ returns-then-is_critical c = record {
     refl,
   );
   above = λ i low. refl;
-  top = λ e. cc;
+  top = λ e. absurd (not_done _ tt e);
 }
 
 pub returns-then-mark-eq0 : goal.returns-then-mark-eq0
@@ -75,7 +76,7 @@ returns-then-mark-eq0 c = record {
     refl,
   );
   above = λ i low. refl;
-  top = λ e. cc;
+  top = λ e. absurd (not_done _ tt e);
 }
 
 pub caller-regs-requires : goal.caller-regs-requires
