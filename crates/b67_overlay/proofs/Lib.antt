@@ -9,4 +9,6 @@ pub mod Sectors
 pub mod Finish
 pub mod Visits
 pub mod Shedding
+pub mod Answered
+mod Claiming
 pub mod Example

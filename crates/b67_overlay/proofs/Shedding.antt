@@ -1,5 +1,5 @@
 -- What an overlay leaves of a storage.
-use Rattle.std.proofs.Common.{◌≡◌, ◌≢◌, ℕ, ◌^◌, ◌<◌, ◌≤◌, ◌==◌, arith, List, length, Option, Some, None, refl, sym, ◌∙◌, ap, subst}
+use Rattle.std.proofs.Common.{◌≡◌, ◌≢◌, ℕ, ◌^◌, ◌<◌, ◌≤◌, ◌==◌, ◌⊎◌, arith, List, length, Option, Some, None, refl, sym, ◌∙◌, ap, subst}
 use Rattle.std.proofs.lemmas.Option.{same_Some, none-some}
 use Rattle.std.proofs.lemmas.Bool.{cond-false, ne_eqb}
 use Rattle.b67_area.specs.declared.Areas.{Areas}
@@ -10,7 +10,7 @@ use Rattle.b67_area.proofs.Laws.{area_inside, area_at-without}
 use Rattle.b67_backing.specs.Shelf.{Table}
 use Rattle.b67_stack.specs.declared.Cpu.{Cpu}
 use Rattle.b67_stack.specs.Common.{Location, PagedObject, MachineView, Storage}
-use Rattle.b67_layout_storage.specs.Machine.{IsPresent, Says, content_after}
+use Rattle.b67_layout_storage.specs.Machine.{IsPresent, Says, DeviceAfterCalls, content_after}
 use Rattle.b67_overlay.specs.Spans.{MachineCanPage}
 use Rattle.b67_stack.proofs.Helds.{held-other}
 use Rattle.b67_overlay.specs.Overlaid.{overlaid, retelling, chain_out, IsShort}
@@ -29,6 +29,10 @@ AreasEvicted-then x y z spare a b = record {
   untold = λ e. b.untold (a.untold e);
   told = λ n. b.told (a.told n);
 }
+
+-- a device that told its content tells one
+pub tells_still : {D : Type 0} {tell : D → Option (List (List ℕ))} {size calls faults : D → ℕ} {before after : D} → DeviceAfterCalls tell size calls faults before after → (all : List (List ℕ)) → tell before ≡ Some all → tell after ≢ None
+tells_still d all e n = let (now, is, same) = d.tells.told all e in none-some now (sym n ∙ is)
 
 retold-none : (d told : Option (List (List ℕ))) → d ≡ None → content_after d told ≡ None
 retold-none None told e = refl
@@ -82,45 +86,63 @@ EvictedBelow-overlaid upto x told new says tells t at here n within = record {
 pub at_area : (x : Storage) (cpu : Cpu) (areas : Areas) (table : Table) (told : Option (List (List ℕ))) (p : MachineView) → MachineCanPage x cpu areas table told p → (at : ℕ) (a : Info) → area_at x.low x.spans at ≡ Some a → (t : PagedObject) × IsPresent x p at t
 at_area x cpu areas table told p m at a e = let o = m.stands.owned.of_area at a e in (o.0, record { there = o.1; present = o.2 })
 
--- a turn of a walk that gives areas back
-module _ (y : Storage) (cpu : Cpu) (areas : Areas) (table : Table) (told : Option (List (List ℕ))) (p : MachineView) (m : MachineCanPage y cpu areas table told p) (spare at : ℕ) (next : Option ℕ) (is : next ≡ Some at) (re : Remains y.low y.spans spare next) where
-  pub here : Remains y.low y.spans spare (Some at)
-  here = let P : Option ℕ → Type 0 = λ o. Remains y.low y.spans spare o in subst P is re
+-- a walk upwards that gives areas back: the machine stands, and the next area is there
+pub record Walks (y : Storage) (p : MachineView) (spare : ℕ) (next : Option ℕ) (cpu : Cpu) (areas : Areas) (table : Table) (told : Option (List (List ℕ))) : Type 0 where
+  pub remains : Remains y.low y.spans spare next
+  pub stands : MachineCanPage y cpu areas table told p
 
-  pub directory_here : (a : Info) × IsDirectory cpu.core areas.low y.spans × (area_at areas.low y.spans at ≡ Some a)
-  directory_here = (
-    here.0.0,
-    subst (λ (n : ℕ). IsDirectory cpu.core n y.spans) (sym m.low) m.stands.directory,
-    ap (λ (n : ℕ). area_at n y.spans at) m.low ∙ here.0.1,
-  )
-
-  pub object_here : (t : PagedObject) × IsPresent y p at t
-  object_here = at_area y cpu areas table told p m at here.0.0 here.0.1
-
-  pub small_here : (y.low < at) × (at < 2 ^ 20)
-  small_here = let b = area_inside cpu.core y.low y.spans at here.0.0 m.stands.directory here.0.1 in (b.0, omega (arith, b.1, m.stands.directory.small))
-
-  pub after_here : (result : Option ℕ) → ((ss : List Span) (a : Info) → IsDirectory cpu.core areas.low ss → area_at areas.low ss at ≡ Some a → result ≡ area_after areas.low ss at) → result ≡ area_after y.low y.spans at
-  after_here result f = let d = directory_here in f y.spans d.0 d.1 d.2 ∙ ap (λ (n : ℕ). area_after n y.spans at) m.low
-
-  pub falls_here : (result : Option ℕ) → result ≡ area_after y.low y.spans at → left_of result < left_of next
-  falls_here result e =
-      let f = walk_falls y.low y.spans at here.0.0 here.0.1 small_here.1 in
-      omega (arith, f, ap left_of e, ap left_of is)
-
-  pub gone_here : (result : Option ℕ) → result ≡ area_after y.low y.spans at → at ≢ spare → Remains y.low (without y.low at y.spans) spare result
-  gone_here result e n = let P : Option ℕ → Type 0 = λ o. Remains y.low (without y.low at y.spans) spare o in subst P (sym e) (Remains-gone y.low y.spans spare at n here)
-
-  pub past_here : (result : Option ℕ) → result ≡ area_after y.low y.spans at → at ≡ spare → Remains y.low y.spans spare result
-  past_here result e q = let P : Option ℕ → Type 0 = λ o. Remains y.low y.spans spare o in subst P (sym e) (Remains-past y.low y.spans spare at q here)
+pub directory_of : {y : Storage} {cpu : Cpu} {areas : Areas} {table : Table} {told : Option (List (List ℕ))} {p : MachineView} → MachineCanPage y cpu areas table told p → IsDirectory cpu.core areas.low y.spans
+directory_of {y} {cpu} m = subst (λ (n : ℕ). IsDirectory cpu.core n y.spans) (sym m.low) m.stands.directory
 
 -- the walk begins
-pub first_here : (y : Storage) (cpu : Cpu) (areas : Areas) (table : Table) (told : Option (List (List ℕ))) (p : MachineView) (spare : ℕ) (result : Option ℕ) → MachineCanPage y cpu areas table told p
-    → ((ss : List Span) → IsDirectory cpu.core areas.low ss → result ≡ first_area areas.low ss) → Remains y.low y.spans spare result
-first_here y cpu areas table told p spare result m f =
-    let e : result ≡ first_area y.low y.spans = f y.spans (subst (λ (n : ℕ). IsDirectory cpu.core n y.spans) (sym m.low) m.stands.directory) ∙ ap (λ (n : ℕ). first_area n y.spans) m.low in
+pub walk_begins : {y : Storage} {cpu : Cpu} {areas : Areas} {table : Table} {told : Option (List (List ℕ))} {p : MachineView} (spare : ℕ) (next : Option ℕ) → MachineCanPage y cpu areas table told p
+    → ((ss : List Span) → IsDirectory cpu.core areas.low ss → next ≡ first_area areas.low ss) → Walks y p spare next cpu areas table told
+walk_begins {y} spare next m first =
+    let e : next ≡ first_area y.low y.spans = first y.spans (directory_of m) ∙ ap (λ (n : ℕ). first_area n y.spans) m.low in
     let P : Option ℕ → Type 0 = λ o. Remains y.low y.spans spare o in
-    subst P (sym e) (Remains-first y.low y.spans spare)
+    record { remains = subst P (sym e) (Remains-first y.low y.spans spare); stands = m }
+
+-- a turn of it
+module _ {y : Storage} {p : MachineView} {spare : ℕ} {next : Option ℕ} {cpu : Cpu} {areas : Areas} {table : Table} {told : Option (List (List ℕ))} (w : Walks y p spare next cpu areas table told) where
+  at_next : (o : Option ℕ) → next ≡ o → Remains y.low y.spans spare o
+  at_next o is = let P : Option ℕ → Type 0 = λ o. Remains y.low y.spans spare o in subst P is w.remains
+
+  pub none_here : next ≡ None → (at : ℕ) (a : Info) → area_at y.low y.spans at ≡ Some a → at ≡ spare
+  none_here is = at_next None is
+
+  module _ {at : ℕ} (is : next ≡ Some at) where
+    here : Remains y.low y.spans spare (Some at)
+    here = at_next (Some at) is
+
+    pub above_here : (b : ℕ) (a : Info) → area_at y.low y.spans b ≡ Some a → (b ≡ spare) ⊎ (at ≤ b)
+    above_here = here.1
+
+    low_here : area_at areas.low y.spans at ≡ Some here.0.0
+    low_here = ap (λ (n : ℕ). area_at n y.spans at) w.stands.low ∙ here.0.1
+
+    pub directory_here : (ss : List Span) × (a : Info) × IsDirectory cpu.core areas.low ss × (area_at areas.low ss at ≡ Some a)
+    directory_here = (y.spans, here.0.0, directory_of w.stands, low_here)
+
+    pub object_here : (t : PagedObject) × IsPresent y p at t
+    object_here = at_area y cpu areas table told p w.stands at here.0.0 here.0.1
+
+    pub small_here : (y.low < at) × (at < 2 ^ 20)
+    small_here = let b = area_inside cpu.core y.low y.spans at here.0.0 w.stands.stands.directory here.0.1 in (b.0, omega (arith, b.1, w.stands.stands.directory.small))
+
+    module _ (later : Option ℕ) (after : (ss : List Span) (a : Info) → IsDirectory cpu.core areas.low ss → area_at areas.low ss at ≡ Some a → later ≡ area_after areas.low ss at) where
+      after_here : later ≡ area_after y.low y.spans at
+      after_here = after y.spans here.0.0 (directory_of w.stands) low_here ∙ ap (λ (n : ℕ). area_after n y.spans at) w.stands.low
+
+      pub falls_here : left_of later < left_of next
+      falls_here =
+          let f = walk_falls y.low y.spans at here.0.0 here.0.1 small_here.1 in
+          omega (arith, f, ap left_of after_here, ap left_of is)
+
+      pub gone_here : at ≢ spare → Remains y.low (without y.low at y.spans) spare later
+      gone_here n = let P : Option ℕ → Type 0 = λ o. Remains y.low (without y.low at y.spans) spare o in subst P (sym after_here) (Remains-gone y.low y.spans spare at n here)
+
+      pub past_here : at ≡ spare → Remains y.low y.spans spare later
+      past_here q = let P : Option ℕ → Type 0 = λ o. Remains y.low y.spans spare o in subst P (sym after_here) (Remains-past y.low y.spans spare at q here)
 
 -- an array that was short stays so
 pub short_at : (y : Storage) (p : MachineView) (t : PagedObject) (at wants free : ℕ) (told : Option (List (List ℕ))) → IsPresent y p at t → IsShort y t × (wants ≡ sectors_for (length t.numbers)) × (free ≡ length y.shelf.free)

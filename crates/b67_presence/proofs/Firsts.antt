@@ -1,7 +1,6 @@
 -- One area that goes first, and those that go after it.
-use Rattle.std.proofs.Common.{◌≡◌, ◌≢◌, ℕ, ◌+◌, ◌^◌, ◌<◌, ◌≤◌, arith, ⊎_elim, List, length, Option, Some, None, Bool, true, false, Result, Ok, Err, OnErr, refl, sym, ◌∙◌, subst}
+use Rattle.std.proofs.Common.{◌≡◌, ◌≢◌, ℕ, ◌+◌, ◌<◌, arith, ⊎_elim, List, length, Option, Some, None, Bool, false, Result, Ok, refl, sym, subst}
 use Rattle.std.proofs.lemmas.Bool.{cases_eq}
-use Rattle.std.proofs.lemmas.Option.{none-some}
 use Rattle.std.proofs.lemmas.Result.{on_err_weaker}
 use Rattle.b67_area.specs.declared.Areas.{Areas}
 use Rattle.b67_area.specs.declared.Info.{Info}
@@ -21,6 +20,7 @@ use Rattle.b67_overlay.specs.AreasEvicted.{AreasEvicted}
 use Rattle.b67_overlay.proofs.Shedding.{AreasEvicted-none, AreasEvicted-overlaid}
 use Rattle.b67_overlay.proofs.Visits.{first_some, after_some, left_of, walk_falls}
 use Rattle.b67_presence.specs.Brings.{EvictsArea, EvictsSome, MakesWay, PointsAtArea, StandsEvicted, NoHoleStill}
+use Rattle.b67_overlay.proofs.Answered.{ok_err, ok_false}
 use Rattle.b67_presence.proofs.Ways.{readable_after, Came-before, Waits-before}
 
 -- ---- a walk over areas that takes none away
@@ -51,26 +51,23 @@ walk_on_falls core low ss at o next d e h is = grind (arith, area_inside, walk_f
 
 -- ---- one area goes first
 
-pub directory_of : (x : Storage) (cpu : Cpu) (areas : Areas) (table : Table) (told : Option (List (List ℕ))) (p : MachineView) → MachineCanPage x cpu areas table told p → IsDirectory cpu.core areas.low x.spans
-directory_of x cpu areas table told p m = subst (λ (n : ℕ). IsDirectory cpu.core n x.spans) (sym m.low) m.stands.directory
+pub object_at : {x : Storage} {cpu : Cpu} {areas : Areas} {table : Table} {told : Option (List (List ℕ))} {p : MachineView} → MachineCanPage x cpu areas table told p
+    → {at : ℕ} {o : Option ℕ} → o ≡ Some at → PointsAtArea areas.low x.spans o → (t : PagedObject) × IsPresent x p at t
+object_at m e h = grind arith
 
-pub object_at : (x : Storage) (cpu : Cpu) (areas : Areas) (table : Table) (told : Option (List (List ℕ))) (p : MachineView) → MachineCanPage x cpu areas table told p
-    → (at : ℕ) (o : Option ℕ) → o ≡ Some at → PointsAtArea areas.low x.spans o → (t : PagedObject) × IsPresent x p at t
-object_at x cpu areas table told p m at o e h = grind arith
-
-pub evicts_none : (x : Storage) (p : MachineView) (t : PagedObject) (spare : ℕ) (cpu : Cpu) (areas : Areas) (table : Table) (told : Option (List (List ℕ)))
+pub evicts_none : {x : Storage} {p : MachineView} {cpu : Cpu} {areas : Areas} {table : Table} {told : Option (List (List ℕ))} (t : PagedObject) (spare : ℕ)
     → MachineCanPage x cpu areas table told p → EvictsSome x p t spare (Ok false) cpu cpu areas table told
-evicts_none x p t spare cpu areas table told m = record {
+evicts_none {x} {p} {cpu} {areas} {table} {told} t spare m = record {
   outside = Stayed-none p cpu.core;
-  came = λ e. absurd (let b : ⊥ = cc in b);
+  came = λ e. absurd (ok_false e);
   waits = λ _. let w : StandsEvicted x p spare cpu areas table told = record { storage = x; sheds = AreasEvicted-none x spare; stands = m } in (w, λ none room. none room);
   refused = tt;
-  full = λ wants free e. absurd (let b : ⊥ = cc in b);
+  full = λ wants free e. absurd (ok_err e);
 }
 
-pub evicts_some : (x : Storage) (p : MachineView) (t u : PagedObject) (at spare : ℕ) (result : Result Bool SpaceFault) (old cpu : Cpu) (areas : Areas) (table : Table) (told new : Option (List (List ℕ)))
+pub evicts_some : {x : Storage} {p : MachineView} {t u : PagedObject} {at spare : ℕ} {result : Result Bool SpaceFault} {old cpu : Cpu} {areas : Areas} {table : Table} {told new : Option (List (List ℕ))}
     → Says x.device told → ((all : List (List ℕ)) → told ≡ Some all → new ≢ None) → IsPresent x p at u → EvictsArea x p t u at spare result old cpu areas table new → EvictsSome x p t spare result old cpu areas table new
-evicts_some x p t u at spare result old cpu areas table told new says tells pr r = record {
+evicts_some {x} {p} {t} {u} {at} {spare} {cpu} {areas} {table} {told} {new} says tells pr r = record {
   outside = r.outside;
   came = r.came;
   waits = λ e. ⊎_elim
@@ -89,12 +86,19 @@ evicts_some x p t u at spare result old cpu areas table told new says tells pr r
 
 -- ---- others go after it
 
-pub way_after : (x y : Storage) (p : MachineView) (t : PagedObject) (spare : ℕ) (result : Result Bool SpaceFault) (old mid cpu : Cpu) (areas : Areas) (table : Table) (told : Option (List (List ℕ)))
-    → LowWordsStayed p old.core mid.core → AreasEvicted x y spare → NoHoleStill (length t.numbers + 2) x y → MakesWay y p t spare result mid cpu areas table told → MakesWay x p t spare result old cpu areas table told
-way_after x y p t spare result old mid cpu areas table told outside sheds still r = record {
+pub way_ends : {x : Storage} {p : MachineView} {t : PagedObject} {spare : ℕ} {r result : Result Bool SpaceFault} {old cpu : Cpu} {areas : Areas} {table : Table} {told : Option (List (List ℕ))}
+    → EvictsSome x p t spare r old cpu areas table told → r ≡ result → result ≢ Ok false → MakesWay x p t spare result old cpu areas table told
+way_ends {x} {p} {t} {spare} {old} {cpu} {areas} {table} {told} r is ends =
+    let E : Result Bool SpaceFault → Type 0 = λ z. EvictsSome x p t spare z old cpu areas table told in
+    let e = subst E is r in
+    record { outside = e.outside; came = e.came; clear = λ q. absurd (ends q); refused = e.refused; full = e.full }
+
+pub way_after : {x y : Storage} {p : MachineView} {t : PagedObject} {spare : ℕ} {result : Result Bool SpaceFault} {old mid cpu : Cpu} {areas : Areas} {table : Table} {told : Option (List (List ℕ))}
+    → AreasEvicted x y spare → NoHoleStill (length t.numbers + 2) x y → MakesWay y p t spare result mid cpu areas table told → LowWordsStayed p old.core mid.core → MakesWay x p t spare result old cpu areas table told
+way_after {p} {result} {old} {mid} {cpu} sheds still r outside = record {
   outside = Stayed-then p old.core mid.core cpu.core outside r.outside;
-  came = λ e readable. Came-before x y p t spare cpu areas table told sheds (r.came e (readable_after x y p spare sheds readable));
-  clear = λ e. let (w, alone) = r.clear e in (Waits-before x y p spare cpu areas table told sheds w, alone);
-  refused = on_err_weaker result (λ w. Waits-before x y p spare cpu areas table told sheds w) r.refused;
-  full = λ wants free e. let (w, short, later) = r.full wants free e in (Waits-before x y p spare cpu areas table told sheds w, short, λ none room. later (still none) room);
+  came = λ e readable. Came-before sheds (r.came e (readable_after p sheds readable));
+  clear = λ e. let (w, alone) = r.clear e in (Waits-before sheds w, alone);
+  refused = on_err_weaker result (λ w. Waits-before sheds w) r.refused;
+  full = λ wants free e. let (w, short, later) = r.full wants free e in (Waits-before sheds w, short, λ none room. later (still none) room);
 }

@@ -25,10 +25,10 @@ pub code_after : (x y : Storage) (p : MachineView) (code spare : ℕ) (c : Paged
 code_after x y p code spare c s k = record { there = k.there; is = k.is; kind = k.kind; present = ap (λ (h : Location). h.area) (s.spared code k.present) ∙ k.present }
 
 -- the object came in and the code stayed
-pub both_came : (x : Storage) (cpu : Cpu) (areas : Areas) (table : Table) (told : Option (List (List ℕ))) (p : MachineView) (home code spare : ℕ) (t c : PagedObject) → MachineCanPage x cpu areas table told p → IsAbsent x p home t → IsCode x p code spare c
-    → (new : Cpu) (after : Areas) (table' : Table) (now : Option (List (List ℕ))) → PlacedAfterEviction x p t spare new after table' now → BothIn x p t c new after table' now
-both_came x cpu areas table told p home code spare t c m a k new after table' now came =
-    let d = differ x cpu areas table told p home code spare t c m a k in
+pub both_came : {x : Storage} {cpu : Cpu} {areas : Areas} {table : Table} {told : Option (List (List ℕ))} {p : MachineView} {home code spare : ℕ} {t c : PagedObject} → MachineCanPage x cpu areas table told p → IsAbsent x p home t → IsCode x p code spare c
+    → {new : Cpu} {after : Areas} {table' : Table} {now : Option (List (List ℕ))} → PlacedAfterEviction x p t spare new after table' now → BothIn x p t c new after table' now
+both_came {x} {cpu} {areas} {table} {told} {p} {home} {code} {spare} {t} {c} m a k {new} came =
+    let d = differ m a k in
     let y = came.storage in
     let h : Location = record { area = Some came.at; chain = (y.held t.home).chain } in
     let is_t : ((brought y t came.at).held t.home).area ≡ Some came.at = ap (λ (g : Location). g.area) (held-same y.held t.home h) in
@@ -48,8 +48,8 @@ both_came x cpu areas table told p home code spare t c m a k new after table' no
     }
 
 -- areas were given back, and the object didn't come in
-pub may_wait : (x : Storage) (p : MachineView) (home spare : ℕ) (t c : PagedObject) → IsAbsent x p home t → (new : Cpu) (after : Areas) (table' : Table) (now : Option (List (List ℕ))) → StandsEvicted x p spare new after table' now → MayWait x p t c new after table' now
-may_wait x p home spare t c a new after table' now w = record {
+pub may_wait : {x : Storage} {p : MachineView} {home spare : ℕ} {t : PagedObject} (c : PagedObject) → IsAbsent x p home t → {new : Cpu} {after : Areas} {table' : Table} {now : Option (List (List ℕ))} → StandsEvicted x p spare new after table' now → MayWait x p t c new after table' now
+may_wait {x} {p} {home} {t} c a {new} w = record {
   storage = w.storage;
   machine_view = p;
   low = w.sheds.low;

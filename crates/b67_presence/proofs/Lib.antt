@@ -3,6 +3,8 @@ pub mod Placing
 pub mod Contents
 pub mod Paged
 pub mod Ways
+pub mod Evicting
+pub mod Upward
 pub mod Firsts
 pub mod Rooms
 pub mod Resort

@@ -1,5 +1,5 @@
 -- The last resort: the code gives way too, and comes back behind the object.
-use Rattle.std.proofs.Common.{◌≡◌, ◌≢◌, ℕ, ◌+◌, ◌≤◌, ◌==◌, ◌⊎◌, ⊎_elim, inl, inr, List, [], ◌∷◌, length, Option, Some, None, refl, sym, ◌∙◌, ap, arith, subst, Result, OnOk, OnErr}
+use Rattle.std.proofs.Common.{◌≡◌, ◌≢◌, ℕ, ◌+◌, ◌≤◌, ◌==◌, ⊎_elim, inl, inr, List, [], ◌∷◌, length, Option, Some, None, refl, sym, ◌∙◌, ap, arith, subst, Result, OnOk, OnErr}
 use Rattle.std.proofs.lemmas.Option.{none-some}
 use Rattle.std.proofs.lemmas.Bool.{cases_eq, cond-true, cond-false, eq-eqb, ne_eqb}
 use Rattle.b67_word.specs.Tagged.{Tagged}
@@ -47,10 +47,16 @@ pub err_under : {T E : Type 0} (R B : Type 0) (result : Result T E) → (R → O
 err_under R B result f = grind arith
 
 -- paging over a storage that says nothing of the device
-pub paging_untold : (x : Storage) (cpu : Cpu) (areas : Areas) (table : Table) (told : Option (List (List ℕ))) (p : MachineView) → MachineCanPage x cpu areas table told p → MachineCanPage (untold x) cpu areas table told p
-paging_untold x cpu areas table told p m = record { stands = Represents-untold x cpu.core cpu.regs p m.stands; low = m.low; shelf = m.shelf; device = tt; copies = m.copies }
+pub paging_untold : {x : Storage} {cpu : Cpu} {areas : Areas} {table : Table} {told : Option (List (List ℕ))} {p : MachineView} → MachineCanPage x cpu areas table told p → MachineCanPage (untold x) cpu areas table told p
+paging_untold {x} {cpu} {p} m = record { stands = Represents-untold x cpu.core cpu.regs p m.stands; low = m.low; shelf = m.shelf; device = tt; copies = m.copies }
 
-module _ (x : Storage) (cpu : Cpu) (areas : Areas) (table : Table) (told : Option (List (List ℕ))) (p : MachineView) (home code spare : ℕ) (t c : PagedObject) (m : MachineCanPage x cpu areas table told p) (a : IsAbsent x p home t) (k : IsCode x p code spare c) where
+pub absent_untold : {x : Storage} {p : MachineView} {home : ℕ} {t : PagedObject} → IsAbsent x p home t → IsAbsent (untold x) p home t
+absent_untold a = record { there = a.there; is = a.is; absent = a.absent }
+
+pub code_untold : {x : Storage} {p : MachineView} {home at : ℕ} {c : PagedObject} → IsCode x p home at c → IsCode (untold x) p home at c
+code_untold k = record { there = k.there; is = k.is; kind = k.kind; present = k.present }
+
+module _ {x : Storage} {cpu : Cpu} {areas : Areas} {table : Table} {told : Option (List (List ℕ))} {p : MachineView} {home code spare : ℕ} {t c : PagedObject} (m : MachineCanPage x cpu areas table told p) (a : IsAbsent x p home t) (k : IsCode x p code spare c) where
   pub differ : c.home ≢ t.home
   differ e = none-some spare (sym a.absent ∙ ap (λ q. (x.held q).area) (sym a.is ∙ sym e ∙ k.is) ∙ k.present)
 
@@ -86,7 +92,7 @@ module _ (x : Storage) (cpu : Cpu) (areas : Areas) (table : Table) (told : Optio
   pub readable_y : IsReadable x p → IsReadable (overlaid x c spare told) p
   readable_y r = ⊎_elim (λ (e : x.device ≡ None). inl (device_same ∙ e)) (λ (f : (u : PagedObject) → Has p.objects u → AreBits u.numbers). inr f) r
 
-  module _ (new : Cpu) (after : Areas) (now : Option (List (List ℕ))) (rd : ReadIn (overlaid x c spare told) p t new after table now) where
+  module _ {new : Cpu} {after : Areas} {now : Option (List (List ℕ))} (rd : ReadIn (overlaid x c spare told) p t new after table now) where
     abbrev z : Storage
     z = brought (overlaid x c spare told) t rd.at
 
@@ -109,8 +115,8 @@ module _ (x : Storage) (cpu : Cpu) (areas : Areas) (table : Table) (told : Optio
     pub readable_z : IsReadable x p → IsReadable (brought (overlaid x c spare told) t rd.at) rd.machine_view
     readable_z r = readable_on x (brought (overlaid x c spare told) t rd.at) p rd.machine_view t reads_x (λ e. device_same ∙ e) r
 
-    pub waits_second : (last : Cpu) (done : Areas) (end : Option (List (List ℕ))) → MachineCanPage (brought (overlaid x c spare told) t rd.at) last done table end rd.machine_view → MayWait x p t c last done table end
-    waits_second last done end ms = record {
+    pub waits_second : {last : Cpu} {done : Areas} {end : Option (List (List ℕ))} → MachineCanPage (brought (overlaid x c spare told) t rd.at) last done table end rd.machine_view → MayWait x p t c last done table end
+    waits_second ms = record {
       storage = brought (overlaid x c spare told) t rd.at;
       machine_view = rd.machine_view;
       low = refl;
@@ -121,8 +127,8 @@ module _ (x : Storage) (cpu : Cpu) (areas : Areas) (table : Table) (told : Optio
       stands = ms;
     }
 
-    pub both_in : (last : Cpu) (done : Areas) (end : Option (List (List ℕ))) → ReadIn (brought (overlaid x c spare told) t rd.at) rd.machine_view c last done table end → BothIn x p t c last done table end
-    both_in last done end rc =
+    pub both_in : {last : Cpu} {done : Areas} {end : Option (List (List ℕ))} → ReadIn (brought (overlaid x c spare told) t rd.at) rd.machine_view c last done table end → BothIn x p t c last done table end
+    both_in rc =
         let h : Location = record { area = Some rc.at; chain = ((brought (overlaid x c spare told) t rd.at).held c.home).chain } in
         let held = (brought (overlaid x c spare told) t rd.at).held in
         let is_c : ((brought (brought (overlaid x c spare told) t rd.at) c rc.at).held c.home).area ≡ Some rc.at = ap (λ (g : Location). g.area) (held-same held c.home h) in
@@ -141,7 +147,7 @@ module _ (x : Storage) (cpu : Cpu) (areas : Areas) (table : Table) (told : Optio
           stands = rc.stands;
         }
 
-  module _ (alone : IsAlone x spare) (core : List Tagged) (size : length core ≡ length cpu.core) (fits : need_both x c t ≤ length cpu.core) (s : Represents (overlaid x c spare told) core cpu.regs p) where
+  module _ (alone : IsAlone x spare) {core : List Tagged} (size : length core ≡ length cpu.core) (fits : need_both x c t ≤ length cpu.core) (s : Represents (overlaid x c spare told) core cpu.regs p) where
     nothing : (b : ℕ) (i : Info) → area_at x.low (without x.low spare x.spans) b ≡ Some i → ⊥
     nothing b i e = ⊎_elim
         (λ (q : spare ≡ b). none-some i (sym (cond-true (spare == b) _ _ (eq-eqb spare b q)) ∙ sym (area_at-without x.low spare x.spans b) ∙ e))
@@ -157,8 +163,8 @@ module _ (x : Storage) (cpu : Cpu) (areas : Areas) (table : Table) (told : Optio
     pub room_c : (at : ℕ) → HasHole (length c.numbers + 2) (brought (overlaid x c spare told) t at).spans
     room_c at = let (h, is, e) = hole in second_room (length c.numbers + 2) x.low at ((overlaid x c spare told).held t.home).chain h (fresh t.kind (length t.numbers) t.home) (without x.low spare x.spans) is (omega arith) (omega (arith, size))
 
-  pub waits_first : (last : Cpu) (done : Areas) (end : Option (List (List ℕ))) → MachineCanPage (overlaid x c spare told) last done table end p → MayWait x p t c last done table end
-  waits_first last done end ms = record {
+  pub waits_first : {last : Cpu} {done : Areas} {end : Option (List (List ℕ))} → MachineCanPage (overlaid x c spare told) last done table end p → MayWait x p t c last done table end
+  waits_first {last} ms = record {
     storage = overlaid x c spare told;
     machine_view = p;
     low = refl;

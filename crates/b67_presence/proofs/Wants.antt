@@ -121,5 +121,5 @@ room_fits x told k plan s m t o h runs (what.Array home) words w room untouched 
     let (at, present) = code_present x told k plan s m t o h runs k.cpu.regs.segment refl w.code in
     let a = array_absent x told k plan s m t o h runs home words w in
     let hole = subst (λ (n : ℕ). HasHole (n + 2) x.spans) w.words_are room in
-    let fits = room_beside x k.cpu k.areas k.sectors told (machine_view plan s.jobs) home (k.cpu.regs.dict + k.cpu.regs.segment) at (array_object plan m.constants.number w.array) (code_found plan s m t o runs).object (view_stands x told k plan s o h) a present hole in
+    let fits = room_beside (view_stands x told k plan s o h) a present hole in
     subst (λ (n : ℕ). n ≤ length k.cpu.core) (sym (need_array x told k plan s m t o h runs home words w)) fits

@@ -1,8 +1,8 @@
-use Rattle.b67_stack.specs.Common.{MachineView, Storage, LowWordsStayed}
+use Rattle.b67_stack.specs.Common.{MachineView, Storage}
 use Rattle.b67_layout_storage.specs.Machine.{DeviceAfterCalls, PagingKeeps}
 use Rattle.b67_overlay.specs.Spans.{MachineCanPage}
-use Rattle.b67_overlay.specs.AreasEvicted.{EvictedBelow, Remains}
 use Rattle.b67_overlay.proofs.Visits.{left_of}
+use Rattle.b67_overlay.proofs.Claiming.{Claimed}
 use Rattle.b67_overlay.proofs.claims.claim.Given as goal
 
 abbrev pub invariant-areas : goal.invariant-areas
@@ -12,8 +12,7 @@ invariant-areas g l =
       keeps : PagingKeeps l.initial.cpu l.cpu l.initial.areas l.areas l.initial.sectors l.sectors;
       device : DeviceAfterCalls holds g.B.Backing.size g.B.Backing.calls g.B.Backing.faults l.initial.backing l.backing;
       stands : (x : Storage) (p : MachineView) → MachineCanPage x l.initial.cpu l.initial.areas l.initial.sectors (holds l.initial.backing) p
-          → (y : Storage) × EvictedBelow l.fn.upto x y × Remains y.low y.spans 0 l.next × MachineCanPage y l.cpu l.areas l.sectors (holds l.backing) p
-          × LowWordsStayed p l.initial.cpu.core l.cpu.core;
+          → Claimed x p l.fn.upto l.next l.initial.cpu l.cpu l.areas l.sectors (holds l.backing);
     }
 
 abbrev pub decreases-areas : goal.decreases-areas

@@ -19,6 +19,7 @@ use Rattle.b67_ctl.specs.declared.registers.Regs.{Regs}
 use Rattle.b67_stack.specs.declared.Cpu.{Cpu}
 use Rattle.b67_backing.specs.declared.SpaceFault.{SpaceFault}
 use Rattle.b67_backing.specs.declared.SpaceFault.TheVariants.{BackingFull}
+use Rattle.b67_overlay.proofs.Answered.{ok_err, same_err}
 use Rattle.b67_overlay.proofs.Finish.{overlaid_machine, retold_machine}
 use Rattle.b67_overlay.proofs.overlays.overlay.Goals as goal
 
@@ -38,8 +39,8 @@ record Written (x : Storage) (p : MachineView) (t : PagedObject) (told new : Opt
   stored : (all : List (List ℕ)) → told ≡ Some all → (y : List (List ℕ)) × (new ≡ Some y) × Stores (sectors_out x.shelf (x.held t.home).chain (length t.numbers)) (map number (object_words t)) all y
   out : IsOut x (record x { shelf = shelf_out x.shelf (x.held t.home).chain (length t.numbers); device = content_after x.device new }) p t (chain_out x.shelf (x.held t.home).chain)
 
-module _ (x : Storage) (cpu : Cpu) (areas : Areas) (table : Table) (told : Option (List (List ℕ))) (p : MachineView) (t : PagedObject) (m : MachineCanPage x cpu areas table told p) (area : ℕ) (at : IsPresent x p area t) where
-  module _ (i : Info) where
+module _ {x : Storage} {cpu : Cpu} {areas : Areas} {table : Table} {told : Option (List (List ℕ))} {p : MachineView} {t : PagedObject} (m : MachineCanPage x cpu areas table told p) {area : ℕ} (at : IsPresent x p area t) where
+  module _ {i : Info} where
     known : ((spans : List Span) (j : Info) → IsDirectory cpu.core areas.low spans → area_at areas.low spans area ≡ Some j → i ≡ j) → Known x cpu.core table area t i
     known says =
         let is = info_is x cpu.core cpu.regs p m.stands area t at areas.low m.low i says in
@@ -79,7 +80,7 @@ info-info-requires g c =
 pub write_out-requires-clause-words : goal.write_out-requires-clause-words
 write_out-requires-clause-words g c =
     let (x, p, t, m, at) = c.requires.machine in
-    let k = known x c.args.cpu.now c.args.areas.now c.args.sectors.now (g.B.Backing.holds c.args.backing.now) p t m c.args.area at c.info-info.result c.info-info.ensures in
+    let k = known m at c.info-info.ensures in
     record {
       some = omega (arith, k.facts.some, ap (λ (i : Info). i.words) k.is);
       few = omega (arith, k.facts.few, ap (λ (i : Info). i.words) k.is);
@@ -89,37 +90,37 @@ write_out-requires-clause-words g c =
 pub write_out-requires-clause-chain : goal.write_out-requires-clause-chain
 write_out-requires-clause-chain g c =
     let (x, p, t, m, at) = c.requires.machine in
-    (x.shelf, m.shelf, (known x c.args.cpu.now c.args.areas.now c.args.sectors.now (g.B.Backing.holds c.args.backing.now) p t m c.args.area at c.info-info.result c.info-info.ensures).chain c.in-Array.is)
+    (x.shelf, m.shelf, (known m at c.info-info.ensures).chain c.in-Array.is)
 
 pub give_back-requires-clause-machine : goal.give_back-requires-clause-machine
 give_back-requires-clause-machine g c =
     let (x, p, t, m, at) = c.requires.machine in
-    (x, p, t, m.stands, m.copies, m.low, at, (known x c.args.cpu.now c.args.areas.now c.args.sectors.now (g.B.Backing.holds c.args.backing.now) p t m c.args.area at c.info-info.result c.info-info.ensures).is)
+    (x, p, t, m.stands, m.copies, m.low, at, (known m at c.info-info.ensures).is)
 
 pub give_back-requires-clause-first : goal.give_back-requires-clause-first
 give_back-requires-clause-first g c =
     let (x, p, t, m, at) = c.requires.machine in
-    let k = known x c.args.cpu.now c.args.areas.now c.args.sectors.now (g.B.Backing.holds c.args.backing.now) p t m c.args.area at c.info-info.result c.info-info.ensures in
+    let k = known m at c.info-info.ensures in
     let wr = (c.in-Ok.ensures.row x.shelf m.shelf).written (k.chain c.in-Array.is) in
-    let w = written x c.args.cpu.now c.args.areas.now c.args.sectors.now (g.B.Backing.holds c.args.backing.now) p t m c.args.area at c.info-info.result k (k.array c.in-Array.is) (g.B.Backing.holds c.write_out.new.backing) c.in-Ok.first c.write_out.new.sectors (wr.0, wr.1, (c.in-Ok.ensures.row x.shelf m.shelf).room, wr.2.told) in
+    let w = written m at k (k.array c.in-Array.is) (g.B.Backing.holds c.write_out.new.backing) c.in-Ok.first c.write_out.new.sectors (wr.0, wr.1, (c.in-Ok.ensures.row x.shelf m.shelf).room, wr.2.told) in
     omega (arith, w.out.holds.chain.small, w.first_is)
 
 pub returns-in-Row-clause-row : goal.returns-in-Row-clause-row
 returns-in-Row-clause-row g c = λ x p t m at.
-    let no_array = (known x c.args.cpu.now c.args.areas.now c.args.sectors.now (g.B.Backing.holds c.args.backing.now) p t m c.args.area at c.info-info.result c.info-info.ensures).no_array c.in-Row.is in
+    let no_array = (known m at c.info-info.ensures).no_array c.in-Row.is in
     record {
       stands = c.discard.ensures.stands x c.args.sectors.now (g.B.Backing.holds c.args.backing.now) p t m at no_array;
       refused = tt;
       outside = c.discard.ensures.outside x p t m.stands m.copies m.low at;
-      full = λ wants free. (λ e. absurd (let b : ⊥ = cc in b), λ h. absurd (no_array h.0.kind));
+      full = λ wants free. (λ e. absurd (ok_err e), λ h. absurd (no_array h.0.kind));
       clean = λ _. (refl, refl, refl);
     }
 
 pub returns-in-Ok-clause-row : goal.returns-in-Ok-clause-row
 returns-in-Ok-clause-row g c = λ x p t m at.
-    let k = known x c.args.cpu.now c.args.areas.now c.args.sectors.now (g.B.Backing.holds c.args.backing.now) p t m c.args.area at c.info-info.result c.info-info.ensures in
+    let k = known m at c.info-info.ensures in
     let wr = (c.in-Ok.ensures.row x.shelf m.shelf).written (k.chain c.in-Array.is) in
-    let w = written x c.args.cpu.now c.args.areas.now c.args.sectors.now (g.B.Backing.holds c.args.backing.now) p t m c.args.area at c.info-info.result k (k.array c.in-Array.is) (g.B.Backing.holds c.write_out.new.backing) c.in-Ok.first c.write_out.new.sectors (wr.0, wr.1, (c.in-Ok.ensures.row x.shelf m.shelf).room, wr.2.told) in
+    let w = written m at k (k.array c.in-Array.is) (g.B.Backing.holds c.write_out.new.backing) c.in-Ok.first c.write_out.new.sectors (wr.0, wr.1, (c.in-Ok.ensures.row x.shelf m.shelf).room, wr.2.told) in
     record {
       stands =
           let y : Storage = record x { shelf = shelf_out x.shelf (x.held t.home).chain (length t.numbers); device = content_after x.device (g.B.Backing.holds c.write_out.new.backing) } in
@@ -132,13 +133,13 @@ returns-in-Ok-clause-row g c = λ x p t m at.
           (ap (λ (z : Areas). z.low) c.give_back.ensures.areas) w.shelf (λ all e. let (q, i, st) = w.stored all e in (q, i)) c.give_back.new.cpu.core (c.give_back.ensures.outside x p t m.stands m.copies m.low at k.is) d);
       refused = tt;
       outside = c.give_back.ensures.outside x p t m.stands m.copies m.low at k.is;
-      full = λ wants free. (λ e. absurd (let b : ⊥ = cc in b), λ h. absurd (omega (arith, h.0.few, w.room h.0.none)));
+      full = λ wants free. (λ e. absurd (ok_err e), λ h. absurd (omega (arith, h.0.few, w.room h.0.none)));
       clean = λ no_array. absurd (no_array (k.array c.in-Array.is));
     }
 
 pub returns-in-Err-clause-row : goal.returns-in-Err-clause-row
 returns-in-Err-clause-row g c = λ x p t m at.
-    let k = known x c.args.cpu.now c.args.areas.now c.args.sectors.now (g.B.Backing.holds c.args.backing.now) p t m c.args.area at c.info-info.result c.info-info.ensures in
+    let k = known m at c.info-info.ensures in
     let array = k.array c.in-Array.is in
     record {
       stands = tt;
@@ -152,8 +153,8 @@ returns-in-Err-clause-row g c = λ x p t m at.
           let F : Info → Type 0 = λ i. (◌≡◌ {A = Result ℕ SpaceFault} (Err c.in-Err.fault) (Err (BackingFull wants free)) → (i.kept ≡ 0) × (length x.shelf.free < sectors_for i.words) × (wants ≡ sectors_for i.words) × (free ≡ length x.shelf.free))
           × ((i.kept ≡ 0) × (length x.shelf.free < sectors_for i.words) × (wants ≡ sectors_for i.words) × (free ≡ length x.shelf.free) → ◌≡◌ {A = Result ℕ SpaceFault} (Err c.in-Err.fault) (Err (BackingFull wants free))) in
           let fl = subst F k.is ((c.in-Err.ensures.row x.shelf m.shelf).full wants free) in (
-            λ e. let r = fl.0 (let z : ◌≡◌ {A = Result ℕ SpaceFault} (Err c.in-Err.fault) (Err (BackingFull wants free)) = cc in z) in (record { kind = array; none = r.0; few = r.1 }, r.2, r.3),
-            λ h. let z = fl.1 (h.0.none, h.0.few, h.1, h.2) in (let q : ◌≡◌ {A = Result (Unit {0}) SpaceFault} (Err c.in-Err.fault) (Err (BackingFull wants free)) = cc in q),
+            λ e. let r = fl.0 (same_err e) in (record { kind = array; none = r.0; few = r.1 }, r.2, r.3),
+            λ h. same_err (fl.1 (h.0.none, h.0.few, h.1, h.2)),
           );
       clean = λ no_array. absurd (no_array array);
     }
@@ -161,4 +162,4 @@ returns-in-Err-clause-row g c = λ x p t m at.
 pub discard-requires : goal.discard-requires
 discard-requires g c =
     let (x, p, t, m, at) = c.requires.machine in
-    (x, p, t, m.stands, m.copies, m.low, at, (known x c.args.cpu.now c.args.areas.now c.args.sectors.now (g.B.Backing.holds c.args.backing.now) p t m c.args.area at c.info-info.result c.info-info.ensures).no_array c.in-Row.is)
+    (x, p, t, m.stands, m.copies, m.low, at, (known m at c.info-info.ensures).no_array c.in-Row.is)

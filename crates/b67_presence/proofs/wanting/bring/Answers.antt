@@ -3,6 +3,7 @@ use Rattle.std.proofs.lemmas.Result.{on_ok_weaker, on_err_weaker}
 use Rattle.b67_layout.specs.Layout.{array_object, machine_view}
 use Rattle.b67_stack.specs.declared.What.TheVariants as what
 use Rattle.b67_task_need.specs.Needing.{need_with}
+use Rattle.b67_overlay.proofs.Answered.{core_full}
 use Rattle.b67_presence.proofs.Forcing.{same_need, need_is}
 use Rattle.b67_layout_spans.proofs.Sessions.{view_of}
 use Rattle.b67_presence.proofs.Again.{machine_of, view_stands}
@@ -41,7 +42,7 @@ returns-then-needed-core-clause-row g c = λ x plan s m t words o h runs wanted.
         λ e. let q = need_is c.need-needed.result c.size-core.result need size e in (omega (arith, c.if-needed-core.true, c.size-core.ensures.value, is), sym q.0 ∙ is, sym q.1 ∙ c.size-core.ensures.value),
         λ h. same_need c.need-needed.result c.size-core.result need size (is ∙ sym h.1) (c.size-core.ensures.value ∙ sym h.2),
       );
-      full = λ wants free e. absurd (let b : ⊥ = cc in b);
+      full = λ wants free e. absurd (core_full e);
     }
 
 pub overflow_add-code : goal.overflow_add-code

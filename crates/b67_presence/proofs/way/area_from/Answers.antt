@@ -1,5 +1,3 @@
-use Rattle.std.proofs.Common.{◌≡◌, ◌∙◌, sym, subst, Option, Some, ℕ}
-use Rattle.b67_presence.specs.Brings.{PointsAtArea}
 use Rattle.b67_presence.proofs.Firsts.{points_at_first, points_at, points_at_next, walk_on_falls}
 use Rattle.b67_presence.proofs.way.area_from.Goals as goal
 

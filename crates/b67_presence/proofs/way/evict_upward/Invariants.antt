@@ -1,10 +1,8 @@
-use Rattle.std.specs.Prelude.{◌+◌, length}
-use Rattle.b67_stack.specs.Common.{PagedObject, MachineView, Storage, LowWordsStayed}
+use Rattle.b67_stack.specs.Common.{PagedObject, MachineView, Storage}
 use Rattle.b67_layout_storage.specs.Machine.{IsAbsent, DeviceAfterCalls, PagingKeeps}
 use Rattle.b67_overlay.specs.Spans.{MachineCanPage}
-use Rattle.b67_overlay.specs.AreasEvicted.{AreasEvicted, Remains}
 use Rattle.b67_overlay.proofs.Visits.{left_of}
-use Rattle.b67_presence.specs.Brings.{NoHoleStill}
+use Rattle.b67_presence.proofs.Upward.{GaveWay}
 use Rattle.b67_presence.proofs.way.evict_upward.Given as goal
 
 abbrev pub invariant-areas : goal.invariant-areas
@@ -14,8 +12,7 @@ invariant-areas g l =
       keeps : PagingKeeps l.initial.cpu l.cpu l.initial.areas l.areas l.initial.sectors l.sectors;
       device : DeviceAfterCalls holds g.B.Backing.size g.B.Backing.calls g.B.Backing.faults l.initial.backing l.backing;
       stands : (x : Storage) (p : MachineView) (t : PagedObject) → MachineCanPage x l.initial.cpu l.initial.areas l.initial.sectors (holds l.initial.backing) p → IsAbsent x p l.home t
-          → (y : Storage) × AreasEvicted x y l.spare × Remains y.low y.spans l.spare l.next × MachineCanPage y l.cpu l.areas l.sectors (holds l.backing) p
-          × LowWordsStayed p l.initial.cpu.core l.cpu.core × NoHoleStill (length t.numbers + 2) x y;
+          → GaveWay x p t l.spare l.next l.initial.cpu l.cpu l.areas l.sectors (holds l.backing);
     }
 
 abbrev pub decreases-areas : goal.decreases-areas
