@@ -1,16 +1,18 @@
-use Rattle.std.proofs.Common.{◌≡◌, Err, List, map, refl, ap, subst}
+use Rattle.std.proofs.Common.{◌≡◌, Result, Err, List, map, refl, ap, subst}
 use Rattle.b67_codefile.specs.declared.file.Codefile.{Codefile}
 use Rattle.b67_codefile.specs.Meaning.{program_of}
 use Rattle.b67_session_open.specs.Opens.{IsOpened}
 use Rattle.b67_session.specs.Stops.{Stop}
 use Rattle.b67_session_open.proofs.InitialOpens.{uncalled}
 use Rattle.b67_job.specs.declared.searching.SearchFault.{SearchFault}
-use Rattle.b67_job.specs.declared.searching.SearchFault.TheVariants as reasons
 use Rattle.b67_job.specs.Searches.{FailsInDeck}
 use Rattle.b67_job.proofs.Decks.{after_more}
 use Rattle.b67_job.proofs.Served.{loaded_in_range}
 use Rattle.b67_job.proofs.LookedAt.{begins, finds, fails}
 use Rattle.b67_job.proofs.searching.find_in_deck.Goals as goal
+
+same_fault : {A : Type 0} {a b : SearchFault} → ◌≡◌ {A = Result A SearchFault} (Err a) (Err b) → a ≡ b
+same_fault e = cc
 
 pub open-requires-clause-range : goal.open-requires-clause-range
 open-requires-clause-range g c = (loaded_in_range g.S.Source.left g.S.Source.faults c.args.deck.now c.admit.new.source c.in-Ok.loaded c.in-Ok.ensures.answer).0
@@ -34,8 +36,7 @@ returns-in-Ok-find-clause-device g c = after_more c.open.ensures.device c.find.e
 
 pub returns-in-Err-clause-fails : goal.returns-in-Err-clause-fails
 returns-in-Err-clause-fails g c = λ fault e.
-    let same : reasons.Admit c.in-Err.fault ≡ fault = cc in
-    subst (λ (z : SearchFault). FailsInDeck g.S.Source.left g.S.Source.faults c.args.deck.now c.admit.new.source g.B.Backing.holds g.B.Backing.size g.B.Backing.faults c.args.backing.now c.args.backing.now c.args.core c.args.what c.args.places.now c.args.from c.args.most z) same
+    subst (λ (z : SearchFault). FailsInDeck g.S.Source.left g.S.Source.faults c.args.deck.now c.admit.new.source g.B.Backing.holds g.B.Backing.size g.B.Backing.faults c.args.backing.now c.args.backing.now c.args.core c.args.what c.args.places.now c.args.from c.args.most z) (same_fault e)
     (c.in-Err.ensures.answer, refl)
 
 pub returns-in-Err-clause-device : goal.returns-in-Err-clause-device
@@ -43,8 +44,7 @@ returns-in-Err-clause-device g c = uncalled g.B.Backing.holds g.B.Backing.size g
 
 pub returns-in-Err-open-clause-fails : goal.returns-in-Err-open-clause-fails
 returns-in-Err-open-clause-fails g c = λ fault e.
-    let same : reasons.Open c.in-Err-open.fault ≡ fault = cc in
-    subst (λ (z : SearchFault). FailsInDeck g.S.Source.left g.S.Source.faults c.args.deck.now c.admit.new.source g.B.Backing.holds g.B.Backing.size g.B.Backing.faults c.args.backing.now c.open.new.backing c.args.core c.args.what c.args.places.now c.args.from c.args.most z) same (
+    subst (λ (z : SearchFault). FailsInDeck g.S.Source.left g.S.Source.faults c.args.deck.now c.admit.new.source g.B.Backing.holds g.B.Backing.size g.B.Backing.faults c.args.backing.now c.open.new.backing c.args.core c.args.what c.args.places.now c.args.from c.args.most z) (same_fault e) (
       c.in-Ok.loaded,
       c.in-Ok.ensures.answer,
       subst (λ (fs : List Codefile). IsOpened g.B.Backing.holds g.B.Backing.size g.B.Backing.faults c.in-Ok.loaded.deck (map program_of fs) c.args.core c.args.backing.now c.open.new.backing (Err c.in-Err-open.fault))
@@ -56,8 +56,7 @@ returns-clause-device g c = after_more c.open.ensures.device c.find.ensures.leav
 
 pub returns-clause-fails : goal.returns-clause-fails
 returns-clause-fails g c = λ fault e.
-    let same : reasons.Stop c.in-Err-find.stop ≡ fault = cc in
-    subst (λ (z : SearchFault). FailsInDeck g.S.Source.left g.S.Source.faults c.args.deck.now c.admit.new.source g.B.Backing.holds g.B.Backing.size g.B.Backing.faults c.args.backing.now c.find.new.backing c.args.core c.args.what c.args.places.now c.args.from c.args.most z) same (
+    subst (λ (z : SearchFault). FailsInDeck g.S.Source.left g.S.Source.faults c.args.deck.now c.admit.new.source g.B.Backing.holds g.B.Backing.size g.B.Backing.faults c.args.backing.now c.find.new.backing c.args.core c.args.what c.args.places.now c.args.from c.args.most z) (same_fault e) (
       c.in-Ok.loaded,
       c.in-Ok.ensures.answer,
       fails g.S.Source.left g.S.Source.faults c.args.deck.now c.admit.new.source g.B.Backing.holds g.B.Backing.size g.B.Backing.calls g.B.Backing.faults c.args.backing.now c.open.new.backing c.args.core c.in-Ok.loaded c.as_slice-programs.result.now c.in-Ok-open.machine
