@@ -19,7 +19,7 @@ use Rattle.b67_task_tables.specs.Tables.{MachineRepresents}
 use Rattle.b67_mcp.specs.Called.{IsCalled, OnlyPrinted, IsFull, IsRefused, IsUnstarted, IsUnstartedFull, CallsDevice, MayWrite}
 use Rattle.b67_mcp.specs.declared.ends.Stop.{Stop}
 use Rattle.b67_mcp.specs.declared.ends.Stop.TheVariants as stops
-use Rattle.b67_presence.specs.Bringing.{StandsOver, IsWanted, WantsSome, StandsAgain, Brings, AreasStay, words_wanted}
+use Rattle.b67_presence.specs.Bringing.{StandsOver, IsWanted, StandsAgain, Brings, AreasStay, words_wanted}
 use Rattle.b67_layout_step.proofs.MoreOtherNumbers.{others_running, RunsOther}
 use Rattle.b67_presence.proofs.Others.{others_same, others_then}
 use Rattle.b67_session.specs.declared.tries.Tried.{Tried}
@@ -30,7 +30,7 @@ use Rattle.b67_session.specs.Brought.{Stopped, BroughtFits}
 use Rattle.b67_session.proofs.Numbers.{code_of_step, same_array}
 use Rattle.b67_session.proofs.Tells.{tells_weaker}
 
-abbrev Told : Type 0
+abbrev pub Told : Type 0
 Told = Option (List (List ℕ))
 
 -- what a storage says after two calls
@@ -127,17 +127,14 @@ module _ {B K : Type 0} (holds : B → Told) (taken : K → Option (List ℕ)) (
 
 -- what a try leaves of the tables
 module _ {K : Type 0} (taken : K → Option (List ℕ)) (told : Told) (count : ℕ) (x : Storage) (plan : Placement) (s : Session) (m : SessionJob) (t : Task) (old new : Machine) (paper paper' : K) where
-  pub tables_after_end : (ending : Ending) → TryMeets taken told count x plan s m t (Ok (tries.Ends ending)) old new paper paper' → new.tasks ≡ old.tasks
-  tables_after_end ending meets = ap (λ (k : Machine). k.tasks) meets.1
-
-  pub tables_after_wait : (state : TaskState) → TryMeets taken told count x plan s m t (Ok (tries.Waits state)) old new paper paper' → new.tasks ≡ old.tasks
-  tables_after_wait state meets = ap (λ (k : Machine). k.tasks) meets.1
-
-  pub tables_after_want : (found : What) → TryMeets taken told count x plan s m t (Ok (tries.Absent found)) old new paper paper' → new.tasks ≡ old.tasks
-  tables_after_want found meets = ap (λ (k : Machine). k.tasks) meets.3
-
-  pub tables_after_stop : (stop : Stop) → TryMeets taken told count x plan s m t (Err stop) old new paper paper' → TablesStay (Err stop) old.tasks new.tasks
-  tables_after_stop stop meets = grind arith
+  pub tables_after : (answered : Result Tried Stop) → TryMeets taken told count x plan s m t answered old new paper paper' → TablesStay answered old.tasks new.tasks
+  tables_after (Ok tries.Made) meets = tt
+  tables_after (Ok (tries.Absent found)) meets = ap (λ (k : Machine). k.tasks) meets.3
+  tables_after (Ok (tries.Ends ending)) meets = ap (λ (k : Machine). k.tasks) meets.1
+  tables_after (Ok (tries.Waits state)) meets = ap (λ (k : Machine). k.tasks) meets.1
+  tables_after (Err stop) meets = after_stop stop meets where
+    after_stop : (why : Stop) → TryMeets taken told count x plan s m t (Err why) old new paper paper' → TablesStay (Err why) old.tasks new.tasks
+    after_stop why meets = grind arith
 
 -- the tables after a stop that isn't the printer's, and after tries that went on from the same tables
 pub tables_stay : (stop : Stop) (old new : Tasks) → stop ≢ stops.PrintFault → new ≡ old → TablesStay (Err stop) old new
@@ -335,22 +332,6 @@ module _ {K : Type 0} (taken : K → Option (List ℕ)) (x : Storage) (told afte
       let mine : H (content_after x.device after) (record s { jobs = b.again.jobs }) m printed first = subst (λ (v : SessionJob). H (content_after x.device after) (record s { jobs = b.again.jobs }) v printed first) (member_is x told k plan s m t o runs found b same) there in
       let here : H (content_after x.device after) s m printed first = subst (λ (js : List SessionJob). H (content_after x.device after) (record s { jobs = js }) m printed first) same mine in
       subst (λ (p : K). H (content_after x.device after) s m before p) same_paper (subst (λ (count : ℕ). H (content_after x.device after) s m count first) same_printed here)
-
--- what is wanted, where the try changed nothing
-pub wants_some : {K : Type 0} (taken : K → Option (List ℕ)) (told told' after : Told) (count : ℕ) (old new : Machine) (paper paper' : K) (found : What) (r : RunsOver old told) → told' ≡ told
-    → TryMeets taken after count r.storage r.plan r.session r.member r.task (Ok (tries.Absent found)) old new paper paper' → WantsSome new told' found
-wants_some taken told told' after count old new paper paper' found r tells w = record {
-  storage = r.storage;
-  plan = r.plan;
-  session = r.session;
-  member = r.member;
-  task = r.task;
-  words = w.0;
-  ordered = r.ordered;
-  stands = unchanged_over r.storage told told' r.plan r.session old new w.3 tells r.stands;
-  running = r.running;
-  wanted = w.1;
-}
 
 -- at equal numbers and printers
 pub attempt_as : {K : Type 0} (taken : K → Option (List ℕ)) (x : Storage) (told told' : Told) (core core' count count' before before' : ℕ) (plan : Placement) (s : Session) (t : Task) (answered : Result Tried Stop) (new : Machine) (paper first paper' : K) → told ≡ told' → core ≡ core' → count ≡ count'

@@ -34,6 +34,7 @@ pub mod Numbers
 pub mod Stops
 pub mod Runs
 pub mod Composed
+pub mod AttemptRows
 pub mod Passed
 pub mod Places
 pub mod Keeps

@@ -6,7 +6,7 @@ use Rattle.b67_task_tables.specs.declared.tables.Tasks.{Tasks}
 use Rattle.b67_mcp.specs.Running.{JobsHaveRoom}
 use Rattle.b67_session.specs.Attempts.{RunsOver, ForEachOver, AttemptRow, TablesStay}
 use Rattle.b67_session.specs.declared.tries.Tried.TheVariants.{Made}
-use Rattle.b67_session.proofs.Composed.{made_once, may_call, still_holds, not_full_ok, keeps_areas}
+use Rattle.b67_session.proofs.AttemptRows.{made_row}
 use Rattle.b67_session.proofs.DoneTries.{done_tries}
 use Rattle.b67_session.proofs.Runs.{ready_over, caused_none, keeps_then}
 use Rattle.b67_session.proofs.attempting.attempt_told.Goals as goal
@@ -23,18 +23,9 @@ returns-then-make_told-clause-row g c = λ x plan s m t o h runs ready.
     let paper = c.args.paper.now in
     let old = c.args.machine.now in
     let new = c.make_told.new.machine in
-    let tried = done_tries B.holds g.K.Sink.taken (B.size device) device paper x x.device plan s m t old new o h.stands runs c.make_told.ensures.tasks
-    (c.make_told.ensures.row c.if-make_told.true x x.device plan s m t o h.stands runs ready) in
-    record {
-      meets = made_once B.holds g.K.Sink.taken device device x (B.size device) plan s m t o runs old new h paper paper (tried.row h.says);
-      fits = λ tells. tried.fits;
-      quiet = λ nothing same. tried.quiet (λ w. same (may_call x plan m t w));
-      hole = λ exact fits none. record { written = still_holds B.holds device device (tried.quiet (λ w. none (may_call x plan m t w))); not_full = not_full_ok Made };
-      areas = λ nothing e. keeps_areas g.K.Sink.taken x (content_after x.device (B.holds device)) old.tasks.printed plan s m t new paper paper (tried.row h.says);
-      outcome = λ nothing. tt;
-      still = λ nothing. tt;
-      sum = λ nothing sum size e. absurd (let b : ⊥ = cc in b);
-    }
+    made_row B.holds B.size g.K.Sink.taken device device x plan s m t o runs old new h paper paper
+    (done_tries B.holds g.K.Sink.taken (B.size device) device paper x x.device plan s m t old new o h.stands runs c.make_told.ensures.tasks
+    (c.make_told.ensures.row c.if-make_told.true x x.device plan s m t o h.stands runs ready))
 
 pub returns-then-make_told-clause-leaves : goal.returns-then-make_told-clause-leaves
 returns-then-make_told-clause-leaves g c = record {

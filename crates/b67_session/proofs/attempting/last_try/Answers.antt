@@ -1,11 +1,19 @@
-use Rattle.std.proofs.Common.{length}
+use Rattle.std.proofs.Common.{◌∙◌, Ok, Err, ap, length}
 use Rattle.b67_word.specs.declared.faults.Fault.TheVariants.{InvalidOperator}
 use Rattle.b67_word.specs.declared.faults.Ending.TheVariants.{Faulted}
 use Rattle.b67_layout_storage.specs.Machine.{content_after}
-use Rattle.b67_session.specs.declared.tries.Tried.TheVariants.{Made, Ends, Waits}
-use Rattle.b67_session.proofs.Composed.{made_once, ends_once, waits_once, stops_once, gives_up_once, never, tables_after_end, tables_after_wait, tables_after_want, tables_after_stop, room_after_stop, may_call, stop_calls, not_full_ok, not_full_once}
+use Rattle.b67_session.specs.declared.tries.Tried.{Tried}
+use Rattle.b67_session.specs.declared.tries.Tried.TheVariants.{Made, Absent, Ends, Waits}
+use Rattle.b67_session.proofs.Composed.{made_once, ends_once, waits_once, stops_once, gives_up_once, never, room_after_stop, may_call, stop_calls, not_full_ok, not_full_once}
+use Rattle.b67_session.proofs.AttemptRows.{TriedSo, tried_as, tables_each}
 use Rattle.b67_session.proofs.Runs.{ready_over, caused_none, caused_stop}
+use Rattle.b67_session.proofs.attempting.last_try.Given.{Over}
+use Rattle.b67_session.proofs.attempting.last_try.Goals.{After-try_once}
 use Rattle.b67_session.proofs.attempting.last_try.Goals as goal
+
+-- the operator was tried
+context : (g : Over) (c : After-try_once g) → TriedSo g.B.Backing.holds g.B.Backing.size g.K.Sink.taken c.try_once.result c.args.machine.now c.try_once.new.machine c.args.backing.now c.try_once.new.backing c.args.paper.now c.try_once.new.paper
+context g c = record { each = c.try_once.ensures.tried }
 
 pub try_once-requires-clause-runs : goal.try_once-requires-clause-runs
 try_once-requires-clause-runs g c = ready_over c.args.machine.now (g.B.Backing.holds c.args.backing.now) c.requires.runs
@@ -95,29 +103,13 @@ pub returns-in-Err-clause-causes : goal.returns-in-Err-clause-causes
 returns-in-Err-clause-causes g c = caused_stop g.B.Backing.faults g.K.Sink.faults c.args.backing.now c.try_once.new.backing c.args.paper.now c.try_once.new.paper c.in-Err.stop c.in-Err.ensures.causes
 
 pub returns-in-Ok-Ends-clause-tables : goal.returns-in-Ok-Ends-clause-tables
-returns-in-Ok-Ends-clause-tables g c =
-    let B = g.B.Backing in
-    let r = c.requires.runs in
-    tables_after_end g.K.Sink.taken (content_after r.storage.device (B.holds c.try_once.new.backing)) (B.size c.args.backing.now) r.storage r.plan r.session r.member r.task c.args.machine.now c.try_once.new.machine c.args.paper.now c.try_once.new.paper c.in-Ok-Ends.ending
-    (((rw c.in-Ok-Ends.field-0-is at c.in-Ok-Ends.ensures.tried) r.storage r.storage.device r.plan r.session r.member r.task r.ordered r.stands.stands r.running r.ready).row r.stands.says)
+returns-in-Ok-Ends-clause-tables g c = tables_each (Ok (Ends c.in-Ok-Ends.ending)) c.requires.runs (tried_as (context g (goal.at.returns-in-Ok-Ends-clause-tables g c).After-try_once) (c.in-Ok-Ends.is ∙ ap (λ (z : Tried). Ok z) c.in-Ok-Ends.field-0-is))
 
 pub returns-in-Ok-Waits-clause-tables : goal.returns-in-Ok-Waits-clause-tables
-returns-in-Ok-Waits-clause-tables g c =
-    let B = g.B.Backing in
-    let r = c.requires.runs in
-    tables_after_wait g.K.Sink.taken (content_after r.storage.device (B.holds c.try_once.new.backing)) (B.size c.args.backing.now) r.storage r.plan r.session r.member r.task c.args.machine.now c.try_once.new.machine c.args.paper.now c.try_once.new.paper c.in-Ok-Waits.state
-    (((rw c.in-Ok-Waits.field-0-is at c.in-Ok-Waits.ensures.tried) r.storage r.storage.device r.plan r.session r.member r.task r.ordered r.stands.stands r.running r.ready).row r.stands.says)
+returns-in-Ok-Waits-clause-tables g c = tables_each (Ok (Waits c.in-Ok-Waits.state)) c.requires.runs (tried_as (context g (goal.at.returns-in-Ok-Waits-clause-tables g c).After-try_once) (c.in-Ok-Waits.is ∙ ap (λ (z : Tried). Ok z) c.in-Ok-Waits.field-0-is))
 
 pub returns-in-Ok-Absent-clause-tables : goal.returns-in-Ok-Absent-clause-tables
-returns-in-Ok-Absent-clause-tables g c =
-    let B = g.B.Backing in
-    let r = c.requires.runs in
-    tables_after_want g.K.Sink.taken (content_after r.storage.device (B.holds c.try_once.new.backing)) (B.size c.args.backing.now) r.storage r.plan r.session r.member r.task c.args.machine.now c.try_once.new.machine c.args.paper.now c.try_once.new.paper c.in-Ok-Absent.field-0-0
-    (((rw c.in-Ok-Absent.field-0-is at c.in-Ok-Absent.ensures.tried) r.storage r.storage.device r.plan r.session r.member r.task r.ordered r.stands.stands r.running r.ready).row r.stands.says)
+returns-in-Ok-Absent-clause-tables g c = tables_each (Ok (Absent c.in-Ok-Absent.field-0-0)) c.requires.runs (tried_as (context g (goal.at.returns-in-Ok-Absent-clause-tables g c).After-try_once) (c.in-Ok-Absent.is ∙ ap (λ (z : Tried). Ok z) c.in-Ok-Absent.field-0-is))
 
 pub returns-in-Err-clause-tables : goal.returns-in-Err-clause-tables
-returns-in-Err-clause-tables g c =
-    let B = g.B.Backing in
-    let r = c.requires.runs in
-    tables_after_stop g.K.Sink.taken (content_after r.storage.device (B.holds c.try_once.new.backing)) (B.size c.args.backing.now) r.storage r.plan r.session r.member r.task c.args.machine.now c.try_once.new.machine c.args.paper.now c.try_once.new.paper c.in-Err.stop
-    ((c.in-Err.ensures.tried r.storage r.storage.device r.plan r.session r.member r.task r.ordered r.stands.stands r.running r.ready).row r.stands.says)
+returns-in-Err-clause-tables g c = tables_each (Err c.in-Err.stop) c.requires.runs (tried_as (context g (goal.at.returns-in-Err-clause-tables g c).After-try_once) c.in-Err.is)
