@@ -1,5 +1,5 @@
 -- What a step says of failures, and what it keeps, by what its parts do.
-use Rattle.std.proofs.Common.{◌≡◌, ◌≢◌, ◌≤◌, ℕ, length, Result, Err, ◌∙◌, arith}
+use Rattle.std.proofs.Common.{◌≡◌, ◌≢◌, ◌≤◌, ℕ, length, Result, Err, arith}
 use Rattle.b67_io.specs.Causes.{Rose}
 use Rattle.b67_task_tables.specs.declared.tables.Machine.{Machine}
 use Rattle.b67_session.specs.AttemptPassed.{CallCauses}
@@ -15,3 +15,7 @@ step_causes failed refused a b p q r answered one two rose other = grind arith
 -- the tables with another running row, and then an attempt
 pub turn_keeps : (old mid new : Machine) (row : ℕ) → mid.tasks ≡ record old.tasks { rows = mid.tasks.rows; running = row } → length mid.cpu.core ≡ length old.cpu.core → mid.sectors ≡ old.sectors → Keeps mid new → Keeps old new
 turn_keeps old mid new row tables core sectors k = grind arith
+
+-- the printer's failure isn't the device's
+pub printer_alone : ◌≢◌ {A = Result (Unit {0}) Stop} (Err stops.PrintFault) (Err stops.BackingFault)
+printer_alone e = let b : ⊥ = cc in b

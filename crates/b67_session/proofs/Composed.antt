@@ -154,6 +154,16 @@ may_call x plan m t h = grind arith
 pub stop_calls : (x : Storage) (plan : Placement) (m : SessionJob) (t : Task) (stop : Stop) → TryWrites x plan m t (Err stop) → CallsDevice m t
 stop_calls x plan m t stop w = grind arith
 
+-- equal answers answer the same
+pub same_answer : {A E : Type 0} (a b : A) → ◌≡◌ {A = Result A E} (Ok a) (Ok b) → a ≡ b
+same_answer a b e = let is : a ≡ b = cc in is
+
+pub same_count : {A E : Type 0} (a b : A) → ◌≡◌ {A = Result (Option A) E} (Ok (Some a)) (Ok (Some b)) → a ≡ b
+same_count a b e = let is : a ≡ b = cc in is
+
+pub same_stop : {A E : Type 0} (a b : E) → ◌≡◌ {A = Result A E} (Err a) (Err b) → a ≡ b
+same_stop a b e = let is : a ≡ b = cc in is
+
 -- the device of a call that wasn't made
 pub still_holds : {D : Type 0} (holds : D → Told) (d d' : D) → d' ≡ d → Becomes holds d d' (λ all. all)
 still_holds holds d d' same = record { told = λ all e. ap holds same ∙ e }

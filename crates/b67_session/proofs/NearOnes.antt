@@ -1,5 +1,5 @@
 -- An operator that was made at a reader.
-use Rattle.std.proofs.Common.{◌≡◌, ℕ, ◌+◌, ◌^◌, ◌<◌, ◌≤◌, List, length, Option, true, refl, sym, arith, subst}
+use Rattle.std.proofs.Common.{◌≡◌, ◌≢◌, ℕ, ◌+◌, ◌^◌, ◌<◌, ◌≤◌, List, length, Option, true, refl, sym, arith, subst}
 use Rattle.b67_model.specs.Common.{Session}
 use Rattle.b67_layout.specs.Common.{Placement, RepresentsStorage}
 use Rattle.b67_stack.specs.declared.Cpu.{Cpu}
@@ -7,6 +7,7 @@ use Rattle.b67_stack.specs.declared.Step.{Step}
 use Rattle.b67_stack.specs.declared.Step.TheVariants.{Done}
 use Rattle.b67_stack.specs.MachineView.{PagedObject}
 use Rattle.b67_stack.specs.Represents.{Storage}
+use Rattle.b67_exec.specs.declared.apart.Went.TheVariants as wents
 use Rattle.b67_exec.specs.Operators.{CutsRecord}
 use Rattle.b67_exec.specs.Near.{FarMade, LeftMade, StopsHere}
 use Rattle.b67_task_release.specs.Left.{IsLeft, AreReleased}
@@ -15,6 +16,19 @@ use Rattle.b67_task_tables.specs.Runs.{RunsTask, Keeps}
 use Rattle.b67_session.specs.Makes.{MakesInSegment, ForEachReady}
 use Rattle.b67_session.proofs.Gives.{Lefts, upto_fits, asks, in_turn, kept_after, gives}
 use Rattle.b67_session.proofs.OperatorsMade.{operator_made, not_made, operator_length}
+
+-- no two answers are one
+pub on_not : wents.On ≢ wents.Not
+on_not e = let z : ⊥ = cc in z
+
+pub away_not : wents.Away ≢ wents.Not
+away_not e = let z : ⊥ = cc in z
+
+pub away_on : wents.Away ≢ wents.On
+away_on e = let z : ⊥ = cc in z
+
+pub not_on : wents.Not ≢ wents.On
+not_on e = let z : ⊥ = cc in z
 
 -- one that leaves no record
 pub stays_made : (old : Machine) (new : Cpu) → FarMade old.cpu new → ForEachReady old (λ x told plan s m t. MakesInSegment x told plan s m t Done old (record old { cpu = new }))

@@ -54,6 +54,16 @@ sought_next sought.Deepest places s o is = absurd is
 pub none_noted : (what : Sought) (from : ℕ) (s : Session) → HasNoted what from 0 s None
 none_noted what from s = record { deepest = λ e k m t up low n. omega (arith, low); other = λ e. refl }
 
+-- a search for anything else isn't for the deepest
+pub place_other : sought.Place ≢ sought.Deepest
+place_other e = let z : ⊥ = cc in z
+
+pub switch_other : sought.Switch ≢ sought.Deepest
+switch_other e = let z : ⊥ = cc in z
+
+pub within_other : (job number height : ℕ) → sought.Within job number height ≢ sought.Deepest
+within_other job number height e = let z : ⊥ = cc in z
+
 -- below the first count that is looked at nothing is
 pub none_further : (what : Sought) (from at upto : ℕ) (s : Session) (best : Option Depth) → upto ≤ from → at ≤ upto → HasNoted what from at s best → HasNoted what from upto s best
 none_further what from at upto s best low on h = grind arith
@@ -174,7 +184,7 @@ passes_switch places from at more start s a came some all = record {
       let split : j ≡ at + (j - at) = omega (arith, on) in
       let there : after j start ≡ after (j - at) s = ap (λ (i : ℕ). after i start) split ∙ after-add at (j - at) start ∙ ap (after (j - at)) came in
       none_switches more places s some all (j - at) (omega (arith, on, low)) (subst (IsSought sought.Switch places) there is);
-  noted = other_noted sought.Switch from at (at + more) start a (λ e. let z : ⊥ = cc in z);
+  noted = other_noted sought.Switch from at (at + more) start a switch_other;
 }
 
 -- where nothing is noted no count is

@@ -82,6 +82,13 @@ chosen_by {new} {c} m t s n x told plan chosen o stands running runs = record {
 
 -- ---- the step
 
+-- a task that ends or waits made no operator
+pub ends_not_made : (ending : Ending) → tries.Ends ending ≢ tries.Made
+ends_not_made ending e = let b : ⊥ = cc in b
+
+pub waits_not_made : (state : TaskState) → tries.Waits state ≢ tries.Made
+waits_not_made state e = let b : ⊥ = cc in b
+
 module _ {D K : Type 0} {holds : D → Option (List (List ℕ))} {taken : K → Option (List ℕ)} {told told' : Option (List (List ℕ))} {count : ℕ} {k mid new : Machine} {c : Chosen} {device device' : D} {paper paper' : K} where
   -- at another answer
   pub tries_as : (answered other : Result Tried Stop) → answered ≡ other → Tries holds taken told told' count k c mid answered new device device' paper paper' → Tries holds taken told told' count k c mid other new device device' paper paper'

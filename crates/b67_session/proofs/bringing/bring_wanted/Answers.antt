@@ -3,6 +3,7 @@ use Rattle.b67_layout_step.proofs.OtherNumbers.{others_in_order}
 use Rattle.b67_backing.specs.declared.refusals.SpaceFault.TheVariants.{NoCore}
 use Rattle.b67_task_need.specs.Needing.{need_with}
 use Rattle.b67_mcp.specs.declared.ends.Stop.TheVariants.{BackingFull}
+use Rattle.b67_session.proofs.Composed.{same_stop, not_full_ok}
 use Rattle.b67_session.proofs.Runs.{keeps_tasks}
 use Rattle.b67_session.proofs.Stops.{stopped_so, stopped_fits, full_fault}
 use Rattle.b67_session.proofs.bringing.bring_wanted.Goals as goal
@@ -28,7 +29,7 @@ returns-in-Ok-clause-row g c = λ x plan s m t words o h runs wanted.
       fits = λ touched. tt;
       hole = λ room.
           let hole = row.hole room in
-          record { used = record { written = hole.1; not_full = λ sum size e. absurd (let b : ⊥ = cc in b) }; in_place = hole.3; untouched = λ zeros. (row.zeros room zeros).1 };
+          record { used = record { written = hole.1; not_full = not_full_ok tt }; in_place = hole.3; untouched = λ zeros. (row.zeros room zeros).1 };
     }
 
 pub returns-in-Err-clause-row : goal.returns-in-Err-clause-row
@@ -40,7 +41,7 @@ returns-in-Err-clause-row g c = λ x plan s m t words o h runs wanted.
     let row = c.in-Err.ensures.row x plan s m t words o h runs wanted in
     let exactly : length k.cpu.core < need_with s m t 0 words → c.in-Err.fault ≡ NoCore (need_with s m t 0 words) (length k.cpu.core) = λ above.
     let is = (row.no_core (need_with s m t 0 words) (length k.cpu.core)).1 (above, refl, refl) in
-    let z : c.in-Err.fault ≡ NoCore (need_with s m t 0 words) (length k.cpu.core) = cc in z in
+    same_stop c.in-Err.fault (NoCore (need_with s m t 0 words) (length k.cpu.core)) is in
     record {
       meets = λ touched.
           stopped_so x (holds c.args.backing.now) (holds c.bring.new.backing) k new plan s m t count words c.args.wanted o h runs wanted touched
@@ -59,7 +60,7 @@ returns-in-Err-clause-row g c = λ x plan s m t words o h runs wanted.
             used = record {
               written = hole.1;
               not_full = λ sum size e.
-                  let (wants, free, is) = full_fault new c.in-Err.fault c.stop_for.result sum size c.stop_for.ensures (let z : c.stop_for.result ≡ BackingFull sum size = cc in z) in
+                  let (wants, free, is) = full_fault new c.in-Err.fault c.stop_for.result sum size c.stop_for.ensures (same_stop c.stop_for.result (BackingFull sum size) e) in
                   (row.full wants free (ap Err is)).1 room;
             };
             in_place = tt;

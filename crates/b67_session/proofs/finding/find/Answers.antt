@@ -12,6 +12,7 @@ use Rattle.b67_session.specs.declared.slices.Progress.{Progress}
 use Rattle.b67_session.specs.Search.{IsSearched, FindsLeast, StopsUnfound}
 use Rattle.b67_session.specs.Slices.{StandsAt, Keeps, Slices}
 use Rattle.b67_session.proofs.Again.{open_again}
+use Rattle.b67_session.proofs.Composed.{same_answer, same_count, same_stop}
 use Rattle.b67_session.proofs.Completing.{goes_through, no_fault}
 use Rattle.b67_session.proofs.Going.{Going, going-begins, going-lives, going-turn, stop_causes}
 use Rattle.b67_session.proofs.Pausing.{says_retold}
@@ -146,7 +147,7 @@ returns-in-Some-clause-least g c = λ said s tells says h.
 pub returns-in-Some-clause-stands : goal.returns-in-Some-clause-stands
 returns-in-Some-clause-stands g c = λ said s n tells says h other e.
     let none : c.turn.best ≡ None = ((c.turn.invariant.passes said s tells says h).noted (none_noted c.args.what c.args.from s)).other other in
-    absurd (none_counted c.turn.best c.count_of.result n none c.count_of.ensures (let is : c.count_of.result ≡ Some n = cc in is))
+    absurd (none_counted c.turn.best c.count_of.result n none c.count_of.ensures (same_answer c.count_of.result (Some n) e))
 
 pub returns-in-Some-clause-leaves : goal.returns-in-Some-clause-leaves
 returns-in-Some-clause-leaves g c =
@@ -164,7 +165,7 @@ returns-then-is_found-clause-least g c = λ said s tells says h.
 pub returns-then-is_found-clause-stands : goal.returns-then-is_found-clause-stands
 returns-then-is_found-clause-stands g c = λ said s n tells says h other e.
     let x = c.turn.invariant.going said s says h in
-    let same : c.turn.made ≡ n = cc in
+    let same = same_count c.turn.made n e in
     subst (λ (z : Session). StandsAt (content_after said (g.B.Backing.holds c.turn.backing)) c.turn.machine z) (sym (x.came tells).session ∙ ap (λ (k : ℕ). after k s) same) x.stands
 
 pub returns-then-is_found-clause-leaves : goal.returns-then-is_found-clause-leaves
@@ -182,7 +183,7 @@ returns-clause-least g c = λ said s tells says h.
 pub returns-clause-stands : goal.returns-clause-stands
 returns-clause-stands g c = λ said s n tells says h other e.
     let none : c.turn.best ≡ None = ((c.turn.invariant.passes said s tells says h).noted (none_noted c.args.what c.args.from s)).other other in
-    absurd (none_counted c.turn.best c.count_of-2.result n none c.count_of-2.ensures (let is : c.count_of-2.result ≡ Some n = cc in is))
+    absurd (none_counted c.turn.best c.count_of-2.result n none c.count_of-2.ensures (same_answer c.count_of-2.result (Some n) e))
 
 pub returns-clause-leaves : goal.returns-clause-leaves
 returns-clause-leaves g c =
@@ -197,7 +198,7 @@ returns-in-Err-clause-stops g c = λ said s stop tells says h e.
     let now = content_after said (g.B.Backing.holds c.turn.backing) in
     let then = content_after said (g.B.Backing.holds c.step.new.backing) in
     let x = c.turn.invariant.going said s says h in
-    let same : c.in-Err.stop ≡ stop = cc in
+    let same = same_stop c.in-Err.stop stop e in
     let slices = stops_so g a due said s says h c.in-Err.stop c.in-Err.is in
     subst (λ (z : Stop). StopsUnfound then (said ≢ None) (g.B.Backing.size c.args.backing.now) c.args.what c.args.places.now c.args.from c.args.most s z c.args.machine.now c.step.new.machine) same (record {
       paper = c.new-paper.result;
@@ -229,9 +230,9 @@ returns-in-Err-clause-leaves g c =
       keeps = keeps g a;
       served = Served-then g.B.Backing.holds g.B.Backing.size g.B.Backing.calls g.B.Backing.faults c.args.backing.now c.turn.backing c.step.new.backing c.turn.invariant.device c.step.ensures.leaves.served;
       device_failed = λ e.
-          let same : c.in-Err.stop ≡ stops.BackingFault = cc in
+          let same = same_stop c.in-Err.stop stops.BackingFault e in
           (causes_so g a c.in-Err.stop c.in-Err.is).device (ap (λ (x : Stop). Err x) same);
       unprinted = λ e.
-          let same : c.in-Err.stop ≡ stops.PrintFault = cc in
+          let same = same_stop c.in-Err.stop stops.PrintFault e in
           fine g a c.in-Err.stop c.in-Err.is same;
     }

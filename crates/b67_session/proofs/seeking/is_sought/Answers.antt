@@ -1,5 +1,5 @@
 use Rattle.std.proofs.Common.{sym, subst}
-use Rattle.std.proofs.lemmas.Bool.{not-false, not-true}
+use Rattle.std.proofs.lemmas.Bool.{false≢true, not-false, not-true}
 use Rattle.std.proofs.lemmas.Option.{slice_get_within}
 use Rattle.b67_session.specs.declared.seeking.Sought.{Sought}
 use Rattle.b67_session.specs.Search.{IsSought}
@@ -8,7 +8,7 @@ use Rattle.b67_session.proofs.Turned.{who}
 use Rattle.b67_session.proofs.seeking.is_sought.Goals as goal
 
 pub returns-in-None-clause-holds : goal.returns-in-None-clause-holds
-returns-in-None-clause-holds c = λ said s h e. absurd (let z : ⊥ = cc in z)
+returns-in-None-clause-holds c = λ said s h e. absurd (false≢true e)
 
 pub returns-in-None-clause-fails : goal.returns-in-None-clause-fails
 returns-in-None-clause-fails c = λ said s h e. none_sought c.args.what c.args.places.now s (c.in-None.ensures.choice h.plan s h.ordered h.stands.tables)
@@ -62,7 +62,7 @@ returns-in-Within-clause-fails c = λ said s h e is.
     c.is_within.ensures.fails h.storage said h.plan s w.member w.task (stands_chosen said k s h c.in-Some.chosen chooses) e told.0 told.1 told.2
 
 pub returns-in-Deepest-clause-holds : goal.returns-in-Deepest-clause-holds
-returns-in-Deepest-clause-holds c = λ said s h e. absurd (let z : ⊥ = cc in z)
+returns-in-Deepest-clause-holds c = λ said s h e. absurd (false≢true e)
 
 pub returns-in-Deepest-clause-fails : goal.returns-in-Deepest-clause-fails
 returns-in-Deepest-clause-fails c = λ said s h e is. subst (λ (what : Sought). IsSought what c.args.places.now s) c.in-Deepest.is is

@@ -3,20 +3,20 @@ use Rattle.b67_model.specs.Common.{Session}
 use Rattle.b67_law_sessions.specs.Turns.{IsNext}
 use Rattle.b67_session.proofs.Standing.{chose_some, stands_chosen}
 use Rattle.b67_session.proofs.Turned.{who}
-use Rattle.b67_session.proofs.Noted.{none_further, none_next, other_noted, idle_noted, one_noted}
+use Rattle.b67_session.proofs.Noted.{place_other, switch_other, within_other, none_further, none_next, other_noted, idle_noted, one_noted}
 use Rattle.b67_session.proofs.seeking.note_chosen.Goals as goal
 
 pub returns-then-made-from : goal.returns-then-made-from
 returns-then-made-from c = λ said start s h came noted. none_further c.args.what c.args.from c.args.made (c.args.made + 1) start c.args.best (omega arith) (omega arith) noted
 
 pub returns-in-Place : goal.returns-in-Place
-returns-in-Place c = λ said start s h came noted. other_noted c.args.what c.args.from c.args.made (c.args.made + 1) start c.args.best (λ e. absurd (let z = sym c.in-Place.is ∙ e in let no : ⊥ = cc in no)) noted
+returns-in-Place c = λ said start s h came noted. other_noted c.args.what c.args.from c.args.made (c.args.made + 1) start c.args.best (λ e. place_other (sym c.in-Place.is ∙ e)) noted
 
 pub returns-in-Switch : goal.returns-in-Switch
-returns-in-Switch c = λ said start s h came noted. other_noted c.args.what c.args.from c.args.made (c.args.made + 1) start c.args.best (λ e. absurd (let z = sym c.in-Switch.is ∙ e in let no : ⊥ = cc in no)) noted
+returns-in-Switch c = λ said start s h came noted. other_noted c.args.what c.args.from c.args.made (c.args.made + 1) start c.args.best (λ e. switch_other (sym c.in-Switch.is ∙ e)) noted
 
 pub returns-in-Within : goal.returns-in-Within
-returns-in-Within c = λ said start s h came noted. other_noted c.args.what c.args.from c.args.made (c.args.made + 1) start c.args.best (λ e. absurd (let z = sym c.in-Within.is ∙ e in let no : ⊥ = cc in no)) noted
+returns-in-Within c = λ said start s h came noted. other_noted c.args.what c.args.from c.args.made (c.args.made + 1) start c.args.best (λ e. within_other c.in-Within._job c.in-Within._number c.in-Within._height (sym c.in-Within.is ∙ e)) noted
 
 pub returns-in-None : goal.returns-in-None
 returns-in-None c = λ said start s h came noted.

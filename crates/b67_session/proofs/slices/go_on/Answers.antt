@@ -6,7 +6,7 @@ use Rattle.b67_layout_storage.proofs.Retold.{retold-same}
 use Rattle.b67_law_sessions.specs.Turns.{IsNext}
 use Rattle.b67_session.specs.AttemptStops.{Stop, BackingFull}
 use Rattle.b67_session.specs.Attempts.{IsNotFull}
-use Rattle.b67_session.proofs.Composed.{not_full_ok}
+use Rattle.b67_session.proofs.Composed.{not_full_ok, same_stop}
 use Rattle.b67_session.specs.declared.slices.Progress.{Progress}
 use Rattle.b67_session.specs.declared.slices.Progress.TheVariants as progress
 use Rattle.b67_task_tables.specs.declared.tables.Machine.{Machine}
@@ -54,6 +54,11 @@ module _ (g : Over) (c : After-step g) where
         begun_present g.B.Backing.holds said (length c.turn.machine.cpu.core) (length c.args.machine.now.cpu.core) c.args.n c.turn.made c.args.machine.now c.turn.machine c.step.new.machine s m t
         c.args.backing.now c.turn.backing c.step.new.backing c.step.result answered c.turn.invariant.begun c.turn.invariant.keeps.core going.made later few same fine full
         (λ none l. c.step.ensures.present said s m t (subst (λ d. Says said (g.B.Backing.holds d)) (sym (c.turn.invariant.begun none).1) says) l next) h
+
+    made_present : (m : SessionJob) (t : Task) → IsNext s m t → c.step.result ≡ Ok tt → c.turn.made + 1 ≤ c.args.n
+        → IfPresent g.B.Backing.holds (said ≢ None) (length c.args.machine.now.cpu.core) c.args.n h.storage h.plan s m t (Ok progress.More) c.args.machine.now c.step.new.machine c.args.backing.now c.step.new.backing
+    made_present m t next is few =
+        present m t next (Ok progress.More) (made_no_fewer (stepped (Ok tt) is)) few (λ room. tt) (λ whole. not_full_ok progress.More) (λ sum size e. absurd (not_full_ok progress.More sum size e))
 
 -- ---- the loop
 
@@ -130,21 +135,17 @@ turn-preserved g c =
       none = λ none. absurd (none_made c.args.machine.now c.turn.machine c.turn.made c.turn.invariant.none (λ zero. (c.turn.invariant.begun zero).0) c.in_default.ensures.0 none);
       unprinted = λ none. absurd (omega (arith, none));
       quiet = λ said s m t h says next few wants.
-          let later = made_no_fewer (stepped g a said s says h (Ok tt) is) in
-          (present g a said s says h m t next (Ok progress.More) later (omega arith) (λ room. tt) (λ whole. not_full_ok progress.More) (λ sum size e. absurd cc)).quiet few wants;
+          (made_present g a said s says h m t next is (omega arith)).quiet few wants;
       written = λ said s m t h says next tells few fits none.
-          let later = made_no_fewer (stepped g a said s says h (Ok tt) is) in
-          ((present g a said s says h m t next (Ok progress.More) later (omega arith) (λ room. tt) (λ whole. not_full_ok progress.More) (λ sum size e. absurd cc)).hole tells few fits none).written;
+          ((made_present g a said s says h m t next is (omega arith)).hole tells few fits none).written;
       areas = λ said s m t h job says next few alone hand counted.
-          let later = made_no_fewer (stepped g a said s says h (Ok tt) is) in
           let same : c.go_on_with_turn.new.machine ≡ c.step.new.machine = c.go_on_with_turn.ensures.counts.rests (omega (arith, few)) in
-          let there = (present g a said s says h m t next (Ok progress.More) later (omega arith) (λ room. tt) (λ whole. not_full_ok progress.More) (λ sum size e. absurd cc)).areas job few alone hand
+          let there = (made_present g a said s says h m t next is (omega arith)).areas job few alone hand
           (ap (λ (z : Machine). z.tasks.made) (sym same) ∙ counted) in
           subst (λ (z : Machine). StepKeepsAreas h.storage h.plan s m t job z) (sym same) there;
       left = λ said s m t h says next few wants counted.
-          let later = made_no_fewer (stepped g a said s says h (Ok tt) is) in
           let same : c.go_on_with_turn.new.machine ≡ c.step.new.machine = c.go_on_with_turn.ensures.counts.rests (omega (arith, few)) in
-          let there = (present g a said s says h m t next (Ok progress.More) later (omega arith) (λ room. tt) (λ whole. not_full_ok progress.More) (λ sum size e. absurd cc)).left few wants
+          let there = (made_present g a said s says h m t next is (omega arith)).left few wants
           (ap (λ (z : Machine). z.tasks.made) (sym same) ∙ counted) in
           subst (λ (z : Machine). StepLeaves h.storage h.plan s m t z) (sym same) there;
     }
@@ -163,7 +164,7 @@ returns-in-Some-clause-present g c = λ said s m t says h next.
       hole = λ tells few fits none. record { written = c.turn.invariant.written said s m t h says next tells few fits none; not_full = not_full_ok c.in-Some.progress };
       areas = λ job few alone hand more. c.turn.invariant.areas said s m t h job says next few alone hand more;
       left = λ few wants more. c.turn.invariant.left said s m t h says next few wants more;
-      sum = λ few wants sum size e. absurd (let b : ⊥ = cc in b);
+      sum = λ few wants sum size e. absurd (not_full_ok c.in-Some.progress sum size e);
       room = λ tells code none. tt;
     }
 
@@ -179,7 +180,7 @@ returns-in-Some-pause-clause-present g c = λ said s m t says h next.
       hole = λ tells few fits none. record { written = c.turn.invariant.written said s m t h says next tells few fits none; not_full = not_full_ok c.in-Some-pause.progress };
       areas = λ job few alone hand more. c.turn.invariant.areas said s m t h job says next few alone hand more;
       left = λ few wants more. c.turn.invariant.left said s m t h says next few wants more;
-      sum = λ few wants sum size e. absurd (let b : ⊥ = cc in b);
+      sum = λ few wants sum size e. absurd (not_full_ok c.in-Some-pause.progress sum size e);
       room = λ tells code none. tt;
     }
 
@@ -195,7 +196,7 @@ returns-in-None-clause-present g c = λ said s m t says h next.
       hole = λ tells few fits none. record { written = c.turn.invariant.written said s m t h says next tells few fits none; not_full = not_full_ok progress.More };
       areas = λ job few alone hand more. c.turn.invariant.areas said s m t h job says next few alone hand more;
       left = λ few wants more. c.turn.invariant.left said s m t h says next few wants more;
-      sum = λ few wants sum size e. absurd (let b : ⊥ = cc in b);
+      sum = λ few wants sum size e. absurd (not_full_ok progress.More sum size e);
       room = λ tells code none. tt;
     }
 
@@ -211,8 +212,8 @@ returns-in-Err-clause-present g c = λ said s m t says h next.
     let a = (goal.at.returns-in-Err-clause-present g c).After-step in
     present g a said s says h m t next (Err c.in-Err.stop) (made_no_fewer (stepped g a said s says h c.step.result refl)) (omega arith)
     (stop_rooms (length c.args.machine.now.cpu.core) s m t c.in-Err.stop c.step.result c.in-Err.is)
-    (λ whole sum size e. whole sum size (c.in-Err.is ∙ ap Err (let is : c.in-Err.stop ≡ BackingFull sum size = cc in is)))
-    (λ sum size e. c.in-Err.is ∙ ap Err (let is : c.in-Err.stop ≡ BackingFull sum size = cc in is))
+    (λ whole sum size e. whole sum size (c.in-Err.is ∙ ap Err (same_stop c.in-Err.stop (BackingFull sum size) e)))
+    (λ sum size e. c.in-Err.is ∙ ap Err (same_stop c.in-Err.stop (BackingFull sum size) e))
 
 pub returns-in-Err-clause-kept : goal.returns-in-Err-clause-kept
 returns-in-Err-clause-kept g c = keeps g (goal.at.returns-in-Err-clause-kept g c).After-step

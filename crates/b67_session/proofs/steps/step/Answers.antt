@@ -7,10 +7,10 @@ use Rattle.b67_session.specs.declared.tries.Tried.{Tried}
 use Rattle.b67_session.specs.declared.tries.Tried.TheVariants as tries
 use Rattle.b67_session.proofs.Runs.{caused_stop}
 use Rattle.b67_task_tables.proofs.Keeping.{keeps_then, halt_kept}
-use Rattle.b67_session.proofs.Caused.{step_causes, turn_keeps}
+use Rattle.b67_session.proofs.Caused.{step_causes, printer_alone, turn_keeps}
 use Rattle.b67_session.proofs.Rooms.{can_number}
 use Rattle.b67_session.proofs.Turned.{Tries, who, has_row, turned, runs_over}
-use Rattle.b67_session.proofs.TriedSteps.{tries_as, made_counts, made_between, made_row, made_present, absent_never, close_counts, closed_between, closed_row, closed_present, cut_row, cut_present, ending_made, ending_so, ending_chose, ending_closes, waiting_made, waiting_so, waiting_some, waiting_closes, stop_row, stop_present, ending_leaves, waiting_leaves}
+use Rattle.b67_session.proofs.TriedSteps.{ends_not_made, waits_not_made, tries_as, made_counts, made_between, made_row, made_present, absent_never, close_counts, closed_between, closed_row, closed_present, cut_row, cut_present, ending_made, ending_so, ending_chose, ending_closes, waiting_made, waiting_so, waiting_some, waiting_closes, stop_row, stop_present, ending_leaves, waiting_leaves}
 use Rattle.b67_session.proofs.steps.step.Given.{Over}
 use Rattle.b67_session.proofs.steps.step.Goals.{After-attempt_told}
 use Rattle.b67_session.proofs.steps.step.Goals as goal
@@ -104,7 +104,7 @@ returns-in-Ok-clause-row g c = λ said s says h.
 pub returns-in-Ok-clause-present : goal.returns-in-Ok-clause-present
 returns-in-Ok-clause-present g c = λ said s m t says h next.
     (let x = (tries_as c.attempt_told.result (Ok (tries.Ends c.in-Ok-Ends.ending)) (c.in-Ok-Ends.is ∙ ap (λ (z : Tried). Ok z) c.in-Ok-Ends.field-0-is) (context g (goal.at.returns-in-Ok-clause-present g c).After-attempt_told)) in
-    closed_present (tries.Ends c.in-Ok-Ends.ending) x x.stay said s says h (ending_made c.in-Ok-Ends.ending x said s says h) (ending_so c.in-Ok-Ends.ending x said s says h) c.ends.new.machine c.ends.new.paper (ending_closes c.in-Ok-Ends.ending x said s says h (Ok tt) c.ends.new.machine c.ends.new.paper c.in-Ok.ensures.closes) c.end_step-in-Ok.result c.end_step-in-Ok.new.machine c.end_step-in-Ok.new.paper c.end_step-in-Ok.ensures.finishes (λ e. let b : ⊥ = cc in b)
+    closed_present (tries.Ends c.in-Ok-Ends.ending) x x.stay said s says h (ending_made c.in-Ok-Ends.ending x said s says h) (ending_so c.in-Ok-Ends.ending x said s says h) c.ends.new.machine c.ends.new.paper (ending_closes c.in-Ok-Ends.ending x said s says h (Ok tt) c.ends.new.machine c.ends.new.paper c.in-Ok.ensures.closes) c.end_step-in-Ok.result c.end_step-in-Ok.new.machine c.end_step-in-Ok.new.paper c.end_step-in-Ok.ensures.finishes (ends_not_made c.in-Ok-Ends.ending)
     (λ wants. ending_leaves c.in-Ok-Ends.ending x said s says h wants c.ends.new.machine c.ends.new.paper c.in-Ok.ensures.closes c.end_step-in-Ok.result c.end_step-in-Ok.new.machine c.end_step-in-Ok.new.paper c.end_step-in-Ok.ensures.finishes) m t next)
 
 pub returns-in-Ok-clause-leaves : goal.returns-in-Ok-clause-leaves
@@ -124,12 +124,12 @@ returns-in-Err-ends-clause-row g c = λ said s says h.
 pub returns-in-Err-ends-clause-present : goal.returns-in-Err-ends-clause-present
 returns-in-Err-ends-clause-present g c = λ said s m t says h next.
     (let x = (tries_as c.attempt_told.result (Ok (tries.Ends c.in-Ok-Ends.ending)) (c.in-Ok-Ends.is ∙ ap (λ (z : Tried). Ok z) c.in-Ok-Ends.field-0-is) (context g (goal.at.returns-in-Err-ends-clause-present g c).After-attempt_told)) in
-    cut_present (tries.Ends c.in-Ok-Ends.ending) x x.stay said s says h (ending_made c.in-Ok-Ends.ending x said s says h) (ending_so c.in-Ok-Ends.ending x said s says h) c.in-Err-ends._failed c.ends.new.machine c.ends.new.paper (λ e. let b : ⊥ = cc in b)
+    cut_present (tries.Ends c.in-Ok-Ends.ending) x x.stay said s says h (ending_made c.in-Ok-Ends.ending x said s says h) (ending_so c.in-Ok-Ends.ending x said s says h) c.in-Err-ends._failed c.ends.new.machine c.ends.new.paper (ends_not_made c.in-Ok-Ends.ending)
     (ap (λ (k : Machine). k.tasks.made) (ending_closes c.in-Ok-Ends.ending x said s says h (Err c.in-Err-ends._failed) c.ends.new.machine c.ends.new.paper c.in-Err-ends.ensures.closes).1) m t next)
 
 pub returns-in-Err-ends-clause-leaves : goal.returns-in-Err-ends-clause-leaves
 returns-in-Err-ends-clause-leaves g c = record {
-  causes = step_causes g.B.Backing.faults g.K.Sink.faults c.args.backing.now c.attempt_told.new.backing c.args.paper.now c.attempt_told.new.paper c.ends.new.paper _ c.attempt_told.ensures.leaves.causes.printer.later c.ends.ensures.cause.later (λ e. c.in-Err-ends.ensures.cause.failed) (λ e. absurd cc);
+  causes = step_causes g.B.Backing.faults g.K.Sink.faults c.args.backing.now c.attempt_told.new.backing c.args.paper.now c.attempt_told.new.paper c.ends.new.paper _ c.attempt_told.ensures.leaves.causes.printer.later c.ends.ensures.cause.later (λ e. c.in-Err-ends.ensures.cause.failed) printer_alone;
   kept =
       let a = (goal.at.returns-in-Err-ends-clause-leaves g c).After-attempt_told in
       keeps_then c.args.machine.now c.attempt_told.new.machine c.ends.new.machine (kept g a) c.ends.ensures.keeps;
@@ -161,7 +161,7 @@ returns-in-Ok-waits-clause-row g c = λ said s says h.
 pub returns-in-Ok-waits-clause-present : goal.returns-in-Ok-waits-clause-present
 returns-in-Ok-waits-clause-present g c = λ said s m t says h next.
     (let x = (tries_as c.attempt_told.result (Ok (tries.Waits c.in-Ok-Waits.state)) (c.in-Ok-Waits.is ∙ ap (λ (z : Tried). Ok z) c.in-Ok-Waits.field-0-is) (context g (goal.at.returns-in-Ok-waits-clause-present g c).After-attempt_told)) in
-    closed_present (tries.Waits c.in-Ok-Waits.state) x x.stay said s says h (waiting_made c.in-Ok-Waits.state x said s says h) (waiting_so c.in-Ok-Waits.state x said s says h) c.waits.new.machine c.waits.new.paper (waiting_closes c.in-Ok-Waits.state x said s says h (Ok tt) c.waits.new.machine c.waits.new.paper c.in-Ok-waits.ensures.holds) c.end_step-in-Ok-waits.result c.end_step-in-Ok-waits.new.machine c.end_step-in-Ok-waits.new.paper c.end_step-in-Ok-waits.ensures.finishes (λ e. let b : ⊥ = cc in b)
+    closed_present (tries.Waits c.in-Ok-Waits.state) x x.stay said s says h (waiting_made c.in-Ok-Waits.state x said s says h) (waiting_so c.in-Ok-Waits.state x said s says h) c.waits.new.machine c.waits.new.paper (waiting_closes c.in-Ok-Waits.state x said s says h (Ok tt) c.waits.new.machine c.waits.new.paper c.in-Ok-waits.ensures.holds) c.end_step-in-Ok-waits.result c.end_step-in-Ok-waits.new.machine c.end_step-in-Ok-waits.new.paper c.end_step-in-Ok-waits.ensures.finishes (waits_not_made c.in-Ok-Waits.state)
     (λ wants. waiting_leaves c.in-Ok-Waits.state x said s says h wants c.waits.new.machine c.waits.new.paper c.in-Ok-waits.ensures.holds c.end_step-in-Ok-waits.result c.end_step-in-Ok-waits.new.machine c.end_step-in-Ok-waits.new.paper c.end_step-in-Ok-waits.ensures.finishes) m t next)
 
 pub returns-in-Ok-waits-clause-leaves : goal.returns-in-Ok-waits-clause-leaves
@@ -181,12 +181,12 @@ returns-in-Err-waits-clause-row g c = λ said s says h.
 pub returns-in-Err-waits-clause-present : goal.returns-in-Err-waits-clause-present
 returns-in-Err-waits-clause-present g c = λ said s m t says h next.
     (let x = (tries_as c.attempt_told.result (Ok (tries.Waits c.in-Ok-Waits.state)) (c.in-Ok-Waits.is ∙ ap (λ (z : Tried). Ok z) c.in-Ok-Waits.field-0-is) (context g (goal.at.returns-in-Err-waits-clause-present g c).After-attempt_told)) in
-    cut_present (tries.Waits c.in-Ok-Waits.state) x x.stay said s says h (waiting_made c.in-Ok-Waits.state x said s says h) (waiting_so c.in-Ok-Waits.state x said s says h) c.in-Err-waits._failed c.waits.new.machine c.waits.new.paper (λ e. let b : ⊥ = cc in b)
+    cut_present (tries.Waits c.in-Ok-Waits.state) x x.stay said s says h (waiting_made c.in-Ok-Waits.state x said s says h) (waiting_so c.in-Ok-Waits.state x said s says h) c.in-Err-waits._failed c.waits.new.machine c.waits.new.paper (waits_not_made c.in-Ok-Waits.state)
     (ap (λ (k : Machine). k.tasks.made) (waiting_closes c.in-Ok-Waits.state x said s says h (Err c.in-Err-waits._failed) c.waits.new.machine c.waits.new.paper c.in-Err-waits.ensures.holds).1) m t next)
 
 pub returns-in-Err-waits-clause-leaves : goal.returns-in-Err-waits-clause-leaves
 returns-in-Err-waits-clause-leaves g c = record {
-  causes = step_causes g.B.Backing.faults g.K.Sink.faults c.args.backing.now c.attempt_told.new.backing c.args.paper.now c.attempt_told.new.paper c.waits.new.paper _ c.attempt_told.ensures.leaves.causes.printer.later c.waits.ensures.cause.later (λ e. c.in-Err-waits.ensures.cause.failed) (λ e. absurd cc);
+  causes = step_causes g.B.Backing.faults g.K.Sink.faults c.args.backing.now c.attempt_told.new.backing c.args.paper.now c.attempt_told.new.paper c.waits.new.paper _ c.attempt_told.ensures.leaves.causes.printer.later c.waits.ensures.cause.later (λ e. c.in-Err-waits.ensures.cause.failed) printer_alone;
   kept =
       let a = (goal.at.returns-in-Err-waits-clause-leaves g c).After-attempt_told in
       keeps_then c.args.machine.now c.attempt_told.new.machine c.waits.new.machine (kept g a) c.waits.ensures.keeps;

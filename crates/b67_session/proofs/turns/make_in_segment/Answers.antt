@@ -1,9 +1,11 @@
 use Rattle.std.proofs.Common.{◌≡◌, ◌≢◌, ◌+◌, ◌-◌, refl, sym, ◌∙◌, subst, arith}
+use Rattle.std.proofs.lemmas.Bool.{true≢false, false≢true}
 use Rattle.b67_exec.specs.declared.apart.Went.TheVariants as wents
 use Rattle.b67_exec.specs.Near.{StopsHere}
 use Rattle.b67_task_tables.specs.declared.tables.Machine.{Machine}
 use Rattle.b67_session.proofs.Begins.{begins_none, begins_same, begins_more, begins_runs}
 use Rattle.b67_session.proofs.Going.{keeps_on}
+use Rattle.b67_session.proofs.NearOnes.{on_not, away_not}
 use Rattle.b67_session.proofs.Turning.{turn_as, some_runs, turn_runs, turn_same, turn_next}
 use Rattle.b67_session.proofs.turns.make_in_segment.Goals as goal
 
@@ -22,7 +24,7 @@ returns-in-None-clause-stops c = λ e. c.reader_here.ensures.why c.in-None.is
 pub returns-in-None-clause-left : goal.returns-in-None-clause-left
 returns-in-None-clause-left c = record {
   few = omega arith;
-  some = λ e. absurd (let z : ⊥ = cc in z);
+  some = λ e. absurd (false≢true e);
   left = λ e. c.requires.some;
 }
 
@@ -49,7 +51,7 @@ make_next-requires-clause-stands c = c.operator.invariant.stands
 
 pub operator-preserved : goal.operator-preserved
 operator-preserved c =
-    let other : c.make_next.result ≢ wents.Not = λ e. let is = c.in-On.is in let z : ⊥ = cc in z in
+    let other : c.make_next.result ≢ wents.Not = λ e. on_not (sym c.in-On.is ∙ e) in
     record {
       few = omega (arith, c.operator.invariant.few);
       tables = c.make_next.ensures.tasks ∙ c.operator.invariant.tables;
@@ -64,14 +66,14 @@ operator-preserved c =
 
 pub returns-in-Away : goal.returns-in-Away
 returns-in-Away c =
-    let other : c.make_next.result ≢ wents.Not = λ e. let is = c.in-Away.is in let z : ⊥ = cc in z in
+    let other : c.make_next.result ≢ wents.Not = λ e. away_not (sym c.in-Away.is ∙ e) in
     record {
       left = record {
         few = omega (arith, c.operator.invariant.few);
         some = λ e. omega (arith, c.operator.invariant.few, c.operator-test.true);
-        left = λ e. absurd (let z : ⊥ = cc in z);
+        left = λ e. absurd (true≢false e);
       };
-      stops = λ e. absurd (let z : ⊥ = cc in z);
+      stops = λ e. absurd (true≢false e);
       first = begins_more (c.args.most - c.operator.room) (c.args.most - (c.operator.room - 1)) c.args.machine.now c.operator.machine c.operator.machine c.make_next.new.machine (omega (arith, c.operator.invariant.few, c.operator-test.true)) refl
           (c.make_next.ensures.row other) c.operator.invariant.first;
       row = λ said steps core s size h.
@@ -89,7 +91,7 @@ returns-in-Not c =
     record {
       left = record {
         few = c.operator.invariant.few;
-        some = λ e. absurd (let z : ⊥ = cc in z);
+        some = λ e. absurd (false≢true e);
         left = λ e. omega (arith, c.operator-test.true);
       };
       stops = λ e. subst (λ (z : Machine). StopsHere z.cpu c.make_next.new.why) (sym same) (c.make_next.ensures.why c.in-Not.is);
@@ -103,7 +105,7 @@ pub returns-clause-left : goal.returns-clause-left
 returns-clause-left c = record {
   few = c.operator.invariant.few;
   some = λ e. let q = c.requires in omega (arith, q.some, c.operator-test.false);
-  left = λ e. absurd (let z : ⊥ = cc in z);
+  left = λ e. absurd (true≢false e);
 }
 
 pub returns-clause-first : goal.returns-clause-first
