@@ -1,5 +1,5 @@
 -- What a whole step of the running task keeps, where its operator calls no intrinsic.
-use Rattle.std.proofs.Common.{◌≡◌, ◌≢◌, ℕ, ◌<◌, List, [], ◌∷◌, Option, None, Ok, refl, arith, false, inl, inr}
+use Rattle.std.proofs.Common.{◌≡◌, ◌≢◌, ℕ, ◌<◌, List, [], Option, None, Ok, refl, arith, false, inl, inr}
 use Rattle.b67_word.specs.declared.couples.Place.{Place}
 use Rattle.b67_model.specs.declared.operators.Op.{Op}
 use Rattle.b67_model.specs.Common.{Frame, Task, Job, SessionJob, top, Line, Goes, is_critical, row, Session, IsSegment, called}

@@ -1,5 +1,5 @@
 -- A slice for whose steps core and device suffice isn't stopped.
-use Rattle.std.proofs.Common.{◌≡◌, ◌≢◌, ℕ, ◌+◌, ◌<◌, ◌≤◌, List, length, Option, Some, None, Result, Ok, Err, inl, inr, ◌⊎◌, refl, sym, ap, ◌∙◌, subst, arith}
+use Rattle.std.proofs.Common.{◌≡◌, ◌≢◌, ℕ, ◌+◌, ◌≤◌, List, length, Option, Some, None, Result, Ok, Err, inl, inr, refl, sym, ap, ◌∙◌, subst, arith}
 use Rattle.std.specs.Result.{IsOk}
 use Rattle.b67_io.specs.Causes.{Stayed}
 use Rattle.b67_model.specs.Common.{need, need_next, StepResult, after, Session}

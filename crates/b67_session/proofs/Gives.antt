@@ -1,6 +1,5 @@
 -- An operator left an activation record: what is asked of giving back its arrays, and what is made then.
 use Rattle.std.proofs.Common.{◌≡◌, ◌≢◌, ℕ, ◌+◌, ◌^◌, ◌<◌, ◌≤◌, List, [], map, Option, None, length, Bool, true, false, not, refl, sym, ◌∙◌, ap, arith, inl, inr, ⊎_elim, subst}
-use Rattle.std.proofs.lemmas.Bool.{true≢false}
 use Rattle.b67_area.specs.declared.Areas.{Areas}
 use Rattle.b67_model.specs.Common.{Ready, Task, SessionJob, reading_of, row, Session, IsSegment, TasksInOrder}
 use Rattle.b67_layout.specs.Common.{IsInOrderButCounts, Placement, here, objects_gone, with_job, ForEach, IsMade, IsRunning, RepresentsSession, RepresentsStorage}

@@ -1,5 +1,5 @@
 -- How high a task's stack and its topmost mark stand over the stack's base, by its registers or by the word at that base.
-use Rattle.std.proofs.Common.{◌≡◌, ◌≢◌, ℕ, ◌+◌, ◌-◌, List, [], ◌∷◌, ap, ◌∙◌, arith, Bool}
+use Rattle.std.proofs.Common.{◌≡◌, ◌≢◌, ℕ, ◌+◌, ◌-◌, List, [], ap, ◌∙◌, arith, Bool}
 use Rattle.std.specs.Prelude.{if◌then◌else◌}
 use Rattle.std.proofs.lemmas.Bool.{ne_eqb}
 use Rattle.b67_model.specs.Common.{Frame, Task, Job, SessionJob, Session, height, below_top}

@@ -1,7 +1,7 @@
 -- A row that left a frame: the task's top frame was entered, and the job has all arrays but that frame's.
 use Rattle.std.proofs.Common.{◌≡◌, ◌≢◌, ℕ, List, [], ◌∷◌, Bool, true, false, Option, None, Ok, arith}
 use Rattle.b67_word.specs.declared.couples.Place.{Place}
-use Rattle.b67_model.specs.Common.{Answer, Word, Operand, Name, Ref, Row, Element, Original, Proc, Intrinsic, Array, Frame, Standing, Marked, Entered, Return, Task, Job, SessionJob, OperatorContext, top, End, follow, Line, Done, Goes, Leaves, Waits, top_of, leaves_cells, without_arrays_of, evaluates, left, leaves, exit, returnable, returned, retn_word, retn}
+use Rattle.b67_model.specs.Common.{Answer, Word, Operand, Name, Ref, Row, Element, Original, Proc, Intrinsic, Array, Frame, Standing, Marked, Entered, Return, Task, Job, SessionJob, OperatorContext, top, End, follow, Line, Done, Goes, Leaves, Waits, top_of, leaves_cells, without_arrays_of, evaluates, leaves, exit, returnable, returned, retn_word, retn}
 use Rattle.b67_model.specs.Words as Words
 use Rattle.b67_law_order.proofs.Posts.{Post, post_ok, post_err, post_any, post_then}
 use Rattle.b67_layout.specs.Meets.{here}

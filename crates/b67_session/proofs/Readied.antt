@@ -1,5 +1,5 @@
 -- The session in which the running task is ready: it is in order, and the machine represents it.
-use Rattle.std.proofs.Common.{◌≡◌, List, [], map, Some, refl, sym, ◌∙◌, ap, arith, inl, subst}
+use Rattle.std.proofs.Common.{◌≡◌, List, [], map, Some, refl, sym, ap, arith, inl, subst}
 use Rattle.b67_model.specs.Keyed.{keyed}
 use Rattle.b67_lemmas.proofs.Members.{all_in, length_change, change_found}
 use Rattle.b67_lemmas.proofs.Keyed.{change_same}

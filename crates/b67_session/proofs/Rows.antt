@@ -10,7 +10,6 @@ use Rattle.b67_task_tables.specs.declared.tables.Tasks.{Tasks}
 use Rattle.b67_task_tables.specs.declared.tables.Machine.{Machine}
 use Rattle.b67_task_tables.specs.Tables.{task_row}
 use Rattle.b67_session.specs.declared.slices.Progress.{Progress}
-use Rattle.b67_session.specs.declared.slices.Progress.TheVariants as progress
 use Rattle.b67_session.specs.Slices.{Pauses, RepresentsWithoutTasks, StaysEnded}
 
 pub empty_rows : (tasks : Tasks) → true ≡ (length tasks.rows.items == 0) → tasks.rows.items ≡ []

@@ -1,12 +1,12 @@
 -- The tables show the session after a step of a ready task that calls no intrinsic.
-use Rattle.std.proofs.Common.{◌≡◌, ◌≢◌, ℕ, ◌+◌, List, [], ◌∷◌, Option, Some, None, refl, sym, ◌∙◌, ap, inl, inr, ◌⊎◌, ⊎_elim, subst, arith}
+use Rattle.std.proofs.Common.{◌≡◌, ℕ, List, [], ◌∷◌, Option, Some, None, refl, sym, ◌∙◌, ap, inl, inr, ◌⊎◌, subst, arith}
 use Rattle.std.specs.Prelude.{◌==◌, if◌then◌else◌}
 use Rattle.std.proofs.lemmas.Bool.{cases_Bool}
 use Rattle.b67_lemmas.specs.Lists.{Has}
 use Rattle.b67_lemmas.proofs.Members.{falls_same, keyed_has}
 use Rattle.b67_model.specs.Common.{Frame, Condition, Ready, Task, Job, SessionJob, number_of, Session, from_frame, frames_of_task, critical_of}
 use Rattle.b67_model.specs.Keyed.{keyed, change_keyed}
-use Rattle.b67_layout.specs.Common.{IsInOrderButCounts, Placement, slot_of, spot_in, base_spot, outer_spots, spots, TaskRow, JobRow, JobCounts, shown, critical_disp, TaskShows, JobsShow, TablesShow, IsRunning, with_job}
+use Rattle.b67_layout.specs.Common.{IsInOrderButCounts, Placement, slot_of, spot_in, base_spot, outer_spots, TaskRow, JobRow, JobCounts, shown, critical_disp, TaskShows, JobsShow, TablesShow, IsRunning, with_job}
 use Rattle.b67_stack.specs.Stacks.{StackPlace}
 use Rattle.b67_layout.proofs.Common.{running_in_order, change-has, change-kept, IsDependedOn}
 use Rattle.b67_session.proofs.Places.{At, places, IsAlike, Same, AllSame}

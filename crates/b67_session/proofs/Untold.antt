@@ -1,5 +1,5 @@
 -- The machine over a storage that says nothing of the device.
-use Rattle.std.proofs.Common.{ℕ, List, [], Option, None, arith}
+use Rattle.std.proofs.Common.{ℕ, List, Option, None, arith}
 use Rattle.b67_model.specs.Schedule.{Session}
 use Rattle.b67_stack.specs.Represents.{Storage}
 use Rattle.b67_layout_storage.proofs.Untold.{untold}
