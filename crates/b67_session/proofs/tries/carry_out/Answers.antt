@@ -1,4 +1,4 @@
-use Rattle.std.proofs.Common.{◌∙◌, ◌≡◌, ℕ, List, length, Option, None, Ok, Err, sym, subst, refl}
+use Rattle.std.proofs.Common.{◌∙◌, ◌≡◌, ℕ, List, length, Option, None, Ok, Err, sym, subst, refl, arith}
 use Rattle.b67_model.specs.Schedule.{Session}
 use Rattle.b67_stack.specs.declared.Step.{Step}
 use Rattle.b67_stack.specs.declared.Step.TheVariants as answers
@@ -12,7 +12,7 @@ use Rattle.b67_task_tables.specs.declared.tables.Machine.{Machine}
 use Rattle.b67_task_tables.specs.Tables.{MachineRepresents}
 use Rattle.b67_session.specs.declared.tries.Tried.TheVariants.{Made}
 use Rattle.b67_session.specs.Tries.{TryFits}
-use Rattle.b67_session.proofs.Runs.{caused_stop}
+use Rattle.b67_session.proofs.Runs.{caused_none, caused_stop}
 use Rattle.b67_session.proofs.Untold.{machine_untold}
 use Rattle.b67_session.proofs.Trying.{wants_array, was_fault, was_ended, was_call, was_absent, called_so, stops_so, writes_so}
 use Rattle.b67_session.proofs.AttemptFits.{was_operator, fault_touches, leaves_touches, operator_fits, call_fits, fault_fits, waits_fit, stop_fits}
@@ -162,3 +162,24 @@ returns-in-Err-clause-tried g c = λ x told plan s m t o h runs ready.
 
 pub returns-in-Err-clause-causes : goal.returns-in-Err-clause-causes
 returns-in-Err-clause-causes g c = caused_stop g.B.Backing.faults g.K.Sink.faults c.args.backing.now c.intrinsic.new.backing c.args.paper.now c.intrinsic.new.paper c.in-Err.stop c.in-Err.ensures.causes
+
+pub returns-in-Absent-clause-causes : goal.returns-in-Absent-clause-causes
+returns-in-Absent-clause-causes g c = caused_none g.B.Backing.faults g.K.Sink.faults c.args.backing.now c.args.backing.now c.args.paper.now c.args.paper.now _ (omega arith)
+
+pub returns-in-Fault-clause-causes : goal.returns-in-Fault-clause-causes
+returns-in-Fault-clause-causes g c = caused_none g.B.Backing.faults g.K.Sink.faults c.args.backing.now c.args.backing.now c.args.paper.now c.args.paper.now _ (omega arith)
+
+pub returns-in-Ended-clause-causes : goal.returns-in-Ended-clause-causes
+returns-in-Ended-clause-causes g c = caused_none g.B.Backing.faults g.K.Sink.faults c.args.backing.now c.args.backing.now c.args.paper.now c.args.paper.now _ (omega arith)
+
+pub returns-in-Ok-Done-clause-causes : goal.returns-in-Ok-Done-clause-causes
+returns-in-Ok-Done-clause-causes g c = caused_none g.B.Backing.faults g.K.Sink.faults c.args.backing.now c.intrinsic.new.backing c.args.paper.now c.intrinsic.new.paper _ c.intrinsic.ensures.causes.printer.later
+
+pub returns-in-Ok-Absent-clause-causes : goal.returns-in-Ok-Absent-clause-causes
+returns-in-Ok-Absent-clause-causes g c = caused_none g.B.Backing.faults g.K.Sink.faults c.args.backing.now c.intrinsic.new.backing c.args.paper.now c.intrinsic.new.paper _ c.intrinsic.ensures.causes.printer.later
+
+pub returns-in-Ok-Fault-clause-causes : goal.returns-in-Ok-Fault-clause-causes
+returns-in-Ok-Fault-clause-causes g c = caused_none g.B.Backing.faults g.K.Sink.faults c.args.backing.now c.intrinsic.new.backing c.args.paper.now c.intrinsic.new.paper _ c.intrinsic.ensures.causes.printer.later
+
+pub returns-in-Ok-Waits-clause-causes : goal.returns-in-Ok-Waits-clause-causes
+returns-in-Ok-Waits-clause-causes g c = caused_none g.B.Backing.faults g.K.Sink.faults c.args.backing.now c.intrinsic.new.backing c.args.paper.now c.intrinsic.new.paper _ c.intrinsic.ensures.causes.printer.later
