@@ -18,9 +18,9 @@ use Rattle.b67_session.specs.declared.tries.Tried.{Tried}
 use Rattle.b67_session.specs.declared.tries.Tried.TheVariants as tries
 use Rattle.b67_session.specs.Makes.{ForEachReady}
 use Rattle.b67_session.specs.Tries.{IsWantedByStep, TryRow}
-use Rattle.b67_session.specs.Attempts.{RunsOver, ForEachOver, HoleFits, TellsAfter, starts_task, makes_longer, CallKeepsAreas, UsesHole, IsCalm, AttemptRow, WithCodeRow, LastRow, TablesStay, WantsNothing}
+use Rattle.b67_session.specs.Attempts.{RunsOver, ForEachOver, HoleFits, TellsAfter, starts_task, makes_longer, CallKeepsAreas, UsesHole, IsCalm, Attempts, AttemptFits, EndsByRow, StandsAsBefore, AttemptRow, WithCodeRow, LastRow, TablesStay, WantsNothing}
 use Rattle.b67_session.specs.Brought.{BroughtRow, BroughtIntoHole}
-use Rattle.b67_session.proofs.Composed.{Told, made_once, ends_once, waits_once, still_once, stops_once, never, unchanged_over, goes_on_telling, stopped_attempt, runs_over, tables_after, room_after_stop, may_call, stop_calls, attempt_as, same_needs, still_told, other, in_order, then_on, room_after_want, code_there, wants_nothing, still_holds, held_from, held_till, not_full_as, not_full_ok, not_full_once, tells_once, hole_for, then_nothing, no_call, keeps_areas, areas_kept, hole_wants, not_made}
+use Rattle.b67_session.proofs.Composed.{Told, made_once, ends_once, waits_once, still_once, stops_once, never, unchanged_over, goes_on_telling, stopped_attempt, runs_over, tables_after, room_after_stop, may_call, stop_calls, attempt_as, same_needs, still_told, other, in_order, then_on, room_after_want, code_there, wants_nothing, still_holds, held_from, held_till, not_full_as, not_full_ok, same_answer, not_full_once, tells_once, hole_for, then_nothing, no_call, keeps_areas, areas_kept, hole_wants, not_made}
 
 -- ---- what two calls say of each session
 
@@ -28,9 +28,9 @@ use Rattle.b67_session.proofs.Composed.{Told, made_once, ends_once, waits_once, 
 pub record TriedSo {B K : Type 0} (holds : B → Told) (size : B → ℕ) (taken : K → Option (List ℕ)) (answered : Result Tried Stop) (old new : Machine) (device device' : B) (paper paper' : K) : Type 0 where
   pub each : ForEachReady old (λ x told plan s m t. TryRow holds taken (size device) x told plan s m t answered old new device device' paper paper')
 
-pub tried_as : {B K : Type 0} {holds : B → Told} {size : B → ℕ} {taken : K → Option (List ℕ)} {seen answered : Result Tried Stop} {old new : Machine} {device device' : B} {paper paper' : K} → TriedSo holds size taken seen old new device device' paper paper' → seen ≡ answered
-    → TriedSo holds size taken answered old new device device' paper paper'
-tried_as {holds = holds} {size = size} {taken = taken} {old = old} {new = new} {device = device} {device' = device'} {paper = paper} {paper' = paper'} r is = subst (λ a. TriedSo holds size taken a old new device device' paper paper') is r
+module _ {B K : Type 0} {holds : B → Told} {size : B → ℕ} {taken : K → Option (List ℕ)} {seen answered : Result Tried Stop} {old new : Machine} {device device' : B} {paper paper' : K} where
+  pub tried_as : TriedSo holds size taken seen old new device device' paper paper' → seen ≡ answered → TriedSo holds size taken answered old new device device' paper paper'
+  tried_as r is = subst (λ a. TriedSo holds size taken a old new device device' paper paper') is r
 
 -- what it found absent is brought in
 pub record BroughtSo {B : Type 0} (holds : B → Told) (size : B → ℕ) (found : What) (answered : Result (Unit {0}) Stop) (old new : Machine) (device device' : B) : Type 0 where
@@ -42,8 +42,14 @@ pub record BroughtSo {B : Type 0} (holds : B → Told) (size : B → ℕ) (found
   pub tasks : new.tasks ≡ old.tasks
   pub silent : answered ≢ Err stops.PrintFault
 
-pub brought_as : {B : Type 0} {holds : B → Told} {size : B → ℕ} {found : What} {seen answered : Result (Unit {0}) Stop} {old new : Machine} {device device' : B} → BroughtSo holds size found seen old new device device' → seen ≡ answered → BroughtSo holds size found answered old new device device'
-brought_as {holds = holds} {size = size} {found = found} {old = old} {new = new} {device = device} {device' = device'} r is = subst (λ a. BroughtSo holds size found a old new device device') is r
+module _ {B : Type 0} {holds : B → Told} {size : B → ℕ} {found : What} {seen answered : Result (Unit {0}) Stop} {old new : Machine} {device device' : B} where
+  pub brought_as : BroughtSo holds size found seen old new device device' → seen ≡ answered → BroughtSo holds size found answered old new device device'
+  brought_as r is = subst (λ a. BroughtSo holds size found a old new device device') is r
+
+-- what an attempt says of each session
+abbrev pub Attempted : {B K : Type 0} → (B → Told) → (B → ℕ) → (K → Option (List ℕ)) → Result Tried Stop → Machine → Machine → B → B → K → K → Type 0
+Attempted holds size taken answered old new device device' paper paper' =
+    ForEachOver old (holds device) (λ x plan s m t. AttemptRow holds taken x (content_after x.device (holds device')) (length old.cpu.core) (size device) old.tasks.printed plan s m t answered new device device' paper paper')
 
 -- ---- one try that found nothing absent
 
@@ -66,29 +72,27 @@ module _ {B K : Type 0} (holds : B → Told) (size : B → ℕ) (taken : K → O
     sum = λ nothing sum size e. absurd (let b : ⊥ = cc in b);
   }
 
-  ends_row : (ending : Ending) → Try (Ok (tries.Ends ending)) → device' ≡ device → Whole (Ok (tries.Ends ending))
-  ends_row ending tried quiet = record {
-    meets = ends_once holds taken device device' x (size device) plan s m t o runs old new h paper paper' ending quiet (tried.row h.says);
-    fits = λ tells. tried.fits;
+  -- nothing has changed, as its task is to end or to wait
+  unmoved_row : (tried : Tried) → Attempts taken x (content_after x.device (holds device')) (length old.cpu.core) (size device) old.tasks.printed plan s t (Ok tried) new paper paper' → AttemptFits (length old.cpu.core) x plan s m t (Ok tried) → tried ≢ tries.Made
+      → device' ≡ device → EndsByRow plan m t (Ok tried) → StandsAsBefore x (content_after x.device (holds device')) plan s (Ok tried) new → Whole (Ok tried)
+  unmoved_row tried meets fits other quiet outcome still = record {
+    meets = meets;
+    fits = λ tells. fits;
     quiet = λ nothing same. quiet;
-    hole = λ exact fits none. record { written = still_holds holds device device' quiet; not_full = not_full_ok (tries.Ends ending) };
-    areas = λ nothing e. absurd (let b : ⊥ = cc in b);
-    outcome = λ nothing. (tried.row h.says).0;
-    still = λ nothing. still_once holds taken device device' x (size device) plan s m t o runs old new h paper paper' quiet (tried.row h.says).1;
-    sum = λ nothing sum size e. absurd (let b : ⊥ = cc in b);
+    hole = λ exact fits none. record { written = still_holds holds device device' quiet; not_full = not_full_ok tried };
+    areas = λ nothing e. absurd (other (same_answer tried tries.Made e));
+    outcome = λ nothing. outcome;
+    still = λ nothing. still;
+    sum = λ nothing sum many e. absurd (not_full_ok tried sum many e);
   }
 
+  ends_row : (ending : Ending) → Try (Ok (tries.Ends ending)) → device' ≡ device → Whole (Ok (tries.Ends ending))
+  ends_row ending tried quiet = unmoved_row (tries.Ends ending) (ends_once holds taken device device' x (size device) plan s m t o runs old new h paper paper' ending quiet (tried.row h.says)) tried.fits (λ e. absurd cc) quiet (tried.row h.says).0
+      (still_once holds taken device device' x (size device) plan s m t o runs old new h paper paper' quiet (tried.row h.says).1)
+
   waits_row : (state : TaskState) → Try (Ok (tries.Waits state)) → device' ≡ device → Whole (Ok (tries.Waits state))
-  waits_row state tried quiet = record {
-    meets = waits_once holds taken device device' x (size device) plan s m t o runs old new h paper paper' state quiet (tried.row h.says);
-    fits = λ tells. tried.fits;
-    quiet = λ nothing same. quiet;
-    hole = λ exact fits none. record { written = still_holds holds device device' quiet; not_full = not_full_ok (tries.Waits state) };
-    areas = λ nothing e. absurd (let b : ⊥ = cc in b);
-    outcome = λ nothing. (tried.row h.says).0;
-    still = λ nothing. still_once holds taken device device' x (size device) plan s m t o runs old new h paper paper' quiet (tried.row h.says).1;
-    sum = λ nothing sum size e. absurd (let b : ⊥ = cc in b);
-  }
+  waits_row state tried quiet = unmoved_row (tries.Waits state) (waits_once holds taken device device' x (size device) plan s m t o runs old new h paper paper' state quiet (tried.row h.says)) tried.fits (λ e. absurd cc) quiet (tried.row h.says).0
+      (still_once holds taken device device' x (size device) plan s m t o runs old new h paper paper' quiet (tried.row h.says).1)
 
   stops_row : (stop : Stop) → Try (Err stop) → Whole (Err stop)
   stops_row stop tried = record {
@@ -107,23 +111,23 @@ module _ {B K : Type 0} (holds : B → Told) (size : B → ℕ) (taken : K → O
 
 module _ {B K : Type 0} {holds : B → Told} {size : B → ℕ} {taken : K → Option (List ℕ)} {old new : Machine} {device device' : B} {paper paper' : K} where
   pub made_each : TriedSo holds size taken (Ok tries.Made) old new device device' paper paper'
-      → ForEachOver old (holds device) (λ x plan s m t. AttemptRow holds taken x (content_after x.device (holds device')) (length old.cpu.core) (size device) old.tasks.printed plan s m t (Ok tries.Made) new device device' paper paper')
+      → Attempted holds size taken (Ok tries.Made) old new device device' paper paper'
   made_each r = λ x plan s m t o h runs ready. made_row holds size taken device device' x plan s m t o runs old new h paper paper' (r.each x x.device plan s m t o h.stands runs ready)
 
   pub ends_each : (ending : Ending) → TriedSo holds size taken (Ok (tries.Ends ending)) old new device device' paper paper'
-      → ForEachOver old (holds device) (λ x plan s m t. AttemptRow holds taken x (content_after x.device (holds device')) (length old.cpu.core) (size device) old.tasks.printed plan s m t (Ok (tries.Ends ending)) new device device' paper paper')
+      → Attempted holds size taken (Ok (tries.Ends ending)) old new device device' paper paper'
   ends_each ending r = λ x plan s m t o h runs ready.
       let tried : TryRow holds taken (size device) x x.device plan s m t (Ok (tries.Ends ending)) old new device device' paper paper' = r.each x x.device plan s m t o h.stands runs ready in
       ends_row holds size taken device device' x plan s m t o runs old new h paper paper' ending tried (tried.quiet (λ w. w))
 
   pub waits_each : (state : TaskState) → TriedSo holds size taken (Ok (tries.Waits state)) old new device device' paper paper'
-      → ForEachOver old (holds device) (λ x plan s m t. AttemptRow holds taken x (content_after x.device (holds device')) (length old.cpu.core) (size device) old.tasks.printed plan s m t (Ok (tries.Waits state)) new device device' paper paper')
+      → Attempted holds size taken (Ok (tries.Waits state)) old new device device' paper paper'
   waits_each state r = λ x plan s m t o h runs ready.
       let tried : TryRow holds taken (size device) x x.device plan s m t (Ok (tries.Waits state)) old new device device' paper paper' = r.each x x.device plan s m t o h.stands runs ready in
       waits_row holds size taken device device' x plan s m t o runs old new h paper paper' state tried (tried.quiet (λ w. w))
 
   pub stops_each : (stop : Stop) → TriedSo holds size taken (Err stop) old new device device' paper paper'
-      → ForEachOver old (holds device) (λ x plan s m t. AttemptRow holds taken x (content_after x.device (holds device')) (length old.cpu.core) (size device) old.tasks.printed plan s m t (Err stop) new device device' paper paper')
+      → Attempted holds size taken (Err stop) old new device device' paper paper'
   stops_each stop r = λ x plan s m t o h runs ready. stops_row holds size taken device device' x plan s m t o runs old new h paper paper' stop (r.each x x.device plan s m t o h.stands runs ready)
 
   pub tables_each : (answered : Result Tried Stop) → RunsOver old (holds device) → TriedSo holds size taken answered old new device device' paper paper' → TablesStay answered old.tasks new.tasks
@@ -211,10 +215,9 @@ module _ {B K : Type 0} (holds : B → Told) (size : B → ℕ) (taken : K → O
     sum = λ nothing. absurd (f.some nothing);
   }
 
-pub refused_each : {B K : Type 0} {holds : B → Told} {size : B → ℕ} {taken : K → Option (List ℕ)} {found : What} {old there new : Machine} {device mid next : B} {paper first : K} (stop : Stop) → TriedSo holds size taken (Ok (tries.Absent found)) old there device mid paper first → BroughtSo holds size found (Err stop) there new mid next
-    → ForEachOver old (holds device) (λ x plan s m t. AttemptRow holds taken x (content_after x.device (holds next)) (length old.cpu.core) (size device) old.tasks.printed plan s m t (Err stop) new device next paper first)
-refused_each {holds = holds} {size = size} {taken = taken} {found = found} {old = old} {there = there} {new = new} {device = device} {mid = mid} {next = next} {paper = paper} {first = first} stop r b = λ x plan s m t o h runs ready.
-    refused_row holds size taken x plan s m t found old there new device mid next paper first stop (found_absent r x plan s m t o h runs ready) b
+module _ {B K : Type 0} {holds : B → Told} {size : B → ℕ} {taken : K → Option (List ℕ)} {found : What} {old there new : Machine} {device mid next : B} {paper first : K} where
+  pub refused_each : (stop : Stop) → TriedSo holds size taken (Ok (tries.Absent found)) old there device mid paper first → BroughtSo holds size found (Err stop) there new mid next → Attempted holds size taken (Err stop) old new device next paper first
+  refused_each stop r b = λ x plan s m t o h runs ready. refused_row holds size taken x plan s m t found old there new device mid next paper first stop (found_absent r x plan s m t o h runs ready) b
 
 -- ---- and was
 
@@ -308,7 +311,7 @@ module _ {B K : Type 0} {holds : B → Told} {size : B → ℕ} {taken : K → O
 
   pub attempt_each : (last : Machine) (final : B) (paper' : K) (answered : Result Tried Stop)
       → ForEachOver new (holds next) (λ y p z n u. WithCodeRow taken y (content_after y.device (holds final)) (length new.cpu.core) (size next) new.tasks.printed p z n u answered last next final first paper')
-      → ForEachOver old (holds device) (λ x plan s m t. AttemptRow holds taken x (content_after x.device (holds final)) (length old.cpu.core) (size device) old.tasks.printed plan s m t answered last device final paper paper')
+      → Attempted holds size taken answered old last device final paper paper'
   attempt_each last final paper' answered row = λ x plan s m t o h runs ready.
       then_attempt holds size x plan s m t found old there new device mid next paper first (found_absent r x plan s m t o h runs ready) b taken last final paper' answered row
 
