@@ -3,11 +3,11 @@
 
 Prints where the check of a crate spends its time: the seconds of its dearest modules, 30 or so many, then those of each kind of
 module, then those of its dearest functions. It reads what the last check of the crate left in crates/CRATE/out/incremental, which
-has a file for each module, written as the module was checked. So first make that folder
-empty (`rm -rf`, then `mkdir`: without it `rt` takes what another checkout has kept), and call `rt check --jobs 1` in the crate with
-nothing beside it; a check with more jobs, or one that goes on from an earlier one, tells nothing. `Lts` is the borrow
-checker's part of a function's proof, made from the function's code alone; `Proof` its goals, `Answers` those that are answered by
-hand; `lemma` a module of lemmas.
+has a file for each module, written as the module was checked. So first make that folder empty (`rm -rf`, then `mkdir`: without it
+`rt` takes what another checkout has kept), and call `rt check --jobs 1` in the crate with nothing beside it; a check with more jobs,
+or one that goes on from an earlier one, tells nothing. `Lts` is the borrow checker's part of a function's proof, made from the
+function's code alone; `Proof` its goals, `Answers` those that are answered by hand; `lemma` a module of lemmas. A large crate is
+checked in waves of functions, and the start of each wave, some five seconds, is counted with its first module.
 """
 import collections
 import os
