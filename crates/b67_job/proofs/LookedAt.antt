@@ -92,10 +92,10 @@ module _ {S B : Type 0} (left : S → Option (List ℕ)) (source_faults : S → 
               (searched from most k.tasks (run_of (prepared_of loaded)) begun halt) (least (knows tells) (says_retold (holds b) (holds b')) stands);
         }
 
-    pub fails : (stop : Stop) (b'' : B) (new : Machine) → (stop ≡ stops.BackingFault → Rose broken b' b'')
+    pub fails : (stop : Stop) (b'' : B) (new : Machine) → (stop ≡ stops.BackingFault → Rose broken b' b'') → stop ≢ stops.PrintFault
         → (said ≢ None → Says said (holds b') → StandsAt said k first → StopsUnfound (content_after said (holds b'')) (said ≢ None) (size b') what places from most first stop k new)
         → StopsInDeck holds size broken b b'' core (prepared_of loaded) what places from most stop
-    fails stop b'' new failed stops_so = record {
+    fails stop b'' new failed unprinted stops_so = record {
       said = said;
       opened = k;
       left = new;
@@ -104,4 +104,6 @@ module _ {S B : Type 0} (left : S → Option (List ℕ)) (source_faults : S → 
           subst (λ (n : ℕ). StopsUnfound (content_after said (holds b'')) (said ≢ None) n what places from most first stop k new) served.size
           (stops_so tells (says_retold (holds b) (holds b')) stands);
       failed = λ e. (let rose = failed e in let later = served.faults in omega (arith, rose, later));
+      known = knows;
+      unprinted = unprinted;
     }

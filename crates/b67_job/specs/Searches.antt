@@ -40,15 +40,17 @@ pub record FindsInText (text : List ℕ) (what : Sought) (places : List CodePlac
   pub runs : judgement text ≡ Runs prepared
   pub least : FindsLeast what places (IsLookedAt from most (run_of prepared)) (run_of prepared).session found
 
--- the search stops where the run of the deck does: a session was opened, on a machine that represents the deck's, the device tells what
--- its sectors hold, and nothing that is sought came before the stop. A failure is the device's
+-- the search stops where the run of the deck does: a session was opened, on a machine that represents the deck's, and if the device
+-- told what its sectors hold, nothing that is sought came before the stop. A failure is the device's, and never a printer's
 pub record StopsInDeck {B : Type 0} (holds : B → Option (List (List ℕ))) (size faults : B → ℕ) (device device' : B) (core : ℕ) (p : Prepared) (what : Sought) (places : List CodePlace) (from most : ℕ) (stop : Stop) : Type 0 where
   pub said : Option (List (List ℕ))
   pub opened : Machine
   pub left : Machine
   pub opens : OpensAs said p.0 p.1 core (size device) opened
+  pub known : holds device ≢ None → said ≢ None
   pub unfound : said ≢ None → StopsUnfound (content_after said (holds device')) (said ≢ None) (size device) what places from most (run_of p).session stop opened left
   pub failed : stop ≡ stops.BackingFault → Rose faults device device'
+  pub unprinted : stop ≢ stops.PrintFault
 
 -- why a search answers nothing: the deck isn't admitted, or no session is opened, by the cause that is told; or the run stops
 abbrev pub FailsInDeck : {S B : Type 0} → (S → Option (List ℕ)) → (S → ℕ) → S → S → (B → Option (List (List ℕ))) → (B → ℕ) → (B → ℕ) → B → B → ℕ → Sought → List CodePlace → ℕ → ℕ → SearchFault → Type 0

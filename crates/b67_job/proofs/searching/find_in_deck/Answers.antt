@@ -61,5 +61,5 @@ returns-clause-fails g c = λ fault e.
       c.in-Ok.ensures.answer,
       fails g.S.Source.left g.S.Source.faults c.args.deck.now c.admit.new.source g.B.Backing.holds g.B.Backing.size g.B.Backing.calls g.B.Backing.faults c.args.backing.now c.open.new.backing c.args.core c.in-Ok.loaded c.as_slice-programs.result.now c.in-Ok-open.machine
           c.as_slice-programs.ensures c.in-Ok.ensures.answer c.know_programs.ensures c.in-Ok-open.ensures.opens c.open.ensures.device c.args.what c.args.places.now c.args.from c.args.most c.in-Err-find.stop c.find.new.backing c.find.new.machine
-          (λ f. c.in-Err-find.ensures.leaves.device_failed (ap (λ (x : Stop). Err x) f)) (λ known says stands. c.in-Err-find.ensures.stops _ _ c.in-Err-find.stop known says stands refl),
+          (λ f. c.in-Err-find.ensures.leaves.device_failed (ap (λ (x : Stop). Err x) f)) (λ f. c.in-Err-find.ensures.leaves.unprinted (ap (λ (x : Stop). Err x) f)) (λ known says stands. c.in-Err-find.ensures.stops _ _ c.in-Err-find.stop known says stands refl),
     )
