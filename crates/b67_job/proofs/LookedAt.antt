@@ -1,5 +1,5 @@
 -- The counts that a search looks at, by the tables of a machine that opens and by its run.
-use Rattle.std.proofs.Common.{◌≡◌, ◌≢◌, ◌≤◌, ◌<◌, ◌+◌, ℕ, List, Option, Some, None, Ok, map, inl, inr, refl, sym, ap, ◌∙◌, subst, arith}
+use Rattle.std.proofs.Common.{◌≡◌, ◌≢◌, ◌≤◌, ◌<◌, ◌+◌, ℕ, List, length, Option, Some, None, Ok, map, inl, inr, refl, sym, ap, ◌∙◌, subst, arith}
 use Rattle.std.specs.Prelude.{IfSome}
 use Rattle.std.proofs.lemmas.Bool.{cases_lt}
 use Rattle.std.proofs.lemmas.Option.{none-some, same_Some}
@@ -27,7 +27,7 @@ use Rattle.b67_job.proofs.Decks.{still_told}
 use Rattle.b67_job.proofs.Served.{loaded_in_range, prepared_is}
 use Rattle.b67_model.specs.Common.{Session, Run}
 use Rattle.b67_task_tables.specs.declared.tables.Tasks.{Tasks}
-use Rattle.b67_session.specs.Search.{IsSearched, FindsLeast, StopsUnfound}
+use Rattle.b67_session.specs.Search.{IsSearched, FindsLeast, ComesTo, StopsUnfound}
 use Rattle.b67_session.specs.declared.seeking.CodePlace.{CodePlace}
 use Rattle.b67_session.specs.declared.seeking.Sought.{Sought}
 use Rattle.b67_job.specs.Searches.{IsLookedAt, FindsInDeck, FindsInText, StopsInDeck}
@@ -54,8 +54,8 @@ module _ (from most : ℕ) (tasks : Tasks) (r : Run) (begun : tasks.made ≡ 0) 
     by (Some count) is j low e before = (let same = same_Some count (tasks.made + j) (is ∙ sym halt ∙ e) in omega (arith, same, before, low, begun))
 
 -- the text that was read is the one that the source told
-pub in_text : {S : Type 0} (left : S → Option (List ℕ)) (deck deck' : S) (text : List ℕ) (what : Sought) (places : List CodePlace) (from most : ℕ) (found : Option ℕ) → left deck ≡ Some text → FindsInDeck left deck deck' what places from most found → FindsInText text what places from most found
-in_text left deck deck' text what places from most found tells x = record { prepared = x.prepared; runs = ap judgement (x.read.told text tells).0 ∙ x.runs; least = x.least }
+pub in_text : {S : Type 0} (left : S → Option (List ℕ)) (deck deck' : S) (text : List ℕ) (core : ℕ) (what : Sought) (places : List CodePlace) (from most : ℕ) (found : Option ℕ) → left deck ≡ Some text → FindsInDeck left deck deck' core what places from most found → FindsInText text core what places from most found
+in_text left deck deck' text core what places from most found tells x = record { prepared = x.prepared; runs = ap judgement (x.read.told text tells).0 ∙ x.runs; least = x.least; comes = x.comes }
 
 -- a search over the machine that a deck opens
 module _ {S B : Type 0} (left : S → Option (List ℕ)) (source_faults : S → ℕ) (deck deck' : S) (holds : B → Option (List (List ℕ))) (size calls broken : B → ℕ) (b b' : B) (core : ℕ) (loaded : Loaded) (fs : List Codefile) (k : Machine) (same : fs ≡ loaded.programs)
@@ -79,8 +79,9 @@ module _ {S B : Type 0} (left : S → Option (List ℕ)) (source_faults : S → 
   knows tells = known_after (holds b) (holds b') tells (still_told holds b b' served.tells tells)
 
   module _ (what : Sought) (places : List CodePlace) (from most : ℕ) where
-    pub finds : (found : Option ℕ) → holds b ≢ None → (said ≢ None → Says said (holds b') → StandsAt said k first → FindsLeast what places (IsSearched from most k.tasks) first found) → FindsInDeck left deck deck' what places from most found
-    finds found tells least =
+    pub finds : (found : Option ℕ) → holds b ≢ None → (said ≢ None → Says said (holds b') → StandsAt said k first → FindsLeast what places (IsSearched from most k.tasks) first found)
+        → (said ≢ None → Says said (holds b') → StandsAt said k first → ComesTo (length k.cpu.core) first found) → FindsInDeck left deck deck' core what places from most found
+    finds found tells least comes =
         let begun : k.tasks.made ≡ 0 = opens.stands.tables.counts.made in
         let halt : k.tasks.halt ≡ loaded.deck.halt = ap (λ (g : Given). g.halt) opens.given in
         record {
@@ -90,6 +91,7 @@ module _ {S B : Type 0} (left : S → Option (List ℕ)) (source_faults : S → 
           runs = prepared_is loads.0 (prepared_of loaded) loads.2;
           least = least_as what places (IsSearched from most k.tasks) (IsLookedAt from most (run_of (prepared_of loaded))) first found (looked_at from most k.tasks (run_of (prepared_of loaded)) begun halt)
               (searched from most k.tasks (run_of (prepared_of loaded)) begun halt) (least (knows tells) (says_retold (holds b) (holds b')) stands);
+          comes = subst (λ (n : ℕ). ComesTo n first found) opens.core_size (comes (knows tells) (says_retold (holds b) (holds b')) stands);
         }
 
     pub fails : (stop : Stop) (b'' : B) (new : Machine) → (stop ≡ stops.BackingFault → Rose broken b' b'') → stop ≢ stops.PrintFault

@@ -35,7 +35,7 @@ pub fn find_in_deck<S: Source, B: Backing>(
 ) -> Result<Option<u64>, SearchFault>
     requires low { LEAST_CORE ≤ core }
     requires high { core < 2 ^ 20 }
-    ensures least { B.holds backing.old ≢ None → IfOk result (FindsInDeck S.left deck.old deck.new what places.now from most) }
+    ensures least { B.holds backing.old ≢ None → IfOk result (FindsInDeck S.left deck.old deck.new core what places.now from most) }
     ensures fails { (fault : SearchFault) → result ≡ Err fault → FailsInDeck S.left S.faults deck.old deck.new B.holds B.size B.faults backing.old backing.new core what places.now from most fault }
     ensures device { DeviceAfterCalls B.holds B.size B.calls B.faults backing.old backing.new }
 {

@@ -1,5 +1,6 @@
 -- A search that has made so many steps and found nothing before them, and how it ends.
-use Rattle.std.proofs.Common.{◌≡◌, ◌≢◌, ◌≤◌, ◌<◌, ◌⊎◌, ℕ, ◌+◌, zero, suc, List, [], ◌∷◌, Option, Some, None, Ok, Err, inl, inr, refl, sym, ap, ◌∙◌, subst, arith}
+use Rattle.std.proofs.lemmas.Option.{none-some}
+use Rattle.std.proofs.Common.{length, ◌≡◌, ◌≢◌, ◌≤◌, ◌<◌, ◌⊎◌, ℕ, ◌+◌, zero, suc, List, [], ◌∷◌, Option, Some, None, Ok, Err, inl, inr, refl, sym, ap, ◌∙◌, subst, arith}
 use Rattle.std.specs.Prelude.{option_map}
 use Rattle.std.proofs.lemmas.Bool.{cases_lt}
 use Rattle.b67_model.specs.Common.{SessionJob, Task, Session, StepResult, next, after, after_from, live_tasks, live_after, height, IsInOrderButPlaces}
@@ -20,7 +21,7 @@ use Rattle.b67_session.specs.declared.seeking.Sought.{Sought}
 use Rattle.b67_session.specs.declared.seeking.Sought.TheVariants as sought
 use Rattle.b67_session.specs.Slices.{IsOpen, Keeps, SliceMeets, Pauses, Slices}
 use Rattle.b67_session.specs.declared.seeking.Depth.{Depth}
-use Rattle.b67_session.specs.Search.{IsSought, IsSearched, FindsLeast, SearchLeaves, DeepestSoFar, PassesBy}
+use Rattle.b67_session.specs.Search.{IsSought, IsSearched, FindsLeast, ComesTo, SearchLeaves, DeepestSoFar, PassesBy}
 use Rattle.b67_session.proofs.Noted.{holds_sought, sought_held, sought_other, sought_next, none_noted}
 use Rattle.b67_session.proofs.Next.{in_session, in_job}
 use Rattle.b67_session.proofs.Rows.{none_of}
@@ -106,6 +107,25 @@ module _ {K : Type 0} (taken : K → Option (List ℕ)) (exact : Type 0) (told :
     by sought.Switch is = apart (λ e. let z : sought.Switch ≡ sought.Deepest = sym is ∙ e in let no : ⊥ = cc in no)
     by (sought.Within job number upto) is = apart (λ e. let z : sought.Within job number upto ≡ sought.Deepest = sym is ∙ e in let no : ⊥ = cc in no)
     by sought.Deepest is = subst (λ (w : Sought). FindsLeast w places (IsSearched from most old.tasks) s (count best)) (sym is) (deepest_of few all best ((passes.noted (none_noted what from s)).deepest is))
+
+  -- what was noted came before
+  noted_before : (d : Depth) → best ≡ Some d → d.made < made
+  noted_before d is = by what refl where
+    other : what ≢ sought.Deepest → d.made < made
+    other o = absurd (none-some d (sym ((passes.noted (none_noted what from s)).other o) ∙ is))
+
+    by : (w : Sought) → what ≡ w → d.made < made
+    by sought.Place e = other (λ z. let a : sought.Place ≡ sought.Deepest = sym e ∙ z in let no : ⊥ = cc in no)
+    by sought.Switch e = other (λ z. let a : sought.Switch ≡ sought.Deepest = sym e ∙ z in let no : ⊥ = cc in no)
+    by (sought.Within job number upto) e = other (λ z. let a : sought.Within job number upto ≡ sought.Deepest = sym e ∙ z in let no : ⊥ = cc in no)
+    by sought.Deepest e = (subst (DeepestSoFar from made s) is ((passes.noted (none_noted what from s)).deepest e)).before
+
+  -- core had the words of the steps before it
+  pub comes_noted : ComesTo (length old.cpu.core) s (count best)
+  comes_noted = by best refl where
+    by : (b : Option Depth) → best ≡ b → ComesTo (length old.cpu.core) s (count b)
+    by None is = tt
+    by (Some d) is = λ k low. g.fits tells k (let far = noted_before d is in omega (arith, low, far))
 
   -- all counts were looked at
   pub found_none : made ≤ most → most ≤ made → FindsLeast what places (IsSearched from most old.tasks) s (count best)

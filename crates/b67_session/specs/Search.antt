@@ -11,7 +11,7 @@ use Rattle.b67_io.specs.Causes.{Rose}
 use Rattle.b67_layout_storage.specs.Machine.{DeviceAfterCalls}
 use Rattle.b67_session.specs.AttemptStops.{Stop}
 use Rattle.b67_session.specs.AttemptStops as stops
-use Rattle.b67_session.specs.Slices.{IsOpen, Keeps, Slices}
+use Rattle.b67_session.specs.Slices.{IsOpen, Keeps, Slices, StepsFit}
 use Rattle.b67_session.specs.Complete.{IsToMake}
 use Rattle.b67_session.specs.declared.seeking.CodePlace.{CodePlace}
 use Rattle.b67_session.specs.declared.seeking.Depth.{Depth}
@@ -56,6 +56,11 @@ pub record IsSearched (from most : ℕ) (tasks : Tasks) (n : ℕ) : Type 0 where
 abbrev pub FindsLeast : Sought → List CodePlace → (ℕ → Type 0) → Session → Option ℕ → Type 0
 FindsLeast what places looked s (Some n) = looked n × HoldsAmong what places looked s n × ((k : ℕ) → looked k → HoldsAmong what places looked s k → n ≤ k)
 FindsLeast what places looked s None = (k : ℕ) → looked k → HoldsAmong what places looked s k → ⊥
+
+-- core has the words of the steps that come before what is found
+abbrev pub ComesTo : ℕ → Session → Option ℕ → Type 0
+ComesTo core s (Some n) = StepsFit core n s
+ComesTo core s None = Unit {0}
 
 -- a search stops where the run does, a slice of at most so many steps, and by that stop; and up to there nothing was found. Of the
 -- deepest this says no more

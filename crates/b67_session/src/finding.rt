@@ -13,7 +13,7 @@ ghost use Rattle.b67_session.specs.AttemptStops as stops;
 ghost use Rattle.b67_session.specs.Slices.{StandsAt, SetsOutSome, IsOpen, Keeps};
 ghost use Rattle.b67_session.specs.Steps.{IsInOrderFor, GoesOnInTurn};
 ghost use Rattle.b67_session.specs.Complete.{Suffices};
-ghost use Rattle.b67_session.specs.Search.{IsSearched, FindsLeast, StopsUnfound, SearchLeaves, CountsOn, PassesBy};
+ghost use Rattle.b67_session.specs.Search.{IsSearched, FindsLeast, ComesTo, StopsUnfound, SearchLeaves, CountsOn, PassesBy};
 ghost use Rattle.b67_session.specs.declared.seeking.Sought.TheVariants as sought;
 
 use crate::seeking::{
@@ -101,7 +101,8 @@ fn go_on_past(
 /// a session: so many steps come before it. None if it holds at no such count. The steps are made up to that count, or all of them
 /// if the deepest is sought, and their lines are dropped.
 ///
-/// It stops where the run itself does, by the same cause, and nothing that is sought came before.
+/// Core has the words of the steps that come before that count. It stops where the run itself does, by the same cause, and nothing that is
+/// sought came before.
 pub fn find<B: Backing>(
     machine: &mut Machine,
     what: Sought,
@@ -114,6 +115,7 @@ pub fn find<B: Backing>(
     requires sized { B.size backing.old + 1 ≡ length machine.old.sectors.links }
     ensures least { (told : Option (List (List ℕ))) (s : Session) → told ≢ None → Says told (B.holds backing.old) → StandsAt told machine.old s
         → IfOk result (FindsLeast what places.now (IsSearched from most machine.old.tasks) s) }
+    ensures comes { (told : Option (List (List ℕ))) (s : Session) → told ≢ None → Says told (B.holds backing.old) → StandsAt told machine.old s → IfOk result (ComesTo (length machine.old.cpu.core) s) }
     ensures stands { (told : Option (List (List ℕ))) (s : Session) (n : ℕ) → told ≢ None → Says told (B.holds backing.old) → StandsAt told machine.old s → what ≢ sought.Deepest → result ≡ Ok (Some n)
         → StandsAt (content_after told (B.holds backing.new)) machine.new (after n s) }
     ensures stops { (told : Option (List (List ℕ))) (s : Session) (stop : Stop) → told ≢ None → Says told (B.holds backing.old) → StandsAt told machine.old s → result ≡ Err stop

@@ -29,7 +29,7 @@ pub returns-in-Ok-find-clause-least : goal.returns-in-Ok-find-clause-least
 returns-in-Ok-find-clause-least g c = λ tells.
     finds g.S.Source.left g.S.Source.faults c.args.deck.now c.admit.new.source g.B.Backing.holds g.B.Backing.size g.B.Backing.calls g.B.Backing.faults c.args.backing.now c.open.new.backing c.args.core c.in-Ok.loaded c.as_slice-programs.result.now c.in-Ok-open.machine
     c.as_slice-programs.ensures c.in-Ok.ensures.answer c.know_programs.ensures c.in-Ok-open.ensures.opens c.open.ensures.device c.args.what c.args.places.now c.args.from c.args.most c.in-Ok-find.found tells
-    (c.in-Ok-find.ensures.least _ _)
+    (c.in-Ok-find.ensures.least _ _) (c.in-Ok-find.ensures.comes _ _)
 
 pub returns-in-Ok-find-clause-device : goal.returns-in-Ok-find-clause-device
 returns-in-Ok-find-clause-device g c = after_more c.open.ensures.device c.find.ensures.leaves.served

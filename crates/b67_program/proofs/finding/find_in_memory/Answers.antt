@@ -6,7 +6,7 @@ use Rattle.b67_program.proofs.finding.find_in_memory.Goals as goal
 
 pub returns-in-Ok-find_in_deck : goal.returns-in-Ok-find_in_deck
 returns-in-Ok-find_in_deck c =
-    in_text free_told c.in-Ok.deck c.find_in_deck.new.deck c.args.text.now c.args.what c.args.places.now c.args.from c.args.most c.in-Ok-find_in_deck.found (ap (λ (xs : List ℕ). Some xs) c.in-Ok.ensures)
+    in_text free_told c.in-Ok.deck c.find_in_deck.new.deck c.args.text.now c.args.core c.args.what c.args.places.now c.args.from c.args.most c.in-Ok-find_in_deck.found (ap (λ (xs : List ℕ). Some xs) c.in-Ok.ensures)
     (c.in-Ok-find_in_deck.ensures.least (λ e. none-some _ (sym e)))
 
 pub returns : goal.returns
