@@ -21,6 +21,7 @@ fn stepped(
     requires low { 1 ≤ length sectors.old }
     requires high { length sectors.old < 2 ^ 20 }
     ensures stepped { IfOk result (λ status. IsStepInMemory image.now most sectors.old sectors.new (length lines.old) (take printed.new lines.new) status) }
+    ensures inside { IfOk result (λ status. printed.new ≤ length lines.new) }
     ensures kept { OnErr result ((sectors.new ≡ sectors.old) × (printed.new ≡ printed.old)) }
 {
     let mut source = tape_of(alloc, image)?;
@@ -48,7 +49,8 @@ pub fn step_in_memory(
     lines: &mut [u8],
     printed: &mut usize,
 ) -> u8
-    ensures { IsSteppedInMemory image.now most sectors.old sectors.new (length lines.old) (take printed.new lines.new) result }
+    ensures steps { IsSteppedInMemory image.now most sectors.old sectors.new (length lines.old) (take printed.new lines.new) result }
+    ensures inside { printed.new ≤ length lines.new }
 {
     *printed = 0;
     if sectors.is_empty() || sectors.len() > MOST_SECTORS as usize {
