@@ -8,6 +8,7 @@ use Rattle.b67_session.specs.declared.slices.Progress.TheVariants as progress
 use Rattle.b67_image.specs.Meaning.{IsImageRead}
 use Rattle.b67_image.specs.declared.fault.ImageFault.{ImageFault}
 use Rattle.b67_job.specs.Device.{Device, DeviceUnchanged}
+use Rattle.b67_job.specs.Passed.{AreTyped, parts_of}
 use Rattle.b67_job.specs.Due.{ImageRefusalEnds}
 use Rattle.b67_job.specs.Going.{HasGoneOn}
 use Rattle.b67_job.specs.Lines.{halted_text}
@@ -36,9 +37,10 @@ pub data StepsTo {K B : Type 0} (most : ℕ) (taken : K → Option (List ℕ)) (
   end_before : steps ≤ most → StepsEnd taken faults d core steps r closings.Image k old new answer → StepsTo most taken faults old new answer d core steps r k
   come_there : PrintsImageThere taken faults d most steps r k old new answer → StepsTo most taken faults old new answer d core steps r k
 
--- the source gave an image to its end, with as many sectors as the device has, and its machine made such steps; or no image was read
+-- the source gave an image to its end, with as many sectors as the device has, and its machine made such steps; each number of the
+-- machine is within its type then, so it is known by its image. Or no image was read
 pub data StepsFromImage {S B K : Type 0} (most : ℕ) (left : S → Option (List ℕ)) (source_faults : S → ℕ) (deck deck' : S) (d : Device B) (taken : K → Option (List ℕ)) (faults : K → ℕ) (old new : K) (answer : ℕ) : Type 0 where
-  is_stepped : (image k : Machine) → IsImageRead left source_faults deck deck' (Some d.sectors) (Ok image) → HasGoneOn d (StepsTo most taken faults old new answer) image k
+  is_stepped : (image k : Machine) → IsImageRead left source_faults deck deck' (Some d.sectors) (Ok image) → HasGoneOn d (StepsTo most taken faults old new answer) image k → AreTyped (parts_of k)
       → StepsFromImage most left source_faults deck deck' d taken faults old new answer
   isnt_read : (fault : ImageFault) → IsImageRead left source_faults deck deck' (Some d.sectors) (Err fault) → DeviceUnchanged d → ImageRefusalEnds fault taken faults old new answer
       → StepsFromImage most left source_faults deck deck' d taken faults old new answer

@@ -8,13 +8,14 @@ ghost use Rattle.b67_task_tables.specs.Tables.{AreCountable};
 ghost use Rattle.b67_task_tables.specs.declared.tables.Machine as machine;
 ghost use Rattle.b67_job.specs.Device.{device_of};
 ghost use Rattle.b67_job.specs.Going.{HasGoneOn};
+ghost use Rattle.b67_job.specs.Passed.{AreTyped, parts_of};
 ghost use Rattle.b67_job.specs.Stepping.{halted_there, StepsTo, StepsFromImage};
 
 use crate::runs::finish;
 use crate::summaries::Closing;
 use crate::top::refuse_image;
 use b67_backing::Backing;
-use b67_image::read_image;
+use b67_image::{machine_is_typed, read_image};
 use b67_io::{Sink, Source};
 use b67_session::{Progress, Stop, slice};
 use b67_task_tables::Machine;
@@ -39,11 +40,12 @@ fn step_on<K: Sink, B: Backing>(image: Machine, most: u64, printer: &mut K, back
     requires sized { B.size backing.old + 1 ≡ length image.sectors.links }
     requires unhalted { image.tasks.halt ≡ None }
     requires unprinted { image.tasks.printed ≡ 0 }
-    ensures gone { (k : machine.Machine) × HasGoneOn (device_of B.holds B.size B.faults backing.old backing.new) (StepsTo most K.taken K.faults printer.old printer.new result) image k }
+    ensures gone { (k : machine.Machine) × HasGoneOn (device_of B.holds B.size B.faults backing.old backing.new) (StepsTo most K.taken K.faults printer.old printer.new result) image k × AreTyped (parts_of k) }
     ensures device { DeviceAfterCalls B.holds B.size B.calls B.faults backing.old backing.new }
 {
     let mut left = image;
     let answered = slice(&mut left, most, backing, printer);
+    machine_is_typed(&left);
     finish(halted_there(answered), Closing::Image, &left, printer)
 }
 

@@ -25,7 +25,7 @@ returns-in-Ok-clause-steps g c =
     let gone = c.step_on.ensures.gone in
     is_stepped c.in-Ok.machine gone.0
     (subst (λ (n : ℕ). IsImageRead g.S.Source.left g.S.Source.faults c.args.image.now c.read_image.new.source (Some n) (Ok c.in-Ok.machine)) c.sectors.ensures.value c.in-Ok.ensures.answer)
-    gone.1
+    gone.1 gone.2
 
 pub returns-in-Ok-clause-device : goal.returns-in-Ok-clause-device
 returns-in-Ok-clause-device g c = c.step_on.ensures.device
