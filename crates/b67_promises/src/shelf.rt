@@ -1,21 +1,12 @@
 //! One file of 64 sectors in memory, whatever the path: devices of which it is told what their files hold. The premises of the theorems
 //! on the program's call are met here, over a tape and a paper in memory.
 
-ghost use Rattle.std.specs.Prelude.{◌≡◌, ◌≤◌, ℕ, List, [], ◌∷◌, Some, None, codes, length};
-ghost use Rattle.std.specs.Process.{exit_status};
-ghost use Rattle.b67_io.specs.Told.{Took};
-ghost use Rattle.b67_io.specs.Free.{free_left};
-ghost use Rattle.b67_io.specs.Paper.{paper_told};
-ghost use Rattle.b67_model_text.specs.Deck.{limit};
-ghost use Rattle.b67_promises.specs.Described.{IsRunCommand, IsAnsweredSo};
+ghost use Rattle.std.specs.Prelude.{◌≡◌, List, [], ◌∷◌, ℕ, Some, None, codes, length};
 
-use crate::described::serve_described;
 use b67_backing::Backing;
-use b67_io::{FreeTape, Paper};
 use b67_program::{Devices, Words};
 use b67_word::Failed;
 use std::alloc::{AllocError, Global};
-use std::process::ExitCode;
 
 /// The sectors of the file, while they are used.
 #[derive(Drop)]
@@ -96,18 +87,4 @@ impl Words for Shelf {
         words.push(String::from_str(alloc, "check")?)?;
         Ok(words)
     }
-}
-
-/// Serves a deck on a shelf. With no premise on a device left: what is printed, and the status, are what the model's machine gives.
-pub fn serve_on_shelf(
-    alloc: Global,
-    words: &[&str],
-    shelf: &mut Shelf,
-    input: &mut FreeTape,
-    printer: &mut Paper,
-) -> ExitCode
-    ensures { (core : ℕ) → IsRunCommand core words.now → length (free_left input.old) ≤ limit
-        → (text : List ℕ) × Took paper_told printer.old printer.new text × IsAnsweredSo None core 64 (free_left input.old) (exit_status result) text }
-{
-    serve_described(alloc, words, shelf, input, printer)
 }
