@@ -1,0 +1,8 @@
+use Rattle.std.proofs.Common.{◌≡◌, ◌≤◌, ◌+◌, ◌-◌, ◌++◌, length}
+use Rattle.b67_recorded.proofs.source.RecordedSource.take_in.Given as goal
+
+abbrev pub invariant-read : goal.invariant-read
+invariant-read g l = (l.self.given.bytes ≡ l.fn.self.given.bytes ++ l.bytes) × (l.self.faults ≡ l.fn.self.faults) × (length l.bytes ≤ l.limit + 1)
+
+abbrev pub decreases-read : goal.decreases-read
+decreases-read g l = l.limit + 1 - length l.bytes

@@ -1,0 +1,35 @@
+-- What the ends of the program tell.
+use Rattle.std.specs.Prelude.{ℕ, List, Option, Some}
+use Rattle.b67_backing.specs.declared.device.Backing.{Ghosts}
+use Rattle.b67_recorded.specs.Mirror.{mirrored, kept_by}
+use Rattle.b67_recorded.specs.declared.mirror.Mirrored.{Mirrored}
+use Rattle.b67_recorded.specs.declared.files.RecordedFiles.{RecordedFiles}
+use Rattle.b67_recorded.specs.declared.sink.RecordedSink.{RecordedSink}
+
+-- the sectors of a mirrored device
+abbrev pub mirror_sectors : {F : Type 0} {g : Ghosts F} → Mirrored F g → List (List ℕ)
+mirror_sectors {g = g} m = mirrored (g.size m.inner) m.held.items
+
+abbrev pub mirror_told : {F : Type 0} {g : Ghosts F} → Mirrored F g → Option (List (List ℕ))
+mirror_told m = Some (mirror_sectors m)
+
+abbrev pub mirror_size : {F : Type 0} {g : Ghosts F} → Mirrored F g → ℕ
+mirror_size {g = g} m = g.size m.inner
+
+abbrev pub mirror_faults : {F : Type 0} {g : Ghosts F} → Mirrored F g → ℕ
+mirror_faults m = m.faults
+
+-- the paths that were opened
+abbrev pub files_opened : {D F : Type 0} {g : Ghosts F} → RecordedFiles D F g → Option (List (List ℕ))
+files_opened p = Some p.opened.texts
+
+-- what the file holds that was closed, whatever the path
+abbrev pub files_kept : {D F : Type 0} {g : Ghosts F} → RecordedFiles D F g → List ℕ → Option (List (List ℕ))
+files_kept p path = kept_by mirror_sectors p.file
+
+-- the bytes that a printer's writer took
+abbrev pub sink_told : {W : Type 0} → RecordedSink W → Option (List ℕ)
+sink_told s = Some s.noted.bytes
+
+abbrev pub sink_faults : {W : Type 0} → RecordedSink W → ℕ
+sink_faults s = s.faults

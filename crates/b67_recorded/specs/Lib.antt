@@ -1,0 +1,5 @@
+pub mod Taken
+pub mod Given
+pub mod Mirror
+pub mod Ends
+pub mod Recorded

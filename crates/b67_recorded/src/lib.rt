@@ -1,0 +1,25 @@
+//! The ends of the program, which tell their content whatever is behind them: an input and a printer that record the bytes that went
+//! through them, a file that is compared with a copy of its sectors in memory, and a process that records its words and the paths
+//! that it opened. It promises of the program's call over any reader, any writer and any files what `serve` promises over devices
+//! that tell.
+//!
+//! For the program `b67`, by `program` of `b67_promises`. Records are for proofs alone: they take no memory and no time.
+//!
+//! Begin with `serve_recorded`: `served`; then `Mirrored`.
+#![tactic(auto)]
+
+mod files;
+mod mirror;
+mod process;
+mod record;
+mod serving;
+mod sink;
+mod source;
+
+pub use files::RecordedFiles;
+pub use mirror::Mirrored;
+pub use process::RecordedProcess;
+pub use record::{Record, Texts};
+pub use serving::serve_recorded;
+pub use sink::RecordedSink;
+pub use source::RecordedSource;

@@ -1,0 +1,119 @@
+//! A device, and a copy of what its sectors hold.
+
+ghost use Rattle.std.specs.Prelude.{◌≡◌, ◌≤◌, [], ◌∷◌, length, Some, IsTrue};
+ghost use Rattle.b67_backing.specs.Held.{SameBut, Sets, sector};
+ghost use Rattle.b67_recorded.specs.Mirror.{mirrored};
+
+use b67_backing::Backing;
+use b67_word::Failed;
+
+/// What a sector holds that was never written.
+const BLANK: [u64; 30] = [0; 30];
+
+/// A device of sectors, and a copy of them in memory, up to the last one that was written: those behind it are taken to hold zeros. A read that gives
+/// anything else than the copy has is a failure, and is counted. So it tells what its sectors hold, whatever the device gives back.
+#[derive(Drop)]
+pub struct Mirrored<B: Backing + Drop> {
+    inner: B,
+    held: Vec<[u64; 30]>,
+    calls: u64,
+    faults: u64,
+    ghost within: { length held.items ≤ B.size inner },
+}
+
+impl<B: Backing + Drop> Mirrored<B> {
+    /// Over a device whose sectors aren't read before they are written. The room is for the copy, and what it holds is dropped.
+    pub fn over(inner: B, room: Vec<[u64; 30]>) -> Self
+        ensures device { result.inner ≡ inner }
+        ensures calls { result.calls ≡ 0 }
+        ensures faults { result.faults ≡ 0 }
+    {
+        let mut held = room;
+        held.clear();
+        Mirrored {
+            inner,
+            held,
+            calls: 0,
+            faults: 0,
+        }
+    }
+
+    /// Copies what the device's sectors hold, up to the first that isn't read, or for which memory is refused.
+    pub fn copy_all(&mut self)
+        ensures size { B.size self.new.inner ≡ B.size self.old.inner }
+        ensures calls { self.new.calls ≡ self.old.calls }
+        ensures faults { self.new.faults ≡ self.old.faults }
+    {
+        self.held.clear();
+        let mut sector = BLANK;
+        'copy: for k in 0..self.inner.sectors() {
+            if self.inner.read(k + 1, &mut sector).is_err() || self.held.push(sector).is_err() {
+                return;
+            }
+        }
+    }
+
+    /// What sector n holds.
+    fn known(&self, n: u32) -> [u64; 30]
+        requires low { 1 ≤ n }
+        requires high { n ≤ B.size self.now.inner }
+        ensures { sector (mirrored (B.size self.now.inner) self.now.held.items) n ≡ Some result }
+    {
+        if n as usize <= self.held.len() {
+            return self.held[n as usize - 1];
+        }
+        BLANK
+    }
+
+    /// Changes the copy of sector n, and says whether there was memory for it.
+    fn keep(&mut self, n: u32, from: &[u64; 30]) -> bool
+        requires low { 1 ≤ n }
+        requires high { n ≤ B.size self.old.inner }
+        ensures sets { IsTrue result → Sets n from.now (mirrored (B.size self.old.inner) self.old.held.items) (mirrored (B.size self.new.inner) self.new.held.items) }
+        ensures others { SameBut (n ∷ []) (mirrored (B.size self.old.inner) self.old.held.items) (mirrored (B.size self.new.inner) self.new.held.items) }
+        ensures device { self.new.inner ≡ self.old.inner }
+        ensures counts { (self.new.calls ≡ self.old.calls) × (self.new.faults ≡ self.old.faults) }
+    {
+        if n as usize > self.held.len() && self.held.resize(n as usize, BLANK).is_err() {
+            return false;
+        }
+        self.held[n as usize - 1] = *from;
+        true
+    }
+}
+
+impl<B: Backing + Drop> Backing for Mirrored<B> {
+    ghost holds = { λ m. Some (mirrored (B.size m.inner) m.held.items) };
+
+    ghost size = { λ m. B.size m.inner };
+
+    ghost faults = { λ m. m.faults };
+
+    ghost calls = { λ m. m.calls };
+
+    fn sectors(&self) -> u32 {
+        self.inner.sectors()
+    }
+
+    fn read(&mut self, n: u32, into: &mut [u64; 30]) -> Result<(), Failed> {
+        self.calls = self.calls.saturating_add(1);
+        let known = self.known(n);
+        if self.inner.read(n, into).is_ok() && *into == known {
+            *into = known;
+            return Ok(());
+        }
+        self.faults = self.faults.saturating_add(1);
+        Err(Failed)
+    }
+
+    fn write(&mut self, n: u32, from: &[u64; 30]) -> Result<(), Failed> {
+        self.calls = self.calls.saturating_add(1);
+        let written = self.inner.write(n, from).is_ok();
+        let kept = self.keep(n, from);
+        if written && kept {
+            return Ok(());
+        }
+        self.faults = self.faults.saturating_add(1);
+        Err(Failed)
+    }
+}
