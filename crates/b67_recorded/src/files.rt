@@ -21,7 +21,7 @@ pub struct RecordedFiles<D: Devices + Drop> {
     room: Vec<[u64; 30]>,
     copies: bool,
     file: Option<Mirrored<D::File>>,
-    pub opened: Texts,
+    opened: Texts,
 }
 
 impl<D: Devices + Drop> RecordedFiles<D> {

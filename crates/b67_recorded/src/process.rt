@@ -10,8 +10,8 @@ use std::alloc::Global;
 /// What a program has its words and its files from, and what it had.
 #[derive(Drop)]
 pub struct RecordedProcess<D: Devices + Drop> {
-    pub words: Texts,
-    pub files: RecordedFiles<D>,
+    pub(crate) words: Texts,
+    pub(crate) files: RecordedFiles<D>,
 }
 
 impl<D: Devices + Drop> RecordedProcess<D> {

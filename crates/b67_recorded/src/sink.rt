@@ -12,7 +12,7 @@ use std::io::Write;
 pub struct RecordedSink<W: Write> {
     inner: W,
     faults: u64,
-    pub noted: Record,
+    noted: Record,
 }
 
 impl<W: Write> RecordedSink<W> {

@@ -21,7 +21,7 @@ pub struct RecordedSource<R: Read> {
     inner: R,
     faults: u64,
     ended: bool,
-    pub given: Record,
+    given: Record,
 }
 
 impl<R: Read> RecordedSource<R> {
