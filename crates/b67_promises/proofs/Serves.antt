@@ -1,5 +1,5 @@
 -- What a call of the program prints, as the run of its deck has it.
-use Rattle.std.proofs.Common.{◌≡◌, ◌≢◌, ◌≤◌, ◌+◌, inl, inr, ℕ, List, [], ◌++◌, length, append-nil, refl, sym, ap, subst, ◌∙◌, arith, Option, Some, None, Ok}
+use Rattle.std.proofs.Common.{◌≡◌, ◌≢◌, ◌≤◌, ◌+◌, inl, inr, ℕ, List, [], ◌∷◌, ◌++◌, length, append-nil, refl, sym, ap, subst, ◌∙◌, arith, Option, Some, None, Ok}
 use Rattle.std.proofs.lemmas.List.{length-append}
 use Rattle.std.proofs.lemmas.Option.{none-some}
 use Rattle.std.proofs.lemmas.Bool.{false≢true}
@@ -35,17 +35,22 @@ pub named_tells : {R B : Type 0} (kept : R → List ℕ → Option (List (List �
     → (path : List ℕ) (file : B) → named ≡ Some path → Finds kept holds now path file → holds file ≢ None
 named_tells kept holds now named known path file e f = found_tells kept holds now path file (subst (FileIsTold kept now) e known) f
 
-answers_so : {K : Type 0} (taken : K → Option (List ℕ)) (faults : K → ℕ) (old new : K) (status : ℕ) (text : List ℕ) (answer : ℕ) → EndsPrinting taken faults old new status text answer → PrintsAndAnswers taken faults old new status (only text) answer
+pub answers_so : {K : Type 0} (taken : K → Option (List ℕ)) (faults : K → ℕ) (old new : K) (status : ℕ) (text : List ℕ) (answer : ℕ) → EndsPrinting taken faults old new status text answer → PrintsAndAnswers taken faults old new status (only text) answer
 answers_so taken faults old new status text answer (all_printed a took) = all_taken a took
 answers_so taken faults old new status text answer (cut_off a rose part) = cut_short part.count a rose (record { proper = part.proper; took = part.first })
 
--- a text no longer than what may be read was read to its end
-pub taken_whole : {S : Type 0} (left : S → Option (List ℕ)) (faults : S → ℕ) (input input' : S) (most : ℕ) (bytes : List ℕ) → left input ≡ Some bytes → length bytes ≤ most
+-- a text that is one byte longer than what may be read, or less, was read to its end
+pub taken_whole : {S : Type 0} (left : S → Option (List ℕ)) (faults : S → ℕ) (input input' : S) (most : ℕ) (bytes : List ℕ) → left input ≡ Some bytes → length bytes ≤ most + 1
     → (read : List ℕ) → IsTakenIn (Some most) left faults input input' (Ok read) → bytes ≡ read
-taken_whole left faults input input' most bytes told few read t = grind (arith, length-append, append-nil)
+taken_whole left faults input input' most bytes told few read t =
+    let g = t.gave.told bytes told in by_rest g.0 g.1 (λ short. (t.all short).told g.0 g.2)
+  where
+    by_rest : (rest : List ℕ) → bytes ≡ read ++ rest → (length read ≤ most → rest ≡ []) → bytes ≡ read
+    by_rest [] is none = is ∙ append-nil read
+    by_rest (x ∷ rest) is none = absurd (omega (arith, ap length (none (omega (arith, few, ap length is, length-append read (x ∷ rest))))))
 
 module _ {S K : Type 0} (words : List (Bor (List ℕ))) (w : AsksForRun words) (left : S → Option (List ℕ)) (source_faults : S → ℕ) (input input' : S) (taken : K → Option (List ℕ)) (faults : K → ℕ) (old new : K) (answer : ℕ)
-    (bytes : List ℕ) (told : left input ≡ Some bytes) (few : length bytes ≤ limit) where
+    (bytes : List ℕ) (told : left input ≡ Some bytes) (few : length bytes ≤ limit + 1) where
   abbrev So : Type 0
   So = Prints_so taken faults old new (judgement bytes) None answer
 

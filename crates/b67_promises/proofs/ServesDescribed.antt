@@ -1,12 +1,12 @@
 -- What a call of the program prints and answers, as the machine of the model has it.
-use Rattle.std.proofs.Common.{◌≡◌, ◌≢◌, ◌≤◌, ℕ, List, [], length, take, refl, sym, ap, subst, ◌∙◌, Option, Some, None, Ok}
+use Rattle.std.proofs.Common.{◌≡◌, ◌≢◌, ◌≤◌, ◌+◌, ℕ, List, [], length, take, refl, sym, ap, subst, ◌∙◌, Option, Some, None, Ok}
 use Rattle.std.proofs.lemmas.Option.{same_Some, none-some}
 use denote.Ref.{Bor}
 use Rattle.b67_io.specs.Told.{Took}
 use Rattle.b67_io.specs.Free.{free_told, free_faults}
 use Rattle.b67_model_text.specs.Deck.{limit}
 use Rattle.b67_session_lines.specs.Ends.{EndsPrinting, all_printed, cut_off}
-use Rattle.b67_job.specs.Command.{command_line_of}
+use Rattle.b67_job.specs.Command.{command_line_of, backing_path}
 use Rattle.b67_job.specs.Device.{Device, DeviceTells, device_of}
 use Rattle.b67_job.specs.Due.{reading_text}
 use Rattle.b67_job.specs.Judgement.{text_limit}
@@ -18,10 +18,11 @@ use Rattle.b67_promises.specs.Described as described
 use Rattle.b67_promises.specs.Described.{IsRunCommand, IsAnsweredSo, IsDueOf, PrintsOverFile}
 use Rattle.b67_promises.proofs.CallsDescribed.{run_asks, call_is, longer}
 use Rattle.b67_promises.proofs.RunWords.{run_command, run_path, first_is_run}
-use Rattle.b67_promises.proofs.Serves.{all_read, found_tells}
+use Rattle.b67_promises.specs.Paging.{FileIsTold}
+use Rattle.b67_promises.proofs.Serves.{all_read, named_tells}
 
 module _ {S K : Type 0} (words : List (Bor (List ℕ))) (core : ℕ) (w : IsRunCommand core words) (left : S → Option (List ℕ)) (source_faults : S → ℕ) (input input' : S) (taken : K → Option (List ℕ)) (faults : K → ℕ) (old new : K) (answer : ℕ)
-    (bytes : List ℕ) (told : left input ≡ Some bytes) (few : length bytes ≤ limit) where
+    (bytes : List ℕ) (told : left input ≡ Some bytes) (few : length bytes ≤ limit + 1) where
   abbrev So : ℕ → Type 0
   So n = (text : List ℕ) × Took taken old new text × IsAnsweredSo None core n bytes answer text
 
@@ -42,12 +43,19 @@ module _ {S K : Type 0} (words : List (Bor (List ℕ))) (core : ℕ) (w : IsRunC
   by_answer d tells (reading_failed reads rose kept ends) = lone_due d.sectors 7 reading_text (described.source_fails refl refl) ends
   by_answer d tells (text_wants_memory reads kept ends) = lone_due d.sectors 9 memory_text (described.memory_is_refused refl refl) ends
 
+  -- over files that tell what their sectors hold
+  pub serve_told : {B : Type 0} (holds : B → Option (List (List ℕ))) (size broken : B → ℕ) (finds leaves : List ℕ → B → Type 0) → ((path : List ℕ) (file : B) → backing_path words ≡ Some path → finds path file → holds file ≢ None)
+      → IsServed words left source_faults input input' finds leaves (device_of holds size broken) taken faults old new answer
+      → (file : B) × finds w.path file × So (size file)
+  serve_told holds size broken finds leaves tells (over_file path file file' is found left_so a) =
+      (file, subst (λ (q : List ℕ). finds q file) (same_Some path w.path (sym is ∙ run_path core words w)) found, by_answer (device_of holds size broken file file') (tells path file is found) a)
+  serve_told holds size broken finds leaves tells (over_memory held held' none zeros reads writes calm a) = absurd (none-some w.path (sym none ∙ run_path core words w))
+  serve_told holds size broken finds leaves tells (sectors_want_memory none ends) = absurd (none-some w.path (sym none ∙ run_path core words w))
+
   pub serve_is : {R B : Type 0} (kept : R → List ℕ → Option (List (List ℕ))) (holds : B → Option (List (List ℕ))) (size broken : B → ℕ) (now : R) (leaves : List ℕ → B → Type 0) → kept now w.path ≢ None
       → IsServed words left source_faults input input' (Finds kept holds now) leaves (device_of holds size broken) taken faults old new answer
       → PrintsOverFile kept holds size now w.path core bytes taken old new answer
-  serve_is kept holds size broken now leaves known (over_file path file file' is found left_so a) =
-      let found' = subst (λ (q : List ℕ). Finds kept holds now q file) (same_Some path w.path (sym is ∙ run_path core words w)) found in
-      let printed = by_answer (device_of holds size broken file file') (found_tells kept holds now w.path file known found') a in
-      record { file = file; found = found'; text = printed.0; printed = printed.1; so = printed.2 }
-  serve_is kept holds size broken now leaves known (over_memory held held' none zeros reads writes calm a) = absurd (none-some w.path (sym none ∙ run_path core words w))
-  serve_is kept holds size broken now leaves known (sectors_want_memory none ends) = absurd (none-some w.path (sym none ∙ run_path core words w))
+  serve_is kept holds size broken now leaves known served =
+      let tells = named_tells kept holds now (backing_path words) (subst (FileIsTold kept now) (sym (run_path core words w)) known) in
+      let x = serve_told holds size broken (Finds kept holds now) leaves tells served in
+      record { file = x.0; found = x.1; text = x.2.0; printed = x.2.1; so = x.2.2 }

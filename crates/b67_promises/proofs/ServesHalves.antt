@@ -85,7 +85,7 @@ module _ {S B K : Type 0} (words : List (Bor (List ℕ))) (left : S → Option (
   given_whole : (most : ℕ) → text_limit (command_line_of words) ≡ Some most → (text : List ℕ) → left input ≡ Some text → length text ≤ most → free_told r.deck ≡ Some text
   given_whole most limited text told few =
       let read = subst (λ (o : Option ℕ). IsTakenIn o left source_faults input input' (Ok r.bytes)) limited r.given in
-      ap Some (r.holds ∙ sym (taken_whole left source_faults input input' most text told few r.bytes read))
+      ap Some (r.holds ∙ sym (taken_whole left source_faults input input' most text told (omega (arith, few)) r.bytes read))
 
   pub image_given : AsksForImage words → (text : List ℕ) → left input ≡ Some text → length text ≤ deck.limit → free_told r.deck ≡ Some text
   image_given w text told few =

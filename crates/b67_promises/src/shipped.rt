@@ -1,0 +1,85 @@
+//! The program that people run: what it prints, with no premise on a device.
+
+ghost use Rattle.std.specs.Prelude.{◌≡◌, ◌++◌, ℕ, List, None};
+ghost use Rattle.std.specs.Process.{exit_status};
+ghost use denote.Ref.{Bor};
+ghost use Rattle.b67_recorded.specs.Recorded.{IsRecordServed};
+ghost use Rattle.b67_promises.specs.Described.{IsRunCommand};
+ghost use Rattle.b67_promises.specs.Paging.{texts, AsksForRun};
+ghost use Rattle.b67_promises.specs.Shipped.{FilesHave, PrintsAsDescribed, TookTheSame};
+
+use b67_program::{Devices, Words};
+use b67_recorded::{RecordedProcess, RecordedSink, RecordedSource, serve_recorded};
+use std::alloc::Global;
+use std::io::{Read, Stdin, Stdout, Write};
+use std::process::ExitCode;
+
+/// The program's one call, over any reader, any writer and any files. Whatever they do: what the writer took, and what the call is to
+/// end with, are what the model's machine gives for the bytes that the reader gave.
+pub fn program_described<D: Words + Devices + Drop, R: Read, W: Write>(
+    alloc: Global,
+    process: &mut RecordedProcess<D>,
+    input: &mut RecordedSource<R>,
+    printer: &mut RecordedSink<W>,
+) -> ExitCode
+    // Of words that are a run command: those that the process gave.
+    ensures described { (core sectors : ℕ) → (words : List (Bor (List ℕ))) → (w : IsRunCommand core words) → process.new.words.texts ≡ process.old.words.texts ++ texts words
+        → FilesHave process.old.files sectors
+        → PrintsAsDescribed core sectors w.path process.old.files process.new.files input.old input.new printer.old printer.new (exit_status result) }
+
+    // The answer is that of a call of `serve_recorded`.
+    ensures call { IsRecordServed D.given process.old.words.texts process.new.words.texts process.old.files process.new.files input.old input.new printer.old printer.new (exit_status result) }
+{
+    serve_recorded(alloc, process, input, printer)
+}
+
+/// The one call of the program `b67`, over standard input, standard output and the files of the system. No premise on a device is left.
+pub fn program(
+    alloc: Global,
+    process: &mut RecordedProcess<HostRuntime>,
+    input: &mut RecordedSource<Stdin>,
+    printer: &mut RecordedSink<Stdout>,
+) -> ExitCode
+    ensures described { (core : ℕ) → (words : List (Bor (List ℕ))) → (w : IsRunCommand core words) → process.new.words.texts ≡ process.old.words.texts ++ texts words
+        → PrintsAsDescribed core 65536 w.path process.old.files process.new.files input.old input.new printer.old printer.new (exit_status result) }
+
+    // The answer is that of a call of `serve_recorded`.
+    ensures call { IsRecordServed (λ _. None) process.old.words.texts process.new.words.texts process.old.files process.new.files input.old input.new printer.old printer.new (exit_status result) }
+{
+    program_described(alloc, process, input, printer)
+}
+
+/// Two of the program's calls, over readers, writers and files of their own. Of one text, whatever the cores, the files and
+/// what they give back: what the writers took is the same, if both end with 0 or 3.
+pub fn program_twice<
+    D: Words + Devices + Drop,
+    R: Read,
+    W: Write,
+    E: Words + Devices + Drop,
+    S: Read,
+    X: Write,
+>(
+    alloc: Global,
+    process: &mut RecordedProcess<D>,
+    input: &mut RecordedSource<R>,
+    printer: &mut RecordedSink<W>,
+    other_process: &mut RecordedProcess<E>,
+    other_input: &mut RecordedSource<S>,
+    other_printer: &mut RecordedSink<X>,
+) -> (ExitCode, ExitCode)
+    // Of words that ask for `run`, and readers that gave one text.
+    ensures same { (words other_words : List (Bor (List ℕ))) → (text : List ℕ) → AsksForRun words → AsksForRun other_words
+        → process.new.words.texts ≡ process.old.words.texts ++ texts words → other_process.new.words.texts ≡ other_process.old.words.texts ++ texts other_words
+        → input.new.given.bytes ≡ input.old.given.bytes ++ text → other_input.new.given.bytes ≡ other_input.old.given.bytes ++ text
+        → TookTheSame printer.old printer.new (exit_status result.0) other_printer.old other_printer.new (exit_status result.1) }
+
+    // The first answer is that of a call of `serve_recorded` on the first process, input and printer.
+    ensures call { IsRecordServed D.given process.old.words.texts process.new.words.texts process.old.files process.new.files input.old input.new printer.old printer.new (exit_status result.0) }
+
+    // The second answer is that of a call on the others.
+    ensures other_call { IsRecordServed E.given other_process.old.words.texts other_process.new.words.texts other_process.old.files other_process.new.files other_input.old other_input.new other_printer.old other_printer.new (exit_status result.1) }
+{
+    let one = serve_recorded(alloc, process, input, printer);
+    let other = serve_recorded(alloc, other_process, other_input, other_printer);
+    (one, other)
+}
