@@ -1,18 +1,19 @@
 //! The program: it reads a deck from standard input, prints to standard output and pages to the file of its words. It promises
-//! nothing of its own: all of it is one call of `serve_process`, whose contract is in `b67_program`.
+//! nothing of its own: all of it is one call of `program`, whose contract is in `b67_promises`.
 //!
 //! For whoever is at the shell; the manual page `docs/b67.1` says its words and statuses.
 //!
 //! Begin with `main`.
 #![tactic(auto)]
 
-use b67_io::{StdSink, StdSource};
-use b67_program::serve_process;
+use b67_promises::program;
+use b67_recorded::{RecordedProcess, RecordedSink, RecordedSource};
 use std::process::ExitCode;
 
-fn main(mut rt: HostRuntime) -> ExitCode {
+fn main(rt: HostRuntime) -> ExitCode {
     let alloc = rt.alloc();
-    let mut input = StdSource::new(rt.stdin());
-    let mut printer = StdSink::new(rt.stdout());
-    serve_process(alloc, &mut rt, &mut input, &mut printer)
+    let mut input = RecordedSource::new(rt.stdin());
+    let mut printer = RecordedSink::new(rt.stdout());
+    let mut process = RecordedProcess::new(alloc, rt);
+    program(alloc, &mut process, &mut input, &mut printer)
 }
