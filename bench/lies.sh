@@ -1,7 +1,8 @@
 #!/bin/sh
 # Runs decks over a device that gives back other words than were written: `sh bench/lies.sh PROGRAM [SEEDS]`, where PROGRAM is
 # a built b67, and each random lie is told so many times (1000 if it isn't given). For each deck and lie it prints how many
-# runs ended with which status. A run that ends otherwise, or not within 20 seconds, is printed and gives status 1. It wants gcc.
+# runs ended with which status: 0 with the lines of the run without a lie, or 6, BACKING FAULT. A run that ends otherwise, with
+# other lines, or not within 20 seconds, is printed and gives status 1. It wants gcc.
 set -eu
 usage() {
     echo "$1" >&2
@@ -47,7 +48,15 @@ run() {
     status=0
     LIE=$3 SEED=$4 LD_PRELOAD=$room/lie.so timeout 20 "$program" run --core "$2" --backing "$room/b" <"$room/$1" >"$room/lines" || status=$?
     case $status in
-    0 | 4 | 5) echo "status $status" ;;
+    0)
+        [ "$3" != none ] || cp "$room/lines" "$room/honest-$1"
+        if cmp -s "$room/lines" "$room/honest-$1"; then
+            echo "status 0, the same lines"
+        else
+            echo "status 0, other lines, seed $4" | tee -a "$room/failed"
+        fi
+        ;;
+    6) echo "status 6" ;;
     *) echo "status $status, seed $4" | tee -a "$room/failed" ;;
     esac
 }
