@@ -19,8 +19,8 @@ use Rattle.b67_job.specs.Command.{command_line_of}
 use Rattle.b67_job.specs.declared.command.CommandLine.{CommandLine}
 use Rattle.b67_job.specs.declared.summaries.Closing.{Closing}
 use Rattle.b67_job.specs.Judgement.{Judgement, Runs, asked, closing_of, reads_text}
-use Rattle.b67_job.specs.Going.{PlainEnd, Resumed}
-use Rattle.b67_job.specs.Due.{usage_text, reading_text, ReadAll, IsRun, IsDue, usage_due, refusal_due, print_due, run_due, reading_due, memory_due, image_due, dump_due, Answered, answered, cut_in_step, goes_on, IsAllDone, Halts, IsShortOfCore, IsShortOfSectors, IsFailedBy, TextIsRefused, ImageIsRefused, IsDumpOf, IsOpenedOrResumed, IsSpared}
+use Rattle.b67_job.specs.Going.{PagedFrom, PlainEnd, Resumed}
+use Rattle.b67_job.specs.Due.{usage_text, reading_text, ReadAll, IsRun, IsDue, usage_due, refusal_due, print_due, run_due, reading_due, memory_due, image_due, dump_due, Answered, answered, cut_in_step, goes_on, IsAllDone, Halts, IsShortOfCore, IsShortOfSectors, IsFailedBy, TextIsRefused, ImageIsRefused, IsDumpOf, IsOpenedOrResumed, IsPagedRun, IsSpared}
 use Rattle.b67_job.proofs.Finished.{is_finished, is_halted}
 use Rattle.b67_job.proofs.Going.{resumed_as, some_run, no_status, done_from, core_from, sectors_from, fails_from, failed_from, rose_from, cut_from, resumed_machine}
 
@@ -455,3 +455,11 @@ module _ {S B : Type 0} {words : List (Bor (List ℕ))} {left : S → Option (Li
         by_end (answered status text due ends) = inl (due_opened k e due)
         by_end (cut_in_step core p text count run printing a rose part) = inl (core, p, run, subst (WasOpened d core p) (same_Some printing.left k (sym printing.is ∙ e)) printing.opens)
         by_end (goes_on g) = inr (resumed_machine e (resumed_as (λ f core steps s k end. tt) g))
+
+-- ---- step by step
+
+-- so it has come to the machine that is left
+pub is_paged : {S B : Type 0} {words : List (Bor (List ℕ))} {left : S → Option (List ℕ)} {source_faults : S → ℕ} {deck deck' : S} {d : Device B} {k : Machine}
+    → IsOpenedOrResumed words left source_faults deck deck' d k → IsPagedRun words left source_faults deck deck' d k
+is_paged (inl (core, p, run, opens)) = inl (core, p, run, opens.paged)
+is_paged {d = d} (inr h) = inr (h.image, h.of, subst (PagedFrom d h.image) (same_Some h.k _ (sym h.is)) h.gone.paged)

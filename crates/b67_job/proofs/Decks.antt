@@ -25,7 +25,7 @@ use Rattle.b67_job.specs.Device.{Device, device_of}
 use Rattle.b67_job.specs.Lines.{no_core_line, backing_full_line}
 use Rattle.b67_job.specs.declared.summaries.Closing.{Closing}
 use Rattle.b67_job.specs.Texts.{only}
-use Rattle.b67_job.specs.Finishing.{refused_status, refused_line, SessionRan}
+use Rattle.b67_job.specs.Finishing.{refused_status, refused_line, RanByStep, SessionRan}
 use Rattle.b67_job.specs.Runs.{run_of, memory_refused, opening_wants_core, opening_wants_sectors, opening_fails, WasOpened, unopened, opened, DeckRunEnds, run_stops, step_is_cut, StepsEnd, steps_stop, next_is_cut}
 use Rattle.b67_session.proofs.FoundLeast.{stays_ordered}
 use Rattle.b67_session.proofs.Openings.{stands_opened}
@@ -94,8 +94,9 @@ module _ {K B : Type 0} (taken : K → Option (List ℕ)) (failures : K → ℕ)
       → IsOpen (holds b'') k → Keeps k0 k
       → ((x : Option (List (List ℕ))) (s : Session) → Says x (holds b') → StandsAt x k0 s
       → SessionRan taken failures closing (content_after x (holds b'')) (x ≢ None) (Rose broken b' b'') (size b') MOST_MADE s k0 k old new answer)
+      → ((x : Option (List (List ℕ))) (s : Session) → Says x (holds b') → StandsAt x k0 s → RanByStep holds k0 k b' b'')
       → DeckRunEnds taken failures (device_of holds size broken b b'') core (d, map program_of fs) closing (Some k) old new answer
-  deck_run old new answer first_calls more_calls may_go_on keeps rans =
+  deck_run old new answer first_calls more_calls may_go_on keeps rans pages =
       let still = still_told holds b b' first_calls.tells in
       let r = subst (λ (x : Option (List (List ℕ))). SessionRan taken failures closing x (said ≢ None) (Rose broken b' b'') (size b') MOST_MADE first k0 k old new answer) (known_later (holds b) (holds b') (holds b'') still)
       (rans said first (says_retold (holds b) (holds b')) stands) in
@@ -122,6 +123,7 @@ module _ {K B : Type 0} (taken : K → Option (List ℕ)) (failures : K → ℕ)
         shaped = shaped (holds b'') k may_go_on;
         goes_on = may_go_on;
         sized = omega (arith, begun_links, links, again, same);
+        paged = record { opened = k0; device = b'; stands = stands; none_made = begun; core_size = o.2.core_size; steps = pages said first (says_retold (holds b) (holds b')) stands };
       })
       (subst (λ n. StepsEnd taken failures device core n (run_of (d, map program_of fs)) closing k old new answer) (sym made)
       (ran taken failures device core (run_of (d, map program_of fs)) closing k (said ≢ None) exact r.slices.steps r.slices.session r.slices.printed

@@ -32,7 +32,7 @@ use Rattle.b67_job.specs.Lines.{memory_text, refused_image_line}
 use Rattle.b67_job.specs.Texts.{Text, whole_of, only, TookUpTo, all_taken, cut_short}
 use Rattle.b67_job.specs.Finishing.{SessionRan}
 use Rattle.b67_job.specs.Runs.{IsDone, WantsCore, WantsSectors, IsCutOff, StopsOpened, all_end, halt_comes, step_wants_core, step_wants_sectors, step_fails, IsPrintingNext, steps_stop, next_is_cut}
-use Rattle.b67_job.specs.Going.{run_from, StepsFrom, HasGoneOn, PlainEnd, Resumed}
+use Rattle.b67_job.specs.Going.{run_from, StepsFrom, PagedFrom, HasGoneOn, PlainEnd, Resumed}
 use Rattle.b67_dump.specs.Dump.{dump_text}
 use Rattle.b67_dump.specs.Analysed.{ForEachShown}
 use Rattle.b67_dump.specs.Laws.{DumpsAreShown}
@@ -84,13 +84,14 @@ module _ {K B : Type 0} (taken : K → Option (List ℕ)) (failures : K → ℕ)
 
   pub has_gone_on : DeviceAfterCalls holds size calls broken b b' → size b + 1 ≡ length image.sectors.links → IsOpen (holds b') k
       → ((told : Option (List (List ℕ))) (s : Session) → Says told (holds b) → StandsAt told image s → Ran told s)
-      → HasGoneOn device (PlainEnd taken failures old new answer) image k
-  has_gone_on served sized may_go_on rans = record {
+      → PagedFrom device image k → HasGoneOn device (PlainEnd taken failures old new answer) image k
+  has_gone_on served sized may_go_on rans pages = record {
     keeps = keeps;
     halt = halt_kept image k keeps ∙ halt;
     shaped = shaped (holds b') k may_go_on;
     goes_on = may_go_on;
     sized = let same = served.size in let links = keeps.sectors in omega (arith, same, links, sized);
+    paged = pages;
     each = λ told s says stands. from_session told s stands (rans told s says stands);
   }
 
@@ -161,6 +162,7 @@ resumed_as f h = record {
     shaped = h.gone.shaped;
     goes_on = h.gone.goes_on;
     sized = h.gone.sized;
+    paged = h.gone.paged;
     each = λ told s says stands. let z = h.gone.each told s says stands in (z.0, z.1, f _ _ z.0 s h.k z.2);
   };
 }

@@ -17,7 +17,7 @@ use Rattle.b67_session.proofs.FoundLeast.{stays_ordered}
 use Rattle.b67_session.proofs.Shaping.{shaped}
 use Rattle.b67_job.specs.Device.{Device, DeviceTells, device_of, knowing}
 use Rattle.b67_job.specs.Finishing.{FinishesRun}
-use Rattle.b67_job.specs.Going.{run_from, StepsFrom, HasGoneOn}
+use Rattle.b67_job.specs.Going.{run_from, StepsFrom, PagedFrom, HasGoneOn}
 use Rattle.b67_job.specs.Runs.{StepsEnd}
 use Rattle.b67_job.specs.Stepping.{halted_there, PrintsImageThere, StepsTo, end_before, come_there}
 use Rattle.b67_job.specs.declared.summaries.Closing.TheVariants as closings
@@ -136,12 +136,13 @@ module _ {K B : Type 0} (taken : K → Option (List ℕ)) (failures : K → ℕ)
 
   pub has_stepped : DeviceAfterCalls holds size calls broken b b' → size b + 1 ≡ length image.sectors.links → IsOpen (holds b') k
       → ((told : Option (List (List ℕ))) (s : Session) → Says told (holds b) → StandsAt told image s → Sliced told s)
-      → HasGoneOn device (StepsTo most taken failures old new answer) image k
-  has_stepped served sized may_go_on sliced = record {
+      → PagedFrom device image k → HasGoneOn device (StepsTo most taken failures old new answer) image k
+  has_stepped served sized may_go_on sliced pages = record {
     keeps = keeps;
     halt = unhalted;
     shaped = shaped (holds b') k may_go_on;
     goes_on = may_go_on;
     sized = let same = served.size in let links = keeps.sectors in omega (arith, same, links, sized);
+    paged = pages;
     each = λ told s says stands. from_session told s stands (sliced told s says stands);
   }

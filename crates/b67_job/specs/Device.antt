@@ -3,11 +3,12 @@ use Rattle.std.specs.Prelude.{◌≡◌, ◌≢◌, ℕ, List, Option, None}
 use Rattle.b67_io.specs.Causes.{Rose, Stayed}
 use Rattle.b67_layout_storage.specs.Machine.{content_after}
 
--- the device before the run and now; what is known of its sectors before, which is what it told, and what it tells now, how many
+-- the device before the run and now, and what one tells; what is known of its sectors before, which is what it told, and what it tells now, how many
 -- sectors it had and has, and how often it had failed before and has failed now
 pub record Device (B : Type 0) : Type 0 where
   pub old : B
   pub new : B
+  pub holds : B → Option (List (List ℕ))
   pub before : Option (List (List ℕ))
   pub now : Option (List (List ℕ))
   pub sectors : ℕ
@@ -19,6 +20,7 @@ abbrev pub device_of : {B : Type 0} → (B → Option (List (List ℕ))) → (B 
 device_of holds size faults old new = record {
   old = old;
   new = new;
+  holds = holds;
   before = holds old;
   now = holds new;
   sectors = size old;

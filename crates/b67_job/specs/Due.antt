@@ -26,8 +26,8 @@ use Rattle.b67_job.specs.Lines.{no_core_line, backing_full_line, backing_fault_l
 use Rattle.b67_job.specs.declared.summaries.Closing.{Closing}
 use Rattle.b67_job.specs.declared.summaries.Closing.TheVariants as closings
 use Rattle.b67_job.specs.Texts.{Text, only, TookUpTo, PrintsAndAnswers}
-use Rattle.b67_job.specs.Runs.{run_of, IsBeforeHalt, IsDone, IsHaltedAt, WantsCore, WantsSectors, IsCutOff, RoomSuffices, WasOpened, RunStops, DeckRunEnds, IsPrintingStep}
-use Rattle.b67_job.specs.Going.{run_from, PlainEnd, Resumed}
+use Rattle.b67_job.specs.Runs.{run_of, IsBeforeHalt, IsDone, IsHaltedAt, WantsCore, WantsSectors, IsCutOff, RoomSuffices, PagedFromOpening, WasOpened, RunStops, DeckRunEnds, IsPrintingStep}
+use Rattle.b67_job.specs.Going.{run_from, PlainEnd, IsImageOf, PagedFrom, Resumed}
 use Rattle.b67_job.specs.Command.{command_line_of}
 use Rattle.b67_job.specs.declared.command.CommandLine.{CommandLine}
 use Rattle.b67_job.specs.declared.command.CommandLine.TheVariants as lines
@@ -177,6 +177,12 @@ IsSpared words left deck deck' d = DeviceUnchanged d ⊎ ((core : ℕ) × (p : P
 abbrev pub IsOpenedOrResumed : {S B : Type 0} → List (Bor (List ℕ)) → (S → Option (List ℕ)) → (S → ℕ) → S → S → Device B → Machine → Type 0
 IsOpenedOrResumed words left source_faults deck deck' d k =
     ((core : ℕ) × (p : Prepared) × IsRun words left deck deck' core p × WasOpened d core p k) ⊎ Resumed words left source_faults deck deck' d (Some k) (λ e core steps r k. Unit {0})
+
+-- it has come to that machine step by step, over core and the device
+abbrev pub IsPagedRun : {S B : Type 0} → List (Bor (List ℕ)) → (S → Option (List ℕ)) → (S → ℕ) → S → S → Device B → Machine → Type 0
+IsPagedRun words left source_faults deck deck' d k =
+    ((core : ℕ) × (p : Prepared) × IsRun words left deck deck' core p × PagedFromOpening d core p k)
+    ⊎ ((image : Machine) × IsImageOf words left source_faults deck deck' d.sectors image × PagedFrom d image k)
 
 -- ---- answers to a fault, to a text and to a deck
 

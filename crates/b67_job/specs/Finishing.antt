@@ -10,7 +10,7 @@ use Rattle.b67_session_open.specs.declared.fault.OpenFault.TheVariants as faults
 use Rattle.b67_task_tables.specs.declared.tables.Machine.{Machine}
 use Rattle.b67_session.specs.declared.slices.Progress.{Progress}
 use Rattle.b67_session.specs.declared.slices.Progress.TheVariants as progress
-use Rattle.b67_session.specs.Slices.{Slices}
+use Rattle.b67_session.specs.Slices.{Slices, PagesByStep}
 use Rattle.b67_session_lines.specs.Ends.{EndsPrinting}
 use Rattle.b67_job.specs.Lines.{no_core_line, backing_full_line, backing_fault_line, memory_line, summary, halted_text}
 use Rattle.b67_job.specs.declared.summaries.Closing.{Closing}
@@ -38,6 +38,10 @@ FinishesRun taken faults closing k (Err (stops.NoCore need core)) old new answer
 FinishesRun taken faults closing k (Err (stops.BackingFull sum sectors)) old new answer = EndsPrinting taken faults old new 5 (ended (backing_full_line sum sectors)) answer
 FinishesRun taken faults closing k (Err stops.BackingFault) old new answer = EndsPrinting taken faults old new 6 (ended backing_fault_line) answer
 FinishesRun taken faults closing k (Err stops.PrintFault) old new answer = (answer ≡ 8) × (new ≡ old)
+
+-- the steps were made one by one, over core and device, whatever they answered at last
+abbrev pub RanByStep : {B : Type 0} → (B → Option (List (List ℕ))) → Machine → Machine → B → B → Type 0
+RanByStep holds old new device device' = (answered : Result Progress Stop) × PagesByStep holds answered old new device device'
 
 -- the steps of a session, and then what is due after them. `exact` is whether it was known what the device's sectors hold, of which this
 -- is known now; `failed` is whether the device did

@@ -13,6 +13,7 @@ use Rattle.b67_job.specs.Command.{command_line_of}
 use Rattle.b67_job.specs.Device.{Device, DeviceTells, knowing}
 use Rattle.b67_job.specs.Runs.{IsOpen, IsShaped, StepsFit, StepsEnd}
 use Rattle.b67_job.specs.States.{StatesFollow}
+use Rattle.b67_job.specs.Finishing.{RanByStep}
 
 -- a run from a session on, to no halt
 abbrev pub run_from : Session → Run
@@ -31,6 +32,11 @@ pub record StepsFrom {B : Type 0} (d : Device B) (steps : ℕ) (first : Session)
   pub in_order : StatesFollow steps first
   pub fitted : DeviceTells d → StepsFit (length image.cpu.core) steps first
 
+-- from a machine, if it represents some session over what the device told, each step was made over the core and the device that
+-- the one before left, up to another and the device as it is now
+abbrev pub PagedFrom : {B : Type 0} → Device B → Machine → Machine → Type 0
+PagedFrom d image k = (told : Option (List (List ℕ))) (first : Session) → Says told d.before → StandsAt told image first → RanByStep d.holds image k d.old d.new
+
 -- The machine of an image has gone on to this one. It has its core and its sectors, no halt, and what else a deck gives: turns,
 -- switches, and the names, limits and numbers of its jobs. Whatever the device gave back, it represents some session. A slice may
 -- be called on it again, and its table of sectors has one for each of the device. And of the steps, in a core of so many words,
@@ -42,6 +48,7 @@ pub record HasGoneOn {B : Type 0} (d : Device B) (P : Device B → ℕ → ℕ �
   pub shaped : IsShaped k
   pub goes_on : IsOpen d.now k
   pub sized : d.sectors_now + 1 ≡ length k.sectors.links
+  pub paged : PagedFrom d image k
   pub each : (told : Option (List (List ℕ))) (first : Session) → Says told d.before → StandsAt told image first
       → (steps : ℕ) × StepsFrom (knowing told d) steps first image k × P (knowing told d) (length image.cpu.core) steps (run_from first) k
 

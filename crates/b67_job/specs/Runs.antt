@@ -24,6 +24,8 @@ use Rattle.b67_job.specs.Lines.{no_core_line, backing_full_line, backing_fault_l
 use Rattle.b67_job.specs.declared.summaries.Closing.{Closing}
 use Rattle.b67_job.specs.Texts.{Text, whole_of, only, TookUpTo, PrintsAndAnswers}
 use Rattle.b67_job.specs.States.{StatesInOrder, JobsRunApart}
+use Rattle.b67_job.specs.Finishing.{RanByStep}
+use Rattle.b67_layout_storage.specs.Machine.{content_after}
 
 -- lines of steps, and a last line
 abbrev pub text_to : List RunLine → List ℕ → Text
@@ -149,6 +151,16 @@ pub data StopsUnopened {B : Type 0} (d : Device B) (core : ℕ) (p : Prepared) (
       → status ≡ 5 → text ≡ only (ended (backing_full_line (sectors_of_all p.0 p.1) d.sectors)) → StopsUnopened d core p status text
   opening_fails : RoomSuffices d core p → Failed d → status ≡ 6 → text ≡ only (ended backing_fault_line) → StopsUnopened d core p status text
 
+-- A machine was opened that represents the deck's first session over the device as it then was, in so many words of core. From
+-- there each step was made over the core and the device that the one before left, up to this machine and the device as it is now
+pub record PagedFromOpening {B : Type 0} (d : Device B) (core : ℕ) (p : Prepared) (k : Machine) : Type 0 where
+  pub opened : Machine
+  pub device : B
+  pub stands : StandsAt (content_after d.before (d.holds device)) opened (run_of p).session
+  pub none_made : opened.tasks.made ≡ 0
+  pub core_size : length opened.cpu.core ≡ core
+  pub steps : RanByStep d.holds opened k device d.new
+
 -- A session was opened, for which there is room. Each state up to the count of the machine is in order; and if the device
 -- told what its sectors hold, none of the steps up to there needed more words than core has. The machine has that core and
 -- what the deck gave: its halt, its turns' length, its switches, and the names, limits and numbers of its jobs. Whatever the
@@ -163,6 +175,7 @@ pub record WasOpened {B : Type 0} (d : Device B) (core : ℕ) (p : Prepared) (k 
   pub shaped : IsShaped k
   pub goes_on : IsOpen d.now k
   pub sized : d.sectors_now + 1 ≡ length k.sectors.links
+  pub paged : PagedFromOpening d core p k
 
 -- after its steps it stopped so
 pub data StopsOpened {B : Type 0} (d : Device B) (core steps : ℕ) (r : Run) (closing : Closing) (k : Machine) (status : ℕ) (text : Text) : Type 0 where

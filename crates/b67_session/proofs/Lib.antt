@@ -18,6 +18,7 @@ pub mod Caused
 pub mod Going
 pub mod Fitting
 pub mod Pausing
+pub mod Paging
 pub mod Resuming
 pub mod Shaping
 mod Again

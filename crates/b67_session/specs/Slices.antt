@@ -1,5 +1,6 @@
 -- What a slice of a run answers, prints and leaves: a session of any jobs and tasks.
-use Rattle.std.specs.Prelude.{◌≡◌, ◌≢◌, ℕ, ◌+◌, ◌<◌, ◌≤◌, ◌⊎◌, List, [], ◌++◌, length, take, Option, Some, None, Result, Ok, Err}
+use Rattle.std.specs.Prelude.{◌≡◌, ◌≢◌, ℕ, ◌+◌, ◌<◌, ◌≤◌, ◌⊎◌, List, [], ◌∷◌, ◌++◌, length, take, Option, Some, None, Result, Ok, Err}
+use Rattle.std.specs.Result.{IsOk}
 use Rattle.b67_io.specs.Told.{Took}
 use Rattle.b67_model.specs.declared.intrinsics.TheConstants.{PROCESS}
 use Rattle.b67_model.specs.Common.{Task, Job, SessionJob, Line, Goes, step, need, run_text, IsInOrderButPlaces, Session, RunLine, StepResult, after, lines, live_tasks}
@@ -8,7 +9,7 @@ use Rattle.b67_session_lines.specs.Moments.{first_part, last_part, due}
 use Rattle.b67_lemmas.specs.Lists.{Has}
 use Rattle.b67_stack.specs.MachineView.{PagedObject}
 use Rattle.b67_stack.specs.Represents.{Storage}
-use Rattle.b67_layout_storage.specs.Machine.{Says}
+use Rattle.b67_layout_storage.specs.Machine.{Says, content_after}
 use Rattle.b67_layout.specs.Common.{Placement, machine_view, objects_gone}
 use Rattle.b67_exec_cells.specs.Called.{called_in}
 use Rattle.b67_exec_cells.specs.Running.{code_area}
@@ -184,6 +185,53 @@ pub record IfPresent {A D : Type 0} (holds : D → Option (List (List ℕ))) (ex
   pub sum : n ≤ 1 → WantsNothing x plan m t → (sum size : ℕ) → answered ≡ Err (stops.BackingFull sum size) → TellsAfter s m t sum
   pub room : exact → code_area x plan m t ≢ None → new.tasks.made ≡ old.tasks.made → StopsWithRoom core s m t answered
 
+-- ---- steps one by one
+
+-- a machine over its device, on the way of a slice
+pub record Between (D : Type 0) : Type 0 where
+  pub machine : Machine
+  pub device : D
+
+-- so many steps were made of a session, in the same core, and the machine represents the session after them. `exact` is as above
+pub record ComesTo (told : Option (List (List ℕ))) (exact : Type 0) (steps : ℕ) (first : Session) (old new : Machine) : Type 0 where
+  pub session : Session
+  pub is : exact → after steps first ≡ session
+  pub stands : StandsAt told new session
+  pub made : new.tasks.made ≡ old.tasks.made + steps
+  pub core : length new.cpu.core ≡ length old.cpu.core
+
+-- so it is of each session that the machine represents over the device
+abbrev pub Leads : {D : Type 0} → (D → Option (List (List ℕ))) → ℕ → Machine → Machine → D → D → Type 0
+Leads holds steps old new device device' =
+    (told : Option (List (List ℕ))) (s : Session) → Says told (holds device) → StandsAt told old s → ComesTo (content_after told (holds device')) (told ≢ None) steps s old new
+
+-- its next step was tried, and moved no more than it wants
+abbrev pub MovesItsWants : {A D : Type 0} → (D → Option (List (List ℕ))) → Result A Stop → Machine → Machine → D → D → Type 0
+MovesItsWants holds answered old new device device' =
+    (told : Option (List (List ℕ))) (s : Session) (m : SessionJob) (t : Task) → Says told (holds device) → (h : StandsAt told old s) → IsNext s m t
+    → IfPresent holds (told ≢ None) (length old.cpu.core) 1 h.storage h.plan s m t answered old new device device'
+
+-- one step was made, which moved no more than it wants; or steps of a turn, without a call of the device
+pub data Follows {D : Type 0} (holds : D → Option (List (List ℕ))) (old new : Machine) (device device' : D) : Type 0 where
+  by_a_step : Leads holds 1 old new device device' → MovesItsWants {A = Unit {0}} holds (Ok tt) old new device device' → Follows holds old new device device'
+  in_a_turn : (steps : ℕ) → Leads holds steps old new device device' → device' ≡ device → Follows holds old new device device'
+
+-- each machine over its device follows from the one before; those between the first and the last are told from the last on
+abbrev pub FollowEach : {D : Type 0} → (D → Option (List (List ℕ))) → List (Between D) → Machine → Machine → D → D → Type 0
+FollowEach holds [] old new device device' = (new ≡ old) × (device' ≡ device)
+FollowEach holds (b ∷ before) old new device device' = Follows holds b.machine new b.device device' × FollowEach holds before old b.machine device b.device
+
+-- steps were made one by one, each over the core and the device that the one before left, and each moved no more than it wants
+pub record HasPaged {D : Type 0} (holds : D → Option (List (List ℕ))) (old new : Machine) (device device' : D) : Type 0 where
+  pub between : List (Between D)
+  pub follow : FollowEach holds between old new device device'
+
+-- so it was, and after a stop the step that it stopped moved no more than it wants either
+pub data PagesByStep {A D : Type 0} (holds : D → Option (List (List ℕ))) (answered : Result A Stop) (old new : Machine) (device device' : D) : Type 0 where
+  goes_well : IsOk answered → HasPaged holds old new device device' → PagesByStep holds answered old new device device'
+  stops_in : (stop : Stop) → answered ≡ Err stop → (last : Between D) → HasPaged holds old last.machine device last.device
+      → MovesItsWants {A = Unit {0}} holds (Err stop) last.machine new last.device device' → PagesByStep holds answered old new device device'
+
 -- ---- what is answered
 
 -- a slice of n steps stopped after so many of them, before one that was due: they are not all made, and the halt isn't
@@ -266,6 +314,7 @@ pub record GoesOnAfter {D K : Type 0} (holds : D → Option (List (List ℕ))) (
   pub slices : Slices taken said' (said ≢ None) count n part.session answered middle new printer paper'
   pub present : (g : StandsAt said middle part.session) (m : SessionJob) (t : Task) → IsNext part.session m t
       → IfPresent holds (said ≢ None) (length middle.cpu.core) n g.storage g.plan part.session m t answered middle new device device'
+  pub pages : PagesByStep holds answered middle new device device'
   pub rests : live_tasks part.session.jobs ≡ 0 → device' ≡ device
 
 -- from a session of which tasks are to end by LIMIT

@@ -17,7 +17,7 @@ returns-clause-gone g c = (
   refl,
   has_gone_on g.K.Sink.taken g.K.Sink.faults g.B.Backing.holds g.B.Backing.size g.B.Backing.calls g.B.Backing.faults c.args.backing.now c.run_session-status.new.backing c.args.image c.run_session-status.new.machine
       c.requires.unhalted c.requires.unprinted c.run_session-status.ensures.keeps c.args.printer.now c.run_session-status.new.printer c.run_session-status.result
-      c.run_session-status.ensures.device c.requires.sized c.run_session-status.ensures.goes_on c.run_session-status.ensures.ran,
+      c.run_session-status.ensures.device c.requires.sized c.run_session-status.ensures.goes_on c.run_session-status.ensures.ran c.run_session-status.ensures.paged,
 )
 
 pub returns-clause-device : goal.returns-clause-device

@@ -27,7 +27,7 @@ returns-clause-ends g c =
     deck_run g.K.Sink.taken g.K.Sink.faults g.B.Backing.holds g.B.Backing.size g.B.Backing.calls g.B.Backing.faults c.args.deck.now c.args.programs.now c.args.core c.args.closing
     c.requires.range c.know_programs.ensures c.args.backing.now c.open.new.backing c.run_session-status.new.backing c.in-Ok.machine c.run_session-status.new.machine c.in-Ok.ensures.opens
     c.args.printer.now c.run_session-status.new.printer c.run_session-status.result c.open.ensures.device c.run_session-status.ensures.device
-    c.run_session-status.ensures.goes_on c.run_session-status.ensures.keeps c.run_session-status.ensures.ran
+    c.run_session-status.ensures.goes_on c.run_session-status.ensures.keeps c.run_session-status.ensures.ran c.run_session-status.ensures.paged
 
 pub returns-clause-device : goal.returns-clause-device
 returns-clause-device g c = after_more c.open.ensures.device c.run_session-status.ensures.device

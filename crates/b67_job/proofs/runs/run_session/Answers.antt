@@ -18,3 +18,6 @@ returns-clause-ran g c = λ said s says stands. record {
   printer_failed = c.slice-answered.ensures.leaves.causes.printer.failed;
   later = c.slice-answered.ensures.leaves.causes.printer.later;
 }
+
+pub returns-clause-paged : goal.returns-clause-paged
+returns-clause-paged g c = λ said s says stands. (c.slice-answered.result, c.slice-answered.ensures.paged said s says stands)

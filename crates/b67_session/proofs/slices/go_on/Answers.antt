@@ -15,6 +15,8 @@ use Rattle.b67_session.specs.Steps.{Steps}
 use Rattle.b67_task_tables.proofs.Keeping.{keeps_then, countable_kept}
 use Rattle.b67_session.proofs.Going.{Going, going-begins, going-lives, going-more, going-steps, going-stops, going-turn, begun_present, made_no_fewer, stop_rooms, stop_causes}
 use Rattle.b67_session.proofs.Pausing.{says_retold, still_told, known_still, retold_twice, pause_slices}
+use Rattle.b67_session.specs.Slices.{goes_well}
+use Rattle.b67_session.proofs.Paging.{nothing_paged, paged_then, step_follows, turn_follows, stop_pages}
 use Rattle.b67_session.proofs.Rows.{stays_ended, went_on, none_made}
 use Rattle.b67_session.proofs.slices.go_on.Given.{Over}
 use Rattle.b67_session.proofs.slices.go_on.Goals.{After-step}
@@ -75,6 +77,7 @@ turn-init g c = record {
   begun = λ none. (refl, refl);
   none = λ none. refl;
   unprinted = λ none. refl;
+  pages = nothing_paged g.B.Backing.holds c.args.machine.now c.args.backing.now;
   quiet = λ said s m t h says next few wants same. refl;
   written = λ said s m t h says next tells few fits none. record { told = λ all e. e };
   areas = λ said s m t h job says next few alone hand more. absurd (omega (arith, more));
@@ -134,6 +137,12 @@ turn-preserved g c =
       begun = λ none. absurd (omega (arith, none));
       none = λ none. absurd (none_made c.args.machine.now c.turn.machine c.turn.made c.turn.invariant.none (λ zero. (c.turn.invariant.begun zero).0) c.in_default.ensures.0 none);
       unprinted = λ none. absurd (omega (arith, none));
+      pages =
+          let first = paged_then g.B.Backing.holds c.args.machine.now c.turn.machine c.step.new.machine c.args.backing.now c.turn.backing c.step.new.backing c.turn.invariant.pages
+          (step_follows g.B.Backing.holds g.K.Sink.taken (g.B.Backing.size c.turn.backing) c.turn.machine c.step.new.machine c.turn.backing c.step.new.backing c.turn.paper c.step.new.paper c.step.result is
+          c.step.ensures.leaves.kept c.step.ensures.row c.step.ensures.present) in
+          paged_then g.B.Backing.holds c.args.machine.now c.step.new.machine c.go_on_with_turn.new.machine c.args.backing.now c.step.new.backing c.step.new.backing first
+          (turn_follows g.B.Backing.holds more c.step.new.machine c.go_on_with_turn.new.machine c.step.new.backing c.go_on_with_turn.ensures.keeps c.go_on_with_turn.ensures.row);
       quiet = λ said s m t h says next few wants.
           (made_present g a said s says h m t next is (omega arith)).quiet few wants;
       written = λ said s m t h says next tells few fits none.
@@ -235,6 +244,20 @@ returns-in-Err-clause-causes g c =
 pub returns-in-Err-clause-device : goal.returns-in-Err-clause-device
 returns-in-Err-clause-device g c =
     Served-then g.B.Backing.holds g.B.Backing.size g.B.Backing.calls g.B.Backing.faults c.args.backing.now c.turn.backing c.step.new.backing c.turn.invariant.device c.step.ensures.leaves.served
+
+pub returns-in-Some-clause-paged : goal.returns-in-Some-clause-paged
+returns-in-Some-clause-paged g c = goes_well refl c.turn.invariant.pages
+
+pub returns-in-Some-pause-clause-paged : goal.returns-in-Some-pause-clause-paged
+returns-in-Some-pause-clause-paged g c = goes_well refl c.turn.invariant.pages
+
+pub returns-in-None-clause-paged : goal.returns-in-None-clause-paged
+returns-in-None-clause-paged g c = goes_well refl c.turn.invariant.pages
+
+pub returns-in-Err-clause-paged : goal.returns-in-Err-clause-paged
+returns-in-Err-clause-paged g c =
+    stop_pages g.B.Backing.holds c.in-Err.stop c.args.machine.now c.turn.machine c.step.new.machine c.args.backing.now c.turn.backing c.step.new.backing c.step.result c.in-Err.is
+    c.turn.invariant.pages c.step.ensures.present
 
 -- ---- no task from the beginning
 

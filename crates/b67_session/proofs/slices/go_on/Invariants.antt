@@ -5,7 +5,7 @@ use Rattle.b67_layout_storage.specs.Machine.{Says, DeviceAfterCalls, content_aft
 use Rattle.b67_law_sessions.specs.Turns.{IsNext}
 use Rattle.b67_session.specs.AttemptPassed.{CallsDevice}
 use Rattle.b67_session.specs.Attempts.{WantsNothing, HoleFits, IsAtHand}
-use Rattle.b67_session.specs.Slices.{StandsAt, Keeps, GoesOnAlone, StepKeepsAreas, StepLeaves}
+use Rattle.b67_session.specs.Slices.{StandsAt, Keeps, GoesOnAlone, StepKeepsAreas, StepLeaves, HasPaged}
 use Rattle.b67_stack.specs.declared.Step.TheVariants.{Done}
 use Rattle.b67_exec.specs.Near.{StopsHere}
 use Rattle.b67_session.proofs.Going.{Going}
@@ -23,6 +23,7 @@ invariant-turn g l = record {
   begun : l.made ≡ 0 → (l.machine ≡ l.initial.machine) × (l.backing ≡ l.initial.backing);
   none : l.initial.machine.tasks.rows.items ≡ [] → l.made ≡ 0;
   unprinted : l.made ≡ 0 → l.paper ≡ l.initial.paper;
+  pages : HasPaged g.B.Backing.holds l.initial.machine l.machine l.initial.backing l.backing;
   quiet : (told : Option (List (List ℕ))) (s : Session) (m : SessionJob) (t : Task) (h : StandsAt told l.initial.machine s) → Says told (g.B.Backing.holds l.initial.backing) → IsNext s m t
       → l.n ≤ 1 → WantsNothing h.storage h.plan m t → (CallsDevice m t → ⊥) → l.backing ≡ l.initial.backing;
   written : (told : Option (List (List ℕ))) (s : Session) (m : SessionJob) (t : Task) (h : StandsAt told l.initial.machine s) → Says told (g.B.Backing.holds l.initial.backing) → IsNext s m t

@@ -1,13 +1,14 @@
-use Rattle.std.proofs.Common.{rules, ◌≢◌, ℕ, List, Option, None, sym, ap, subst, inl, inr, arith}
+use Rattle.std.proofs.Common.{rules, ◌≢◌, ℕ, List, Option, None, sym, ap, subst, inl, inr, refl, arith}
 use Rattle.b67_layout_storage.specs.Machine.{content_after}
 use Rattle.b67_layout_storage.proofs.Devices.{Served-none}
 use Rattle.b67_layout_storage.proofs.Retold.{retold-same}
 use Rattle.b67_task_tables.specs.declared.tables.Tasks.{Tasks}
 use Rattle.b67_session.specs.AttemptPassed.{AreCountable}
-use Rattle.b67_session.specs.Slices.{StandsLimited}
+use Rattle.b67_session.specs.Slices.{StandsLimited, goes_well}
 use Rattle.b67_session.proofs.Shaping.{shaped}
 use Rattle.b67_session.proofs.Going.{Going, going-begins, going-ended}
 use Rattle.b67_session.proofs.Pausing.{says_retold}
+use Rattle.b67_session.proofs.Paging.{nothing_paged}
 use Rattle.b67_session.proofs.Rows.{empty_rows, some_rows}
 use Rattle.b67_task_tables.proofs.Keeping.{keeps_then, countable_kept}
 use Rattle.b67_session.proofs.Resuming.{stands_not, limited_not, rests_not, next_row, limited_row, open_stands, open_limited, has_limited, over_stands, over_prints, cut_again, cut_limited}
@@ -32,6 +33,9 @@ returns-then-is_empty-clause-present g c = λ said s m t says h n. absurd (next_
 
 pub returns-then-is_empty-clause-resumed : goal.returns-then-is_empty-clause-resumed
 returns-then-is_empty-clause-resumed g c = λ said h part says l. absurd (limited_row said c.args.machine.now h part l (empty_rows c.args.machine.now.tasks c.if-is_empty.ensures))
+
+pub returns-then-is_empty-clause-paged : goal.returns-then-is_empty-clause-paged
+returns-then-is_empty-clause-paged g c = λ said s says h. goes_well refl (nothing_paged g.B.Backing.holds c.args.machine.now c.args.backing.now)
 
 -- ---- a step, if any
 
@@ -83,6 +87,15 @@ returns-in-Ok-clause-row g c = λ said s says h. absurd (stands_not said c.args.
 pub returns-in-Ok-clause-present : goal.returns-in-Ok-clause-present
 returns-in-Ok-clause-present g c = λ said s m t says h n. absurd (stands_not said c.args.machine.now s h c.is_at_limit.ensures c.if-not-is_at_limit.false)
 
+pub returns-then-not-is_at_limit-clause-paged : goal.returns-then-not-is_at_limit-clause-paged
+returns-then-not-is_at_limit-clause-paged g c = λ said s says h. c.go_on.ensures.paged
+
+pub returns-in-Ok-clause-paged : goal.returns-in-Ok-clause-paged
+returns-in-Ok-clause-paged g c = λ said s says h. absurd (stands_not said c.args.machine.now s h c.is_at_limit.ensures c.if-not-is_at_limit.false)
+
+pub returns-in-Err-clause-paged : goal.returns-in-Err-clause-paged
+returns-in-Err-clause-paged g c = λ said s says h. absurd (stands_not said c.args.machine.now s h c.is_at_limit.ensures c.if-not-is_at_limit.false)
+
 pub returns-in-Ok-clause-resumed : goal.returns-in-Ok-clause-resumed
 returns-in-Ok-clause-resumed g c = λ said h part says l.
     (let ends = c.in-Ok.ensures.ends l.storage said l.plan h part l.ordered l.is l.stands in
@@ -97,6 +110,7 @@ returns-in-Ok-clause-resumed g c = λ said h part says l.
       prints = over_prints said h part c.args.machine.now l g.K.Sink.taken c.end_by_limit.new.machine c.args.paper.now c.end_by_limit.new.paper ends;
       slices = c.go_on-in-Ok.ensures.row said part.session says stands;
       present = λ q m t n. c.go_on-in-Ok.ensures.present said part.session m t says q n;
+      pages = c.go_on-in-Ok.ensures.paged;
       rests = λ none. (c.go_on-in-Ok.ensures.ended said part.session (record { storage = stands.storage; plan = stands.plan; stands = stands.stands; none = none })).backing;
     }))
 

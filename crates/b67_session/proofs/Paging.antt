@@ -1,0 +1,62 @@
+-- Steps that were made one by one.
+use Rattle.std.proofs.Common.{◌≡◌, ◌≢◌, ℕ, ◌+◌, List, [], ◌∷◌, length, Option, None, Result, Ok, Err, refl, sym, ap, ◌∙◌, subst}
+use Rattle.b67_layout_storage.specs.Machine.{Says, content_after}
+use Rattle.b67_layout_storage.proofs.Retold.{retold-same}
+use Rattle.b67_model.specs.Common.{RunLine, Session, after}
+use Rattle.b67_law_sessions.proofs.TurnRuns.{Came, came-none, came-more}
+use Rattle.b67_task_tables.specs.declared.tables.Machine.{Machine}
+use Rattle.b67_session.specs.AttemptStops.{Stop}
+use Rattle.b67_session.specs.Slices.{StandsAt, Keeps, Between, Leads, MovesItsWants, Follows, by_a_step, in_a_turn, HasPaged, PagesByStep, goes_well, stops_in}
+use Rattle.b67_session.specs.Steps.{StepGives, Steps, GoesOnInTurn}
+
+-- a whole step is the one after the session
+one_after : (s was next : Session) (printed : List RunLine) → was ≡ s → StepGives was next printed → after 1 s ≡ next
+one_after s was next printed same m =
+    let c = came-more was 0 was [] m.moment (came-none was) m.is in
+    ap (after 1) (sym same) ∙ c.session ∙ m.session
+
+module _ {D : Type 0} (holds : D → Option (List (List ℕ))) where
+  pub nothing_paged : (k : Machine) (d : D) → HasPaged holds k k d d
+  nothing_paged k d = record { between = []; follow = (refl, refl) }
+
+  pub paged_then : (old mid new : Machine) (d e f : D) → HasPaged holds old mid d e → Follows holds mid new e f → HasPaged holds old new d f
+  paged_then old mid new d e f h link = record { between = record { machine = mid; device = e } ∷ h.between; follow = (link, h.follow) }
+
+  -- a step that was made
+  pub step_follows : {K : Type 0} (taken : K → Option (List ℕ)) (count : ℕ) (old new : Machine) (d e : D) (p q : K) (answered : Result (Unit {0}) Stop) → answered ≡ Ok tt → Keeps old new
+      → ((told : Option (List (List ℕ))) (s : Session) → Says told (holds d) → StandsAt told old s → Steps taken (content_after told (holds e)) (told ≢ None) count s answered old new p q)
+      → MovesItsWants holds answered old new d e → Follows holds old new d e
+  step_follows {K} taken count old new d e p q answered is keeps row moves = by_a_step leads (subst (λ (a : Result (Unit {0}) Stop). MovesItsWants holds a old new d e) is moves)
+    where
+      leads : Leads holds 1 old new d e
+      leads told s says stands =
+          let x = subst (λ (a : Result (Unit {0}) Stop). Steps taken (content_after told (holds e)) (told ≢ None) count s a old new p q) is (row told s says stands) in
+          let (one, gives, there) = x.meets in
+          record {
+            session = x.session;
+            is = λ tells. one_after s x.was x.session x.printed (x.same tells) (gives tells);
+            stands = there;
+            made = x.made ∙ ap (λ (n : ℕ). old.tasks.made + n) one;
+            core = keeps.core;
+          }
+
+  -- and more steps of its turn
+  pub turn_follows : (steps : ℕ) (old new : Machine) (d : D) → Keeps old new → ((told : Option (List (List ℕ))) (s : Session) → StandsAt told old s → GoesOnInTurn told steps s old new) → Follows holds old new d d
+  turn_follows steps old new d keeps row = in_a_turn steps leads refl
+    where
+      leads : Leads holds steps old new d d
+      leads told s says stands =
+          let x = row told s stands in
+          record {
+            session = x.session;
+            is = λ tells. x.leads;
+            stands = subst (λ (t : Option (List (List ℕ))). StandsAt t new x.session) (sym (retold-same told (holds d) says)) x.stands;
+            made = x.made;
+            core = keeps.core;
+          }
+
+  -- a step that was stopped
+  pub stop_pages : {A : Type 0} (stop : Stop) (old mid new : Machine) (d e f : D) (answered : Result (Unit {0}) Stop) → answered ≡ Err stop → HasPaged holds old mid d e → MovesItsWants holds answered mid new e f
+      → PagesByStep {A = A} holds (Err stop) old new d f
+  stop_pages {A} stop old mid new d e f answered is h moves =
+      stops_in stop refl (record { machine = mid; device = e }) h (subst (λ (a : Result (Unit {0}) Stop). MovesItsWants holds a mid new e f) is moves)
