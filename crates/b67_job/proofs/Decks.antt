@@ -123,7 +123,7 @@ module _ {K B : Type 0} (taken : K → Option (List ℕ)) (failures : K → ℕ)
         shaped = shaped (holds b'') k may_go_on;
         goes_on = may_go_on;
         sized = omega (arith, begun_links, links, again, same);
-        paged = record { opened = k0; device = b'; stands = stands; none_made = begun; core_size = o.2.core_size; steps = pages said first (says_retold (holds b) (holds b')) stands };
+        paged = record { opened = k0; device = b'; known = still; stands = stands; none_made = begun; core_size = o.2.core_size; steps = pages said first (says_retold (holds b) (holds b')) stands };
       })
       (subst (λ n. StepsEnd taken failures device core n (run_of (d, map program_of fs)) closing k old new answer) (sym made)
       (ran taken failures device core (run_of (d, map program_of fs)) closing k (said ≢ None) exact r.slices.steps r.slices.session r.slices.printed

@@ -1,6 +1,6 @@
 -- How the run of a deck over core stops: with which status and text, after how many steps of the session that the deck
 -- opens, and with which machine.
-use Rattle.std.specs.Prelude.{◌≡◌, ℕ, ◌+◌, ◌<◌, ◌≤◌, ◌⊎◌, List, ◌++◌, length, Option, Some, None}
+use Rattle.std.specs.Prelude.{◌≡◌, ◌≢◌, ℕ, ◌+◌, ◌<◌, ◌≤◌, ◌⊎◌, List, ◌++◌, length, Option, Some, None}
 use Rattle.b67_io.specs.Line.{ended}
 use Rattle.b67_io.specs.Causes.{Rose}
 use Rattle.b67_model.specs.Common.{Task, SessionJob, need, run_text, IsInOrderButPlaces, Session, RunLine, StepResult, lines, after}
@@ -15,6 +15,8 @@ use Rattle.b67_session_open.specs.Decks.{deck_given, given_of}
 use Rattle.b67_session_open.specs.Opens.{need_of, sectors_of_all}
 use Rattle.b67_task_tables.specs.declared.tables.Machine.{Machine}
 pub use Rattle.b67_session.specs.Slices.{StandsAt, IsLimited}
+pub use Rattle.b67_session.specs.Slices.{Between, Leads, MovesItsWants, Follows, by_a_step, in_a_turn, FollowEach, HasPaged, PagesByStep, goes_well, stops_in}
+pub use Rattle.b67_session.specs.Stops.{Stop}
 pub use Rattle.b67_session.specs.Slices.{IsOpen, RepresentsWithoutTasks, StepsFit}
 pub use Rattle.b67_session.specs.Shaped.{IsShaped}
 use Rattle.b67_session_lines.specs.Moments.{first_part, due as due_text}
@@ -156,6 +158,7 @@ pub data StopsUnopened {B : Type 0} (d : Device B) (core : ℕ) (p : Prepared) (
 pub record PagedFromOpening {B : Type 0} (d : Device B) (core : ℕ) (p : Prepared) (k : Machine) : Type 0 where
   pub opened : Machine
   pub device : B
+  pub known : DeviceTells d → d.holds device ≢ None
   pub stands : StandsAt (content_after d.before (d.holds device)) opened (run_of p).session
   pub none_made : opened.tasks.made ≡ 0
   pub core_size : length opened.cpu.core ≡ core

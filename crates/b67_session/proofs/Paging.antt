@@ -6,6 +6,7 @@ use Rattle.b67_model.specs.Common.{RunLine, Session, after}
 use Rattle.b67_law_sessions.proofs.TurnRuns.{Came, came-none, came-more}
 use Rattle.b67_task_tables.specs.declared.tables.Machine.{Machine}
 use Rattle.b67_session.specs.AttemptStops.{Stop}
+use Rattle.b67_session.proofs.Pausing.{known_still}
 use Rattle.b67_session.specs.Slices.{StandsAt, Keeps, Between, Leads, MovesItsWants, Follows, by_a_step, in_a_turn, HasPaged, PagesByStep, goes_well, stops_in}
 use Rattle.b67_session.specs.Steps.{StepGives, Steps, GoesOnInTurn}
 
@@ -24,9 +25,10 @@ module _ {D : Type 0} (holds : D → Option (List (List ℕ))) where
 
   -- a step that was made
   pub step_follows : {K : Type 0} (taken : K → Option (List ℕ)) (count : ℕ) (old new : Machine) (d e : D) (p q : K) (answered : Result (Unit {0}) Stop) → answered ≡ Ok tt → Keeps old new
+      → ((told : Option (List (List ℕ))) → Says told (holds d) → told ≢ None → holds e ≢ None)
       → ((told : Option (List (List ℕ))) (s : Session) → Says told (holds d) → StandsAt told old s → Steps taken (content_after told (holds e)) (told ≢ None) count s answered old new p q)
       → MovesItsWants holds answered old new d e → Follows holds old new d e
-  step_follows {K} taken count old new d e p q answered is keeps row moves = by_a_step leads (subst (λ (a : Result (Unit {0}) Stop). MovesItsWants holds a old new d e) is moves)
+  step_follows {K} taken count old new d e p q answered is keeps still row moves = by_a_step leads (subst (λ (a : Result (Unit {0}) Stop). MovesItsWants holds a old new d e) is moves)
     where
       leads : Leads holds 1 old new d e
       leads told s says stands =
@@ -35,6 +37,7 @@ module _ {D : Type 0} (holds : D → Option (List (List ℕ))) where
           record {
             session = x.session;
             is = λ tells. one_after s x.was x.session x.printed (x.same tells) (gives tells);
+            known = known_still told (holds e) (still told says);
             stands = there;
             made = x.made ∙ ap (λ (n : ℕ). old.tasks.made + n) one;
             core = keeps.core;
@@ -50,6 +53,7 @@ module _ {D : Type 0} (holds : D → Option (List (List ℕ))) where
           record {
             session = x.session;
             is = λ tells. x.leads;
+            known = λ tells. subst (λ (t : Option (List (List ℕ))). t ≢ None) (sym (retold-same told (holds d) says)) tells;
             stands = subst (λ (t : Option (List (List ℕ))). StandsAt t new x.session) (sym (retold-same told (holds d) says)) x.stands;
             made = x.made;
             core = keeps.core;

@@ -192,10 +192,12 @@ pub record Between (D : Type 0) : Type 0 where
   pub machine : Machine
   pub device : D
 
--- so many steps were made of a session, in the same core, and the machine represents the session after them. `exact` is as above
+-- so many steps were made of a session, in the same core. The machine represents the session after them, and it is known still what
+-- the device's sectors hold. `exact` is as above
 pub record ComesTo (told : Option (List (List ℕ))) (exact : Type 0) (steps : ℕ) (first : Session) (old new : Machine) : Type 0 where
   pub session : Session
   pub is : exact → after steps first ≡ session
+  pub known : exact → told ≢ None
   pub stands : StandsAt told new session
   pub made : new.tasks.made ≡ old.tasks.made + steps
   pub core : length new.cpu.core ≡ length old.cpu.core

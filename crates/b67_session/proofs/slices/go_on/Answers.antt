@@ -140,7 +140,9 @@ turn-preserved g c =
       pages =
           let first = paged_then g.B.Backing.holds c.args.machine.now c.turn.machine c.step.new.machine c.args.backing.now c.turn.backing c.step.new.backing c.turn.invariant.pages
           (step_follows g.B.Backing.holds g.K.Sink.taken (g.B.Backing.size c.turn.backing) c.turn.machine c.step.new.machine c.turn.backing c.step.new.backing c.turn.paper c.step.new.paper c.step.result is
-          c.step.ensures.leaves.kept c.step.ensures.row c.step.ensures.present) in
+          c.step.ensures.leaves.kept
+          (λ told says. still_told g.B.Backing.holds g.B.Backing.size g.B.Backing.calls g.B.Backing.faults c.turn.backing c.step.new.backing told says c.step.ensures.leaves.served)
+          c.step.ensures.row c.step.ensures.present) in
           paged_then g.B.Backing.holds c.args.machine.now c.step.new.machine c.go_on_with_turn.new.machine c.args.backing.now c.step.new.backing c.step.new.backing first
           (turn_follows g.B.Backing.holds more c.step.new.machine c.go_on_with_turn.new.machine c.step.new.backing c.go_on_with_turn.ensures.keeps c.go_on_with_turn.ensures.row);
       quiet = λ said s m t h says next few wants.

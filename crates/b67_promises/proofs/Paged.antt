@@ -1,0 +1,93 @@
+-- At each step of a run core and the device hold the session of the model.
+use Rattle.std.proofs.Common.{◌≡◌, ◌≢◌, ◌⊎◌, inl, inr, ℕ, ◌+◌, List, [], ◌∷◌, length, Option, Some, None, Ok, Err, refl, sym, ap, ◌∙◌, subst}
+use Rattle.b67_lemmas.specs.Lists.{Has}
+use Rattle.b67_model.specs.Common.{Session, after}
+use Rattle.b67_layout_storage.specs.Machine.{Says, content_after}
+use Rattle.b67_session_lines.proofs.Statuses.{after-add}
+use denote.Ref.{Bor}
+use Rattle.b67_job_admit.specs.Admitting.{Prepared, deck_prepared}
+use Rattle.b67_task_tables.specs.declared.tables.Machine.{Machine}
+use Rattle.b67_job.specs.Device.{Device, DeviceTells}
+use Rattle.b67_job.specs.Runs.{run_of, StandsAt, Between, Leads, Follows, by_a_step, in_a_turn, FollowEach, HasPaged, PagesByStep, goes_well, stops_in, PagedFromOpening}
+use Rattle.b67_promises.proofs.CallsDescribed.{AsksFor, runs_deck}
+use Rattle.b67_promises.proofs.MoreCore.{WholeRun}
+use Rattle.b67_promises.specs.Paged.{HoldsSession, PagesAllTheWay}
+
+says_self : (o : Option (List (List ℕ))) → Says o o
+says_self None = tt
+says_self (Some all) = refl
+
+told_then : (o told : Option (List (List ℕ))) → o ≢ None → content_after o told ≡ told
+told_then None told some = absurd (some refl)
+told_then (Some all) told some = refl
+
+module _ {D : Type 0} (holds : D → Option (List (List ℕ))) (core : ℕ) (p : Prepared) where
+  abbrev Holds : Machine → D → Type 0
+  Holds k d = HoldsSession holds core p (record { machine = k; device = d })
+
+  holds_then : (n : ℕ) (k k' : Machine) (d d' : D) → Leads holds n k k' d d' → Holds k d → Holds k' d'
+  holds_then n k k' d d' leads h =
+      let first = (run_of p).session in
+      let c = leads (holds d) (after k.tasks.made first) (says_self (holds d)) h.stands in
+      let now : content_after (holds d) (holds d') ≡ holds d' = told_then (holds d) (holds d') h.tells in
+      let there : c.session ≡ after k'.tasks.made first = sym (c.is h.tells) ∙ sym (after-add k.tasks.made n first) ∙ ap (λ (i : ℕ). after i first) (sym c.made) in
+      record {
+        core_size = c.core ∙ h.core_size;
+        tells = subst (λ (o : Option (List (List ℕ))). o ≢ None) now (c.known h.tells);
+        stands = subst (λ (o : Option (List (List ℕ))). StandsAt o k' (after k'.tasks.made first)) now (subst (StandsAt (content_after (holds d) (holds d')) k') there c.stands);
+      }
+
+  follows_then : (k k' : Machine) (d d' : D) → Follows holds k k' d d' → Holds k d → Holds k' d'
+  follows_then k k' d d' (by_a_step leads moves) h = holds_then 1 k k' d d' leads h
+  follows_then k k' d d' (in_a_turn n leads same) h = holds_then n k k' d d' leads h
+
+  each_holds : (between : List (Between D)) (k k' : Machine) (d d' : D) → FollowEach holds between k k' d d' → Holds k d
+      → (b : Between D) → Has (record { machine = k'; device = d' } ∷ between) b → HoldsSession holds core p b
+  each_holds [] k k' d d' follow h b (inl is) =
+      subst (HoldsSession holds core p) is (subst (λ (z : Machine). Holds z d') (sym follow.0) (subst (Holds k) (sym follow.1) h))
+  each_holds [] k k' d d' follow h b (inr has) = absurd has
+  each_holds (c ∷ before) k k' d d' follow h b (inl is) =
+      subst (HoldsSession holds core p) is (follows_then c.machine k' c.device d' follow.0 (each_holds before k c.machine d c.device follow.1 h c (inl refl)))
+  each_holds (c ∷ before) k k' d d' follow h b (inr has) = each_holds before k c.machine d c.device follow.1 h b has
+
+-- a call that opened a session has paged all the way
+pub all_the_way : {B : Type 0} (d : Device B) (core : ℕ) (p : Prepared) (k : Machine) → DeviceTells d → PagedFromOpening d core p k → PagesAllTheWay d.holds core p d.new
+all_the_way {B} d core p k tells x = by_pages x.steps.1
+  where
+    now : content_after d.before (d.holds x.device) ≡ d.holds x.device
+    now = told_then d.before (d.holds x.device) tells
+
+    begins : HoldsSession d.holds core p (record { machine = x.opened; device = x.device })
+    begins = record {
+      core_size = x.core_size;
+      tells = subst (λ (o : Option (List (List ℕ))). o ≢ None) now (x.known tells);
+      stands = subst (λ (o : Option (List (List ℕ))). StandsAt o x.opened (after x.opened.tasks.made (run_of p).session)) now
+          (subst (λ (n : ℕ). StandsAt (content_after d.before (d.holds x.device)) x.opened (after n (run_of p).session)) (sym x.none_made) x.stands);
+    }
+
+    by_pages : PagesByStep d.holds x.steps.0 x.opened k x.device d.new → PagesAllTheWay d.holds core p d.new
+    by_pages (goes_well ok h) = record {
+      opened = record { machine = x.opened; device = x.device };
+      none_made = x.none_made;
+      last = record { machine = k; device = d.new };
+      paged = h;
+      each = each_holds d.holds core p h.between x.opened k x.device d.new h.follow begins;
+      ends = inl refl;
+    }
+    by_pages (stops_in stop is last h moves) = record {
+      opened = record { machine = x.opened; device = x.device };
+      none_made = x.none_made;
+      last = last;
+      paged = h;
+      each = each_holds d.holds core p h.between x.opened last.machine x.device last.device h.follow begins;
+      ends = inr (k, stop, moves);
+    }
+
+-- so has one that ended with 0 or 3, on the deck of these bytes
+pub whole_pages : {S B : Type 0} (words : List (Bor (List ℕ))) (left : S → Option (List ℕ)) (deck deck' : S) (d : Device B) (core : ℕ) (bytes : List ℕ) → AsksFor words left deck deck' None core bytes → DeviceTells d
+    → WholeRun words left deck deck' d → (p : Prepared) × (deck_prepared bytes ≡ Ok p) × PagesAllTheWay d.holds core p d.new
+whole_pages words left deck deck' d core bytes asks tells w = (
+  w.p,
+  runs_deck bytes w.p (asks.asks.judged w.core w.p w.its_run),
+  all_the_way d core w.p w.k tells (subst (λ (n : ℕ). PagedFromOpening d n w.p w.k) (asks.opens w.core w.p w.its_run) w.opens.paged),
+)
