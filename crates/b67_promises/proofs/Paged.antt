@@ -2,20 +2,17 @@
 use Rattle.std.proofs.Common.{◌≡◌, ◌≢◌, ◌⊎◌, inl, inr, ℕ, ◌+◌, List, [], ◌∷◌, length, Option, Some, None, Ok, Err, refl, sym, ap, ◌∙◌, subst}
 use Rattle.b67_lemmas.specs.Lists.{Has}
 use Rattle.b67_model.specs.Common.{Session, after}
-use Rattle.b67_layout_storage.specs.Machine.{Says, content_after}
+use Rattle.b67_layout_storage.specs.Machine.{content_after}
+use Rattle.b67_layout_storage.proofs.Devices.{says_self}
 use Rattle.b67_session_lines.proofs.Statuses.{after-add}
 use denote.Ref.{Bor}
 use Rattle.b67_job_admit.specs.Admitting.{Prepared, deck_prepared}
 use Rattle.b67_task_tables.specs.declared.tables.Machine.{Machine}
 use Rattle.b67_job.specs.Device.{Device, DeviceTells}
-use Rattle.b67_job.specs.Runs.{run_of, StandsAt, Between, Leads, Follows, by_a_step, in_a_turn, FollowEach, HasPaged, PagesByStep, goes_well, stops_in, PagedFromOpening}
+use Rattle.b67_job.specs.Runs.{run_of, StandsAt, Between, TakesOn, IsOnward, by_a_step, in_a_turn, FollowEach, HasPaged, PagesByStep, goes_well, stops_in, PagedFromOpening}
 use Rattle.b67_promises.proofs.CallsDescribed.{AsksFor, runs_deck}
 use Rattle.b67_promises.proofs.MoreCore.{WholeRun}
 use Rattle.b67_promises.specs.Paged.{HoldsSession, PagesAllTheWay}
-
-says_self : (o : Option (List (List ℕ))) → Says o o
-says_self None = tt
-says_self (Some all) = refl
 
 told_then : (o told : Option (List (List ℕ))) → o ≢ None → content_after o told ≡ told
 told_then None told some = absurd (some refl)
@@ -25,7 +22,7 @@ module _ {D : Type 0} (holds : D → Option (List (List ℕ))) (core : ℕ) (p :
   abbrev Holds : Machine → D → Type 0
   Holds k d = HoldsSession holds core p (record { machine = k; device = d })
 
-  holds_then : (n : ℕ) (k k' : Machine) (d d' : D) → Leads holds n k k' d d' → Holds k d → Holds k' d'
+  holds_then : (n : ℕ) (k k' : Machine) (d d' : D) → TakesOn holds n k k' d d' → Holds k d → Holds k' d'
   holds_then n k k' d d' leads h =
       let first = (run_of p).session in
       let c = leads (holds d) (after k.tasks.made first) (says_self (holds d)) h.stands in
@@ -37,7 +34,7 @@ module _ {D : Type 0} (holds : D → Option (List (List ℕ))) (core : ℕ) (p :
         stands = subst (λ (o : Option (List (List ℕ))). StandsAt o k' (after k'.tasks.made first)) now (subst (StandsAt (content_after (holds d) (holds d')) k') there c.stands);
       }
 
-  follows_then : (k k' : Machine) (d d' : D) → Follows holds k k' d d' → Holds k d → Holds k' d'
+  follows_then : (k k' : Machine) (d d' : D) → IsOnward holds k k' d d' → Holds k d → Holds k' d'
   follows_then k k' d d' (by_a_step leads moves) h = holds_then 1 k k' d d' leads h
   follows_then k k' d d' (in_a_turn n leads same) h = holds_then n k k' d d' leads h
 

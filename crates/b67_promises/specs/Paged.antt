@@ -1,8 +1,8 @@
 -- That a run pages: at each step core and the device together hold the session of the model.
 use Rattle.std.specs.Prelude.{◌≡◌, ◌≢◌, ◌⊎◌, ℕ, List, ◌∷◌, length, Option, None, Err}
 use Rattle.b67_lemmas.specs.Lists.{Has}
-use Rattle.b67_model.specs.Common.{after, run_of}
-use Rattle.b67_job_admit.specs.Admitting.{Prepared, deck_prepared}
+use Rattle.b67_model.specs.Common.{after}
+use Rattle.b67_job_admit.specs.Admitting.{Prepared, run_of}
 use Rattle.b67_task_tables.specs.declared.tables.Machine.{Machine}
 use Rattle.b67_job.specs.Runs.{StandsAt, Between, MovesItsWants, HasPaged, Stop}
 

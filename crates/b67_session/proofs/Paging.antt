@@ -7,7 +7,7 @@ use Rattle.b67_law_sessions.proofs.TurnRuns.{Came, came-none, came-more}
 use Rattle.b67_task_tables.specs.declared.tables.Machine.{Machine}
 use Rattle.b67_session.specs.AttemptStops.{Stop}
 use Rattle.b67_session.proofs.Pausing.{known_still}
-use Rattle.b67_session.specs.Slices.{StandsAt, Keeps, Between, Leads, MovesItsWants, Follows, by_a_step, in_a_turn, HasPaged, PagesByStep, goes_well, stops_in}
+use Rattle.b67_session.specs.Slices.{StandsAt, Keeps, Between, TakesOn, MovesItsWants, IsOnward, by_a_step, in_a_turn, HasPaged, PagesByStep, goes_well, stops_in}
 use Rattle.b67_session.specs.Steps.{StepGives, Steps, GoesOnInTurn}
 
 -- a whole step is the one after the session
@@ -20,17 +20,17 @@ module _ {D : Type 0} (holds : D → Option (List (List ℕ))) where
   pub nothing_paged : (k : Machine) (d : D) → HasPaged holds k k d d
   nothing_paged k d = record { between = []; follow = (refl, refl) }
 
-  pub paged_then : (old mid new : Machine) (d e f : D) → HasPaged holds old mid d e → Follows holds mid new e f → HasPaged holds old new d f
+  pub paged_then : (old mid new : Machine) (d e f : D) → HasPaged holds old mid d e → IsOnward holds mid new e f → HasPaged holds old new d f
   paged_then old mid new d e f h link = record { between = record { machine = mid; device = e } ∷ h.between; follow = (link, h.follow) }
 
   -- a step that was made
   pub step_follows : {K : Type 0} (taken : K → Option (List ℕ)) (count : ℕ) (old new : Machine) (d e : D) (p q : K) (answered : Result (Unit {0}) Stop) → answered ≡ Ok tt → Keeps old new
       → ((told : Option (List (List ℕ))) → Says told (holds d) → told ≢ None → holds e ≢ None)
       → ((told : Option (List (List ℕ))) (s : Session) → Says told (holds d) → StandsAt told old s → Steps taken (content_after told (holds e)) (told ≢ None) count s answered old new p q)
-      → MovesItsWants holds answered old new d e → Follows holds old new d e
+      → MovesItsWants holds answered old new d e → IsOnward holds old new d e
   step_follows {K} taken count old new d e p q answered is keeps still row moves = by_a_step leads (subst (λ (a : Result (Unit {0}) Stop). MovesItsWants holds a old new d e) is moves)
     where
-      leads : Leads holds 1 old new d e
+      leads : TakesOn holds 1 old new d e
       leads told s says stands =
           let x = subst (λ (a : Result (Unit {0}) Stop). Steps taken (content_after told (holds e)) (told ≢ None) count s a old new p q) is (row told s says stands) in
           let (one, gives, there) = x.meets in
@@ -44,10 +44,10 @@ module _ {D : Type 0} (holds : D → Option (List (List ℕ))) where
           }
 
   -- and more steps of its turn
-  pub turn_follows : (steps : ℕ) (old new : Machine) (d : D) → Keeps old new → ((told : Option (List (List ℕ))) (s : Session) → StandsAt told old s → GoesOnInTurn told steps s old new) → Follows holds old new d d
+  pub turn_follows : (steps : ℕ) (old new : Machine) (d : D) → Keeps old new → ((told : Option (List (List ℕ))) (s : Session) → StandsAt told old s → GoesOnInTurn told steps s old new) → IsOnward holds old new d d
   turn_follows steps old new d keeps row = in_a_turn steps leads refl
     where
-      leads : Leads holds steps old new d d
+      leads : TakesOn holds steps old new d d
       leads told s says stands =
           let x = row told s stands in
           record {

@@ -194,7 +194,7 @@ pub record Between (D : Type 0) : Type 0 where
 
 -- so many steps were made of a session, in the same core. The machine represents the session after them, and it is known still what
 -- the device's sectors hold. `exact` is as above
-pub record ComesTo (told : Option (List (List ℕ))) (exact : Type 0) (steps : ℕ) (first : Session) (old new : Machine) : Type 0 where
+pub record ArrivesAt (told : Option (List (List ℕ))) (exact : Type 0) (steps : ℕ) (first : Session) (old new : Machine) : Type 0 where
   pub session : Session
   pub is : exact → after steps first ≡ session
   pub known : exact → told ≢ None
@@ -203,9 +203,9 @@ pub record ComesTo (told : Option (List (List ℕ))) (exact : Type 0) (steps : �
   pub core : length new.cpu.core ≡ length old.cpu.core
 
 -- so it is of each session that the machine represents over the device
-abbrev pub Leads : {D : Type 0} → (D → Option (List (List ℕ))) → ℕ → Machine → Machine → D → D → Type 0
-Leads holds steps old new device device' =
-    (told : Option (List (List ℕ))) (s : Session) → Says told (holds device) → StandsAt told old s → ComesTo (content_after told (holds device')) (told ≢ None) steps s old new
+abbrev pub TakesOn : {D : Type 0} → (D → Option (List (List ℕ))) → ℕ → Machine → Machine → D → D → Type 0
+TakesOn holds steps old new device device' =
+    (told : Option (List (List ℕ))) (s : Session) → Says told (holds device) → StandsAt told old s → ArrivesAt (content_after told (holds device')) (told ≢ None) steps s old new
 
 -- its next step was tried, and moved no more than it wants
 abbrev pub MovesItsWants : {A D : Type 0} → (D → Option (List (List ℕ))) → Result A Stop → Machine → Machine → D → D → Type 0
@@ -214,14 +214,14 @@ MovesItsWants holds answered old new device device' =
     → IfPresent holds (told ≢ None) (length old.cpu.core) 1 h.storage h.plan s m t answered old new device device'
 
 -- one step was made, which moved no more than it wants; or steps of a turn, without a call of the device
-pub data Follows {D : Type 0} (holds : D → Option (List (List ℕ))) (old new : Machine) (device device' : D) : Type 0 where
-  by_a_step : Leads holds 1 old new device device' → MovesItsWants {A = Unit {0}} holds (Ok tt) old new device device' → Follows holds old new device device'
-  in_a_turn : (steps : ℕ) → Leads holds steps old new device device' → device' ≡ device → Follows holds old new device device'
+pub data IsOnward {D : Type 0} (holds : D → Option (List (List ℕ))) (old new : Machine) (device device' : D) : Type 0 where
+  by_a_step : TakesOn holds 1 old new device device' → MovesItsWants {A = Unit {0}} holds (Ok tt) old new device device' → IsOnward holds old new device device'
+  in_a_turn : (steps : ℕ) → TakesOn holds steps old new device device' → device' ≡ device → IsOnward holds old new device device'
 
 -- each machine over its device follows from the one before; those between the first and the last are told from the last on
 abbrev pub FollowEach : {D : Type 0} → (D → Option (List (List ℕ))) → List (Between D) → Machine → Machine → D → D → Type 0
 FollowEach holds [] old new device device' = (new ≡ old) × (device' ≡ device)
-FollowEach holds (b ∷ before) old new device device' = Follows holds b.machine new b.device device' × FollowEach holds before old b.machine device b.device
+FollowEach holds (b ∷ before) old new device device' = IsOnward holds b.machine new b.device device' × FollowEach holds before old b.machine device b.device
 
 -- steps were made one by one, each over the core and the device that the one before left, and each moved no more than it wants
 pub record HasPaged {D : Type 0} (holds : D → Option (List (List ℕ))) (old new : Machine) (device device' : D) : Type 0 where

@@ -9,7 +9,7 @@ ghost use Rattle.b67_io.specs.Causes.{Stayed};
 ghost use Rattle.b67_law_sessions.specs.Turns.{IsNext};
 ghost use Rattle.b67_layout_storage.specs.Machine.{Says, content_after};
 ghost use Rattle.b67_session.specs.Complete.{SetsOut, Suffices};
-ghost use Rattle.b67_session.specs.Slices.{IsOpen, StandsAt, IsLimited, RepresentsWithoutTasks, Slices, IfPresent, PagesByStep, Resumes, StaysEnded};
+ghost use Rattle.b67_session.specs.Slices.{IsOpen, StandsAt, IsLimited, RepresentsWithoutTasks, Slices, IfPresent, Resumes, StaysEnded};
 ghost use Rattle.b67_session.specs.Shaped.{SliceLeaves};
 
 use crate::slices::{Progress, slice};
@@ -74,8 +74,6 @@ impl Session {
             → Slices K.taken (content_after told (B.holds backing.new)) (told ≢ None) (B.size backing.old) n s result self.old self.new paper.old paper.new }
         ensures present { (told : Option (List (List ℕ))) (s : schedule.Session) (m : SessionJob) (t : Task) → Says told (B.holds backing.old) → (h : StandsAt told self.old s) → IsNext s m t
             → IfPresent B.holds (told ≢ None) (length self.old.cpu.core) n h.storage h.plan s m t result self.old self.new backing.old backing.new }
-        ensures paged { (told : Option (List (List ℕ))) (s : schedule.Session) → Says told (B.holds backing.old) → StandsAt told self.old s
-            → PagesByStep B.holds result self.old self.new backing.old backing.new }
         ensures resumed { (told : Option (List (List ℕ))) (h : schedule.Session) (part : StepResult) → Says told (B.holds backing.old) → IsLimited told self.old h part
             → Resumes B.holds K.taken told (content_after told (B.holds backing.new)) (B.size backing.old) n h part result self.old self.new backing.old backing.new paper.old paper.new }
         ensures ended { (told : Option (List (List ℕ))) (s : schedule.Session) → RepresentsWithoutTasks told self.old s

@@ -5,8 +5,8 @@ ghost use Rattle.std.specs.Result.{IsOk};
 ghost use Rattle.b67_model.specs.State.{Task, SessionJob};
 ghost use Rattle.b67_model.specs.Schedule.{Session};
 ghost use Rattle.b67_io.specs.Causes.{Stayed};
-ghost use Rattle.b67_layout_storage.specs.Machine.{Says, DeviceAfterCalls, content_after};
-ghost use Rattle.b67_session.specs.AttemptPassed.{CallCauses, Keeps};
+ghost use Rattle.b67_layout_storage.specs.Machine.{Says, content_after};
+ghost use Rattle.b67_session.specs.Attempts.{TryLeaves};
 ghost use Rattle.b67_model.specs.Run.{StepResult};
 ghost use Rattle.b67_law_sessions.specs.Turns.{IsNext};
 ghost use Rattle.b67_session.specs.Complete.{SetsOut, Suffices};
@@ -61,9 +61,7 @@ fn go_on<B: Backing, K: Sink>(
     ensures paged { PagesByStep B.holds result machine.old machine.new backing.old backing.new }
     ensures ended { (told : Option (List (List ℕ))) (s : Session) → RepresentsWithoutTasks told machine.old s
         → StaysEnded result machine.old machine.new backing.old backing.new paper.old paper.new }
-    ensures causes { CallCauses B.faults K.faults backing.old backing.new paper.old paper.new result }
-    ensures kept { Keeps machine.old machine.new }
-    ensures device { DeviceAfterCalls B.holds B.size B.calls B.faults backing.old backing.new }
+    ensures leaves { TryLeaves B.holds B.size B.calls B.faults K.faults result machine.old machine.new backing.old backing.new paper.old paper.new }
 {
     let mut made = 0;
     let mut why = Step::Done;
@@ -126,8 +124,6 @@ pub fn slice<B: Backing, K: Sink>(
         → Slices K.taken (content_after told (B.holds backing.new)) (told ≢ None) (B.size backing.old) n s result machine.old machine.new paper.old paper.new }
     ensures present { (told : Option (List (List ℕ))) (s : Session) (m : SessionJob) (t : Task) → Says told (B.holds backing.old) → (h : StandsAt told machine.old s) → IsNext s m t
         → IfPresent B.holds (told ≢ None) (length machine.old.cpu.core) n h.storage h.plan s m t result machine.old machine.new backing.old backing.new }
-    ensures paged { (told : Option (List (List ℕ))) (s : Session) → Says told (B.holds backing.old) → StandsAt told machine.old s
-        → PagesByStep B.holds result machine.old machine.new backing.old backing.new }
     ensures resumed { (told : Option (List (List ℕ))) (h : Session) (part : StepResult) → Says told (B.holds backing.old) → IsLimited told machine.old h part
         → Resumes B.holds K.taken told (content_after told (B.holds backing.new)) (B.size backing.old) n h part result machine.old machine.new backing.old backing.new paper.old paper.new }
     ensures ended { (told : Option (List (List ℕ))) (s : Session) → RepresentsWithoutTasks told machine.old s

@@ -20,4 +20,4 @@ returns-clause-ran g c = λ said s says stands. record {
 }
 
 pub returns-clause-paged : goal.returns-clause-paged
-returns-clause-paged g c = λ said s says stands. (c.slice-answered.result, c.slice-answered.ensures.paged said s says stands)
+returns-clause-paged g c = λ said s says stands. (c.slice-answered.result, c.slice-answered.ensures.leaves.paged said s says stands)

@@ -27,7 +27,7 @@ returns-clause-gone g c = (
       (subst (λ (x : Result Progress Stop). FinishesRun g.K.Sink.taken g.K.Sink.faults closings.Image c.slice-answered.new.machine x c.slice-answered.new.paper c.finish.new.printer c.finish.result) c.halted_there.ensures c.finish.ensures)
       c.slice-answered.ensures.leaves.causes.device c.slice-answered.ensures.leaves.causes.printer.failed c.slice-answered.ensures.leaves.causes.printer.later
       c.slice-answered.ensures.leaves.served c.requires.sized c.slice-answered.ensures.leaves.goes_on c.slice-answered.ensures.row
-      (λ said s says stands. (c.slice-answered.result, c.slice-answered.ensures.paged said s says stands)),
+      (λ said s says stands. (c.slice-answered.result, c.slice-answered.ensures.leaves.paged said s says stands)),
   c.machine_is_typed.ensures,
 )
 

@@ -1,4 +1,4 @@
-use Rattle.std.proofs.Common.{◌≡◌, ◌≢◌, ◌≤◌, ℕ, ◌+◌, List, Option, Some, None, Result, Ok, Err, length, refl, sym, ◌∙◌, ap, subst, arith}
+use Rattle.std.proofs.Common.{rules, ◌≡◌, ◌≢◌, ◌≤◌, ℕ, ◌+◌, List, Option, Some, None, Result, Ok, Err, length, refl, sym, ◌∙◌, ap, subst, arith}
 use Rattle.b67_model.specs.Common.{Task, SessionJob, Session}
 use Rattle.b67_layout_storage.specs.Machine.{Says, content_after}
 use Rattle.b67_layout_storage.proofs.Devices.{Served-none, Served-then}
@@ -226,26 +226,24 @@ returns-in-Err-clause-present g c = λ said s m t says h next.
     (λ whole sum size e. whole sum size (c.in-Err.is ∙ ap Err (same_stop c.in-Err.stop (BackingFull sum size) e)))
     (λ sum size e. c.in-Err.is ∙ ap Err (same_stop c.in-Err.stop (BackingFull sum size) e))
 
-pub returns-in-Err-clause-kept : goal.returns-in-Err-clause-kept
-returns-in-Err-clause-kept g c = keeps g (goal.at.returns-in-Err-clause-kept g c).After-step
+pub returns-in-Some-clause-leaves : goal.returns-in-Some-clause-leaves
+returns-in-Some-clause-leaves g c = record { causes = search rules; kept = c.turn.invariant.keeps; served = c.turn.invariant.device }
 
-pub returns-in-Some-clause-kept : goal.returns-in-Some-clause-kept
-returns-in-Some-clause-kept g c = c.turn.invariant.keeps
+pub returns-in-Some-pause-clause-leaves : goal.returns-in-Some-pause-clause-leaves
+returns-in-Some-pause-clause-leaves g c = record { causes = search rules; kept = c.turn.invariant.keeps; served = c.turn.invariant.device }
 
-pub returns-in-Some-pause-clause-kept : goal.returns-in-Some-pause-clause-kept
-returns-in-Some-pause-clause-kept g c = c.turn.invariant.keeps
+pub returns-in-None-clause-leaves : goal.returns-in-None-clause-leaves
+returns-in-None-clause-leaves g c = record { causes = search rules; kept = c.turn.invariant.keeps; served = c.turn.invariant.device }
 
-pub returns-in-None-clause-kept : goal.returns-in-None-clause-kept
-returns-in-None-clause-kept g c = c.turn.invariant.keeps
-
-pub returns-in-Err-clause-causes : goal.returns-in-Err-clause-causes
-returns-in-Err-clause-causes g c =
-    stop_causes g.B.Backing.faults g.K.Sink.faults c.in-Err.stop c.step.result c.args.backing.now c.turn.backing c.step.new.backing c.args.paper.now c.turn.paper c.step.new.paper c.in-Err.is
-    c.turn.invariant.device.faults c.turn.invariant.later c.step.ensures.leaves.causes
-
-pub returns-in-Err-clause-device : goal.returns-in-Err-clause-device
-returns-in-Err-clause-device g c =
-    Served-then g.B.Backing.holds g.B.Backing.size g.B.Backing.calls g.B.Backing.faults c.args.backing.now c.turn.backing c.step.new.backing c.turn.invariant.device c.step.ensures.leaves.served
+pub returns-in-Err-clause-leaves : goal.returns-in-Err-clause-leaves
+returns-in-Err-clause-leaves g c = record {
+  causes =
+      stop_causes g.B.Backing.faults g.K.Sink.faults c.in-Err.stop c.step.result c.args.backing.now c.turn.backing c.step.new.backing c.args.paper.now c.turn.paper c.step.new.paper c.in-Err.is
+      c.turn.invariant.device.faults c.turn.invariant.later c.step.ensures.leaves.causes;
+  kept = keeps g (goal.at.returns-in-Err-clause-leaves g c).After-step;
+  served =
+      Served-then g.B.Backing.holds g.B.Backing.size g.B.Backing.calls g.B.Backing.faults c.args.backing.now c.turn.backing c.step.new.backing c.turn.invariant.device c.step.ensures.leaves.served;
+}
 
 pub returns-in-Some-clause-paged : goal.returns-in-Some-clause-paged
 returns-in-Some-clause-paged g c = goes_well refl c.turn.invariant.pages

@@ -34,9 +34,6 @@ returns-then-is_empty-clause-present g c = λ said s m t says h n. absurd (next_
 pub returns-then-is_empty-clause-resumed : goal.returns-then-is_empty-clause-resumed
 returns-then-is_empty-clause-resumed g c = λ said h part says l. absurd (limited_row said c.args.machine.now h part l (empty_rows c.args.machine.now.tasks c.if-is_empty.ensures))
 
-pub returns-then-is_empty-clause-paged : goal.returns-then-is_empty-clause-paged
-returns-then-is_empty-clause-paged g c = λ said s says h. goes_well refl (nothing_paged g.B.Backing.holds c.args.machine.now c.args.backing.now)
-
 -- ---- a step, if any
 
 pub go_on-requires-clause-begins : goal.go_on-requires-clause-begins
@@ -52,8 +49,8 @@ pub returns-then-not-is_at_limit-clause-complete : goal.returns-then-not-is_at_l
 returns-then-not-is_at_limit-clause-complete g c = λ said s tells says sets ample calm quiet.
     completes g.B.Backing.holds g.K.Sink.taken said (content_after said (g.B.Backing.holds c.go_on.new.backing)) (g.B.Backing.size c.args.backing.now) c.args.n c.go_on.result c.args.machine.now c.go_on.new.machine
     c.args.backing.now c.go_on.new.backing c.args.paper.now c.go_on.new.paper
-    (λ s h. c.go_on.ensures.row said s says h) (λ h part l. returns-then-not-is_at_limit-clause-resumed g c said h part says l) c.go_on.ensures.kept tells s sets ample
-    (no_fault g.B.Backing.faults g.K.Sink.faults c.args.backing.now c.go_on.new.backing c.args.paper.now c.go_on.new.paper c.go_on.result c.go_on.ensures.causes calm quiet)
+    (λ s h. c.go_on.ensures.row said s says h) (λ h part l. returns-then-not-is_at_limit-clause-resumed g c said h part says l) c.go_on.ensures.leaves.kept tells s sets ample
+    (no_fault g.B.Backing.faults g.K.Sink.faults c.args.backing.now c.go_on.new.backing c.args.paper.now c.go_on.new.paper c.go_on.result c.go_on.ensures.leaves.causes calm quiet)
 
 -- ---- the lines of LIMIT
 
@@ -87,15 +84,6 @@ returns-in-Ok-clause-row g c = λ said s says h. absurd (stands_not said c.args.
 pub returns-in-Ok-clause-present : goal.returns-in-Ok-clause-present
 returns-in-Ok-clause-present g c = λ said s m t says h n. absurd (stands_not said c.args.machine.now s h c.is_at_limit.ensures c.if-not-is_at_limit.false)
 
-pub returns-then-not-is_at_limit-clause-paged : goal.returns-then-not-is_at_limit-clause-paged
-returns-then-not-is_at_limit-clause-paged g c = λ said s says h. c.go_on.ensures.paged
-
-pub returns-in-Ok-clause-paged : goal.returns-in-Ok-clause-paged
-returns-in-Ok-clause-paged g c = λ said s says h. absurd (stands_not said c.args.machine.now s h c.is_at_limit.ensures c.if-not-is_at_limit.false)
-
-pub returns-in-Err-clause-paged : goal.returns-in-Err-clause-paged
-returns-in-Err-clause-paged g c = λ said s says h. absurd (stands_not said c.args.machine.now s h c.is_at_limit.ensures c.if-not-is_at_limit.false)
-
 pub returns-in-Ok-clause-resumed : goal.returns-in-Ok-clause-resumed
 returns-in-Ok-clause-resumed g c = λ said h part says l.
     (let ends = c.in-Ok.ensures.ends l.storage said l.plan h part l.ordered l.is l.stands in
@@ -119,11 +107,11 @@ returns-in-Ok-clause-ended g c = λ said s r. absurd (rests_not said c.args.mach
 
 pub returns-in-Ok-clause-complete : goal.returns-in-Ok-clause-complete
 returns-in-Ok-clause-complete g c = λ said s tells says sets ample calm quiet.
-    (let causes = c.go_on-in-Ok.ensures.causes in
+    (let causes = c.go_on-in-Ok.ensures.leaves.causes in
     let later = c.in-Ok.ensures.cause.later in
     completes g.B.Backing.holds g.K.Sink.taken said (content_after said (g.B.Backing.holds c.go_on-in-Ok.new.backing)) (g.B.Backing.size c.args.backing.now) c.args.n c.go_on-in-Ok.result c.args.machine.now c.go_on-in-Ok.new.machine
     c.args.backing.now c.go_on-in-Ok.new.backing c.args.paper.now c.go_on-in-Ok.new.paper
-    (λ s h. absurd (stands_not said c.args.machine.now s h c.is_at_limit.ensures c.if-not-is_at_limit.false)) (λ h part l. returns-in-Ok-clause-resumed g c said h part says l) (keeps_then c.args.machine.now c.end_by_limit.new.machine c.go_on-in-Ok.new.machine c.end_by_limit.ensures.keeps c.go_on-in-Ok.ensures.kept) tells s sets ample
+    (λ s h. absurd (stands_not said c.args.machine.now s h c.is_at_limit.ensures c.if-not-is_at_limit.false)) (λ h part l. returns-in-Ok-clause-resumed g c said h part says l) (keeps_then c.args.machine.now c.end_by_limit.new.machine c.go_on-in-Ok.new.machine c.end_by_limit.ensures.keeps c.go_on-in-Ok.ensures.leaves.kept) tells s sets ample
     (λ e. (let rose = causes.device e in omega (arith, rose, calm)), λ e. (let rose = causes.printer.failed e in omega (arith, later, rose, quiet))))
 
 pub returns-in-Err-clause-row : goal.returns-in-Err-clause-row
@@ -154,19 +142,21 @@ returns-then-is_empty-clause-leaves g c =
       causes = search rules;
       keeps = search rules;
       served = Served-none g.B.Backing.holds g.B.Backing.size g.B.Backing.calls g.B.Backing.faults c.args.backing.now;
+      paged = λ said s says h. goes_well refl (nothing_paged g.B.Backing.holds c.args.machine.now c.args.backing.now);
     }
 
 pub returns-then-not-is_at_limit-clause-leaves : goal.returns-then-not-is_at_limit-clause-leaves
 returns-then-not-is_at_limit-clause-leaves g c =
     let goes_on = (let l = open_stands (g.B.Backing.holds c.args.backing.now) c.args.machine.now c.requires.open (some_rows c.args.machine.now.tasks c.if-is_empty.ensures) c.is_at_limit.ensures c.if-not-is_at_limit.true in
     open_again g.K.Sink.taken (content_after l.said (g.B.Backing.holds c.go_on.new.backing)) (g.B.Backing.holds c.go_on.new.backing) (l.said ≢ None) (g.B.Backing.size c.args.backing.now) c.args.n l.session c.go_on.result
-    c.args.machine.now c.go_on.new.machine c.args.paper.now c.go_on.new.paper (says_retold l.said (g.B.Backing.holds c.go_on.new.backing)) (countable_kept c.args.machine.now c.go_on.new.machine c.go_on.ensures.kept c.requires.open.countable) (c.go_on.ensures.row l.said l.session l.says l.stands)) in
+    c.args.machine.now c.go_on.new.machine c.args.paper.now c.go_on.new.paper (says_retold l.said (g.B.Backing.holds c.go_on.new.backing)) (countable_kept c.args.machine.now c.go_on.new.machine c.go_on.ensures.leaves.kept c.requires.open.countable) (c.go_on.ensures.row l.said l.session l.says l.stands)) in
     record {
       goes_on = goes_on;
       shaped = shaped _ _ goes_on;
-      causes = c.go_on.ensures.causes;
-      keeps = c.go_on.ensures.kept;
-      served = c.go_on.ensures.device;
+      causes = c.go_on.ensures.leaves.causes;
+      keeps = c.go_on.ensures.leaves.kept;
+      served = c.go_on.ensures.leaves.served;
+      paged = λ said s says h. c.go_on.ensures.paged;
     }
 
 pub returns-in-Ok-clause-leaves : goal.returns-in-Ok-clause-leaves
@@ -175,13 +165,14 @@ returns-in-Ok-clause-leaves g c =
     let q = l.limited in
     let stands = over_stands l.said l.session l.part c.args.machine.now q g.K.Sink.taken c.end_by_limit.new.machine c.args.paper.now c.end_by_limit.new.paper (c.in-Ok.ensures.ends q.storage l.said q.plan l.session l.part q.ordered q.is q.stands) in
     open_again g.K.Sink.taken (content_after l.said (g.B.Backing.holds c.go_on-in-Ok.new.backing)) (g.B.Backing.holds c.go_on-in-Ok.new.backing) (l.said ≢ None) (g.B.Backing.size c.args.backing.now) c.args.n l.part.session c.go_on-in-Ok.result
-    c.end_by_limit.new.machine c.go_on-in-Ok.new.machine c.end_by_limit.new.paper c.go_on-in-Ok.new.paper (says_retold l.said (g.B.Backing.holds c.go_on-in-Ok.new.backing)) (countable_kept c.end_by_limit.new.machine c.go_on-in-Ok.new.machine c.go_on-in-Ok.ensures.kept (subst (λ (z : Tasks). AreCountable z.jobs) (sym c.end_by_limit.ensures.tasks) c.requires.open.countable)) (c.go_on-in-Ok.ensures.row l.said l.part.session l.says stands)) in
+    c.end_by_limit.new.machine c.go_on-in-Ok.new.machine c.end_by_limit.new.paper c.go_on-in-Ok.new.paper (says_retold l.said (g.B.Backing.holds c.go_on-in-Ok.new.backing)) (countable_kept c.end_by_limit.new.machine c.go_on-in-Ok.new.machine c.go_on-in-Ok.ensures.leaves.kept (subst (λ (z : Tasks). AreCountable z.jobs) (sym c.end_by_limit.ensures.tasks) c.requires.open.countable)) (c.go_on-in-Ok.ensures.row l.said l.part.session l.says stands)) in
     record {
       goes_on = goes_on;
       shaped = shaped _ _ goes_on;
       causes = search rules;
-      keeps = keeps_then c.args.machine.now c.end_by_limit.new.machine c.go_on-in-Ok.new.machine c.end_by_limit.ensures.keeps c.go_on-in-Ok.ensures.kept;
-      served = c.go_on-in-Ok.ensures.device;
+      keeps = keeps_then c.args.machine.now c.end_by_limit.new.machine c.go_on-in-Ok.new.machine c.end_by_limit.ensures.keeps c.go_on-in-Ok.ensures.leaves.kept;
+      served = c.go_on-in-Ok.ensures.leaves.served;
+      paged = λ said s says h. absurd (stands_not said c.args.machine.now s h c.is_at_limit.ensures c.if-not-is_at_limit.false);
     }
 
 pub returns-in-Err-clause-leaves : goal.returns-in-Err-clause-leaves
@@ -198,4 +189,5 @@ returns-in-Err-clause-leaves g c =
       causes = search rules;
       keeps = c.end_by_limit.ensures.keeps;
       served = Served-none g.B.Backing.holds g.B.Backing.size g.B.Backing.calls g.B.Backing.faults c.args.backing.now;
+      paged = λ said s says h. absurd (stands_not said c.args.machine.now s h c.is_at_limit.ensures c.if-not-is_at_limit.false);
     }

@@ -6,9 +6,6 @@ returns-clause-row g c = rw (← c.self.view_is) c.slice.ensures.row
 pub returns-clause-present : goal.returns-clause-present
 returns-clause-present g c = rw (← c.self.view_is) c.slice.ensures.present
 
-pub returns-clause-paged : goal.returns-clause-paged
-returns-clause-paged g c = rw (← c.self.view_is) c.slice.ensures.paged
-
 pub returns-clause-resumed : goal.returns-clause-resumed
 returns-clause-resumed g c = rw (← c.self.view_is) c.slice.ensures.resumed
 
