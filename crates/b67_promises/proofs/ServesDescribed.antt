@@ -1,5 +1,5 @@
 -- What a call of the program prints and answers, as the machine of the model has it.
-use Rattle.std.proofs.Common.{◌≡◌, ◌≢◌, ◌≤◌, ◌+◌, ℕ, List, [], length, take, refl, sym, ap, subst, ◌∙◌, Option, Some, None, Ok}
+use Rattle.std.proofs.Common.{◌≡◌, ◌≢◌, ◌≤◌, ◌+◌, inl, arith, ℕ, List, [], length, take, refl, sym, ap, subst, ◌∙◌, Option, Some, None, Ok}
 use Rattle.std.proofs.lemmas.Option.{same_Some, none-some}
 use denote.Ref.{Bor}
 use Rattle.b67_io.specs.Told.{Took}
@@ -9,17 +9,22 @@ use Rattle.b67_session_lines.specs.Ends.{EndsPrinting, all_printed, cut_off}
 use Rattle.b67_job.specs.Command.{command_line_of, backing_path}
 use Rattle.b67_job.specs.Device.{Device, DeviceTells, device_of}
 use Rattle.b67_job.specs.Due.{reading_text}
-use Rattle.b67_job.specs.Judgement.{text_limit}
+use Rattle.b67_job.specs.Judgement.{text_limit, judgement}
 use Rattle.b67_job.specs.Lines.{memory_text}
 use Rattle.b67_program.specs.Input.{IsTakenIn}
-use Rattle.b67_program.specs.Opening.{Finds}
+use Rattle.b67_program.specs.Opening.{Finds, Leaves}
 use Rattle.b67_program.specs.Served.{IsCarriedOut, IsAnswered, carried_out, reading_failed, text_wants_memory, IsServed, over_file, over_memory, sectors_want_memory}
 use Rattle.b67_promises.specs.Described as described
 use Rattle.b67_promises.specs.Described.{IsRunCommand, IsAnsweredSo, IsDueOf, PrintsOverFile}
 use Rattle.b67_promises.proofs.CallsDescribed.{run_asks, call_is, longer}
+use Rattle.b67_job_admit.specs.Admitting.{Prepared, deck_prepared}
+use Rattle.b67_promises.specs.Paging.{IsWhole, FileIsTold}
+use Rattle.b67_promises.specs.Paged.{PagesAllTheWay, PagesOverFile}
+use Rattle.b67_promises.proofs.Calls.{short_at}
+use Rattle.b67_promises.proofs.MoreCore.{whole_run}
+use Rattle.b67_promises.proofs.Paged.{whole_pages}
 use Rattle.b67_promises.proofs.RunWords.{run_command, run_path, first_is_run}
-use Rattle.b67_promises.specs.Paging.{FileIsTold}
-use Rattle.b67_promises.proofs.Serves.{all_read, named_tells}
+use Rattle.b67_promises.proofs.Serves.{all_read, found_tells, named_tells}
 
 module _ {S K : Type 0} (words : List (Bor (List ℕ))) (core : ℕ) (w : IsRunCommand core words) (left : S → Option (List ℕ)) (source_faults : S → ℕ) (input input' : S) (taken : K → Option (List ℕ)) (faults : K → ℕ) (old new : K) (answer : ℕ)
     (bytes : List ℕ) (told : left input ≡ Some bytes) (few : length bytes ≤ limit + 1) where
@@ -59,3 +64,27 @@ module _ {S K : Type 0} (words : List (Bor (List ℕ))) (core : ℕ) (w : IsRunC
       let tells = named_tells kept holds now (backing_path words) (subst (FileIsTold kept now) (sym (run_path core words w)) known) in
       let x = serve_told holds size broken (Finds kept holds now) leaves tells served in
       record { file = x.0; found = x.1; text = x.2.0; printed = x.2.1; so = x.2.2 }
+
+  -- one that ends with 0 or 3 has paged all the way
+  over_whole : {B : Type 0} (d : Device B) → DeviceTells d → IsWhole answer → IsAnswered words left source_faults input input' d taken faults old new answer → (p : Prepared) × (deck_prepared bytes ≡ Ok p) × PagesAllTheWay d.holds core p d.new
+  over_whole d tells whole (carried_out r) =
+      let is = run_command core words w in
+      let most : text_limit (command_line_of words) ≡ Some limit = ap text_limit is in
+      let same : bytes ≡ r.bytes = all_read words (first_is_run core words w) left source_faults input input' taken faults old new answer bytes told few r.bytes (subst (λ (o : Option ℕ). IsTakenIn o left source_faults input input' (Ok r.bytes)) most r.given) in
+      let asks = run_asks words free_told r.deck r.deck_after core bytes w (ap Some (r.holds ∙ sym same)) in
+      whole_pages words free_told r.deck r.deck_after d core bytes asks tells (whole_run tells (judgement bytes) None answer asks.asks whole r.due)
+  over_whole d tells whole (reading_failed reads rose kept (all_printed a took)) = absurd (short_at answer 7 a (inl (omega arith)) whole)
+  over_whole d tells whole (reading_failed reads rose kept (cut_off a failed part)) = absurd (short_at answer 8 a (inl (omega arith)) whole)
+  over_whole d tells whole (text_wants_memory reads kept (all_printed a took)) = absurd (short_at answer 9 a (inl (omega arith)) whole)
+  over_whole d tells whole (text_wants_memory reads kept (cut_off a failed part)) = absurd (short_at answer 8 a (inl (omega arith)) whole)
+
+  pub serve_pages : {R B : Type 0} (kept : R → List ℕ → Option (List (List ℕ))) (holds : B → Option (List (List ℕ))) (size broken : B → ℕ) (now later : R) → kept now w.path ≢ None → IsWhole answer
+      → IsServed words left source_faults input input' (Finds kept holds now) (Leaves kept holds later) (device_of holds size broken) taken faults old new answer
+      → PagesOverFile kept holds now later w.path core bytes
+  serve_pages kept holds size broken now later known whole (over_file path file file' is found left_so a) =
+      let same = same_Some path w.path (sym is ∙ run_path core words w) in
+      let found' = subst (λ (q : List ℕ). Finds kept holds now q file) same found in
+      let pages = over_whole (device_of holds size broken file file') (found_tells kept holds now w.path file known found') whole a in
+      record { file = file; found = found'; file_after = file'; left = subst (λ (q : List ℕ). Leaves kept holds later q file') same left_so; p = pages.0; prepared = pages.1; paged = pages.2 }
+  serve_pages kept holds size broken now later known whole (over_memory held held' none zeros reads writes calm a) = absurd (none-some w.path (sym none ∙ run_path core words w))
+  serve_pages kept holds size broken now later known whole (sectors_want_memory none ends) = absurd (none-some w.path (sym none ∙ run_path core words w))
