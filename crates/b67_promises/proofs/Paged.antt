@@ -57,7 +57,7 @@ all_the_way {B} d core p k tells x = by_pages x.steps.1
     begins : HoldsSession d.holds core p (record { machine = x.opened; device = x.device })
     begins = record {
       core_size = x.core_size;
-      tells = subst (λ (o : Option (List (List ℕ))). o ≢ None) now (x.known tells);
+      tells = x.known tells;
       stands = subst (λ (o : Option (List (List ℕ))). StandsAt o x.opened (after x.opened.tasks.made (run_of p).session)) now
           (subst (λ (n : ℕ). StandsAt (content_after d.before (d.holds x.device)) x.opened (after n (run_of p).session)) (sym x.none_made) x.stands);
     }
