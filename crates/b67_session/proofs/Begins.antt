@@ -1,17 +1,18 @@
 -- The first operator of a turn, alone or with others behind it.
-use Rattle.std.proofs.Common.{◌≡◌, ◌≢◌, ℕ, ◌+◌, ◌-◌, ◌≤◌, refl, sym, ◌∙◌, subst, arith, inl, inr}
+use Rattle.std.proofs.Common.{◌≡◌, ◌≢◌, List, [], ◌∷◌, ◌++◌, length, ℕ, ◌+◌, ◌-◌, ◌≤◌, refl, sym, ◌∙◌, subst, arith, inl, inr}
 use Rattle.std.proofs.lemmas.Bool.{cases_lt}
+use Rattle.std.proofs.lemmas.List.{length-append}
 use Rattle.b67_stack.specs.declared.Cpu.{Cpu}
 use Rattle.b67_stack.specs.declared.Step.{Step}
 use Rattle.b67_stack.specs.declared.Step.TheVariants.{Done}
 use Rattle.b67_exec.specs.Near.{StopsHere}
 use Rattle.b67_task_tables.specs.declared.tables.Machine.{Machine}
 use Rattle.b67_task_tables.specs.Runs.{RunsTask}
-use Rattle.b67_session.specs.Makes.{MakesOne}
+use Rattle.b67_session.specs.Makes.{MakesOne, MakesEach}
 use Rattle.b67_session.specs.InTurn.{BeginsWith, SaysWhyFewer}
 
 pub begins_none : (made : ℕ) (k : Machine) → made ≡ 0 → BeginsWith made k k
-begins_none made k e = record { none = λ z. refl; one = λ z. absurd (omega (arith, e, z)) }
+begins_none made k e = record { none = λ z. refl; one = λ z. absurd (omega (arith, e, z)); between = []; count = sym e; each = refl }
 
 pub begins_as : (made other : ℕ) (old new : Machine) → other ≡ made → BeginsWith made old new → BeginsWith other old new
 begins_as made other old new e b = subst (λ (n : ℕ). BeginsWith n old new) (sym e) b
@@ -24,7 +25,14 @@ pub begins_more : (made more : ℕ) (old now tried new : Machine) → more ≡ m
 begins_more made more old now tried new e same h b = record {
   none = λ z. absurd (omega (arith, e, z));
   one = λ z. let first : tried ≡ old = same ∙ b.none (omega (arith, e, z)) in subst (λ (k : Machine). MakesOne k new) first h;
+  between = now ∷ b.between;
+  count = let few = b.count in omega (arith, few, e);
+  each = (subst (λ (k : Machine). MakesOne k new) same h, b.each);
 }
+
+each_then : (ys xs : List Machine) (old now new : Machine) → MakesEach xs old now → MakesEach ys now new → MakesEach (ys ++ xs) old new
+each_then [] xs old now new h same = subst (MakesEach xs old) (sym same) h
+each_then (k ∷ ys) xs old now new h (one, more) = (one, each_then ys xs old now k h more)
 
 -- two parts of a turn
 pub begins_then : (made more : ℕ) (old now new : Machine) → BeginsWith made old now → BeginsWith more now new → BeginsWith (made + more) old new
@@ -34,6 +42,9 @@ begins_then made more old now new b c = record {
     | inl some ↦ subst (λ (k : Machine). MakesOne old k) (sym (c.none (omega (arith, z, some)))) (b.one (omega (arith, z, some)))
     | inr none ↦ subst (λ (k : Machine). MakesOne k new) (b.none (omega (arith, none))) (c.one (omega (arith, z, none)))
   ];
+  between = c.between ++ b.between;
+  count = let few = b.count in let others = c.count in omega (arith, length-append c.between b.between, few, others);
+  each = each_then c.between b.between old now new b.each c.each;
 }
 
 -- a task runs before each operator of a turn: before the first one, and then while the turn lasts

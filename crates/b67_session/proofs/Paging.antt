@@ -8,7 +8,7 @@ use Rattle.b67_task_tables.specs.declared.tables.Machine.{Machine}
 use Rattle.b67_session.specs.AttemptStops.{Stop}
 use Rattle.b67_session.proofs.Pausing.{known_still}
 use Rattle.b67_session.specs.Slices.{StandsAt, Keeps, Between, TakesOn, MovesItsWants, IsOnward, by_a_step, in_a_turn, HasPaged, PagesByStep, goes_well, stops_in}
-use Rattle.b67_session.specs.Steps.{StepGives, Steps, GoesOnInTurn}
+use Rattle.b67_session.specs.Steps.{StepGives, Steps, MadeInOrder, GoesOnInTurn}
 
 -- a whole step is the one after the session
 one_after : (s was next : Session) (printed : List RunLine) → was ≡ s → StepGives was next printed → after 1 s ≡ next
@@ -44,8 +44,8 @@ module _ {D : Type 0} (holds : D → Option (List (List ℕ))) where
           }
 
   -- and more steps of its turn
-  pub turn_follows : (steps : ℕ) (old new : Machine) (d : D) → Keeps old new → ((told : Option (List (List ℕ))) (s : Session) → StandsAt told old s → GoesOnInTurn told steps s old new) → IsOnward holds old new d d
-  turn_follows steps old new d keeps row = in_a_turn steps leads refl
+  pub turn_follows : (steps : ℕ) (old new : Machine) (d : D) → Keeps old new → MadeInOrder steps old new → ((told : Option (List (List ℕ))) (s : Session) → StandsAt told old s → GoesOnInTurn told steps s old new) → IsOnward holds old new d d
+  turn_follows steps old new d keeps made row = in_a_turn made.between made.last made.each made.counted (subst (λ (n : ℕ). TakesOn holds n old new d d) (sym made.count) leads) refl
     where
       leads : TakesOn holds steps old new d d
       leads told s says stands =

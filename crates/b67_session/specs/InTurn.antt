@@ -12,7 +12,7 @@ use Rattle.b67_task_tables.specs.Runs.{RunsTask}
 use Rattle.b67_task_tables.specs.Tables.{MachineRepresents}
 use Rattle.b67_task_switch.specs.Counted.{counted_by, counted_more}
 use Rattle.b67_task_switch.specs.Lasting.{Lasts, TurnLasts}
-use Rattle.b67_session.specs.Makes.{MakesOne}
+use Rattle.b67_session.specs.Makes.{MakesOne, MakesEach}
 use Rattle.b67_session.specs.Slices.{StepsFit}
 
 -- the machine represents some session in order, of which the last task has so many operators of its turn left
@@ -64,10 +64,14 @@ pub record MadeInTurn (told : Option (List (List ℕ))) (steps : ℕ) (first : S
   pub plan : Placement
   pub stands : MachineRepresents storage told k plan bare
 
--- so many operators were made: if none was, nothing has changed, and if one was, it is the one at the running place
+-- so many operators were made, one after the other: if none was, nothing has changed, and if one was, it is the one at the running
+-- place
 pub record BeginsWith (made : ℕ) (old new : Machine) : Type 0 where
   pub none : made ≡ 0 → new ≡ old
   pub one : made ≡ 1 → MakesOne old new
+  pub between : List Machine
+  pub count : length between ≡ made
+  pub each : MakesEach between old new
 
 -- operators may be made, up to so many, and not none: a task runs, and if they are more than one, its turn goes on with them
 pub record MayMake (k : Machine) (most : ℕ) : Type 0 where

@@ -1,6 +1,6 @@
 -- What making the operator at the running place answers, and the machine that it leaves once a left activation record's
 -- arrays were given back.
-use Rattle.std.specs.Prelude.{◌≡◌, ℕ, ◌+◌, ◌⊎◌, true, List, [], Option, Some, None, Ok, Err, slice_get}
+use Rattle.std.specs.Prelude.{◌≡◌, ℕ, ◌+◌, ◌⊎◌, true, List, [], ◌∷◌, Option, Some, None, Ok, Err, slice_get}
 use Rattle.b67_area.specs.Spans.{InHole}
 use Rattle.b67_model.specs.Common.{Ready, Task, Job, SessionJob, Goes, Leaves, reading_of, step, Session}
 use Rattle.b67_stack.specs.declared.What.TheVariants as what
@@ -61,3 +61,9 @@ ForEachReady k P = ForEachRun k (λ x told plan s m t. t.condition ≡ Ready →
 -- the operator at the running place was made
 abbrev pub MakesOne : Machine → Machine → Type 0
 MakesOne old new = ForEachReady old (λ x told plan s m t. MakesInSegment x told plan s m t answers.Done old new)
+
+-- Operators were made one after the other, as each row makes them; those between the first and the last machine are told from the
+-- last on
+abbrev pub MakesEach : List Machine → Machine → Machine → Type 0
+MakesEach [] old new = new ≡ old
+MakesEach (k ∷ before) old new = MakesOne k new × MakesEach before old k

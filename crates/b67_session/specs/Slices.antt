@@ -23,6 +23,7 @@ pub use Rattle.b67_task_tables.specs.Runs.{Keeps}
 use Rattle.b67_session.specs.AttemptPassed.{AreCountable, IsShortAt, CallsDevice}
 use Rattle.b67_session.specs.Attempts.{IsLacking, WantsNothing, HoleFits, IsAtHand, UsesHole, KeepsAreas, AddsNoArea, CodeFits, TellsAfter, TellsSectors}
 use Rattle.b67_session.specs.AttemptStops.{Stop}
+use Rattle.b67_session.specs.Makes.{MakesEach}
 use Rattle.b67_session.specs.AttemptStops as stops
 use Rattle.b67_session_ends.specs.Ends.{StandsForSession, LeavesInPlace}
 pub use Rattle.b67_session_ends.specs.Machines.{StandsAt, IsLimited, RepresentsWithoutTasks}
@@ -213,10 +214,12 @@ MovesItsWants holds answered old new device device' =
     (told : Option (List (List ℕ))) (s : Session) (m : SessionJob) (t : Task) → Says told (holds device) → (h : StandsAt told old s) → IsNext s m t
     → IfPresent holds (told ≢ None) (length old.cpu.core) 1 h.storage h.plan s m t answered old new device device'
 
--- one step was made, which moved no more than it wants; or steps of a turn, without a call of the device
+-- One step was made, which moved no more than it wants. Or operators of a turn were made one after the other, each as its row makes
+-- it, with what it touches in core; these are steps, they were counted then, and the device wasn't called
 pub data IsOnward {D : Type 0} (holds : D → Option (List (List ℕ))) (old new : Machine) (device device' : D) : Type 0 where
   by_a_step : TakesOn holds 1 old new device device' → MovesItsWants {A = Unit {0}} holds (Ok tt) old new device device' → IsOnward holds old new device device'
-  in_a_turn : (steps : ℕ) → TakesOn holds steps old new device device' → device' ≡ device → IsOnward holds old new device device'
+  in_a_turn : (between : List Machine) (made : Machine) → MakesEach between old made → new ≡ record made { tasks = new.tasks }
+      → TakesOn holds (length between) old new device device' → device' ≡ device → IsOnward holds old new device device'
 
 -- each machine over its device follows from the one before; those between the first and the last are told from the last on
 abbrev pub FollowEach : {D : Type 0} → (D → Option (List (List ℕ))) → List (Between D) → Machine → Machine → D → D → Type 0

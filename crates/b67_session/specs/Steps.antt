@@ -12,6 +12,7 @@ use Rattle.b67_word.specs.declared.faults.Failed.{Failed}
 use Rattle.b67_session_ends.specs.Ends.{Finishes}
 use Rattle.b67_task_switch.specs.Lasting.{BeforeHalt}
 use Rattle.b67_task_switch.specs.declared.counting.Chosen.{Chosen}
+use Rattle.b67_session.specs.Makes.{MakesEach}
 use Rattle.b67_session.specs.Slices.{StandsAt, Prints, PrintsWhole, NextFits, StepsFit, SliceMeets}
 
 -- the task that was chosen, of these parts
@@ -79,6 +80,14 @@ pub record IsInOrderFor (k : Machine) : Type 0 where
   pub session : Session
   pub stands : StandsAt said k session
 
+-- operators of a turn were made one after the other, and then counted
+pub record MadeInOrder (made : ℕ) (old new : Machine) : Type 0 where
+  pub between : List Machine
+  pub count : length between ≡ made
+  pub last : Machine
+  pub each : MakesEach between old last
+  pub counted : new ≡ record last { tasks = new.tasks }
+
 -- so many operators of a turn were made, of those that were asked for: none where none was. The turn is longer by them, and where all
 -- were made there is no other reason why it stops
 pub record CountsTurn (asked made : ℕ) (old new : Machine) (before after : Step) : Type 0 where
@@ -86,6 +95,7 @@ pub record CountsTurn (asked made : ℕ) (old new : Machine) (before after : Ste
   pub rests : asked ≡ 0 → new ≡ old
   pub turn : new.tasks.turn ≡ old.tasks.turn + made
   pub all : made ≡ asked → after ≡ before
+  pub order : MadeInOrder made old new
 
 -- so many steps lead from a session to another, and a run that comes to the first one prints no more in them; core had the words
 -- that they need, and the halt wasn't reached before them

@@ -144,7 +144,7 @@ turn-preserved g c =
           (λ told says. still_told g.B.Backing.holds g.B.Backing.size g.B.Backing.calls g.B.Backing.faults c.turn.backing c.step.new.backing told says c.step.ensures.leaves.served)
           c.step.ensures.row c.step.ensures.present) in
           paged_then g.B.Backing.holds c.args.machine.now c.step.new.machine c.go_on_with_turn.new.machine c.args.backing.now c.step.new.backing c.step.new.backing first
-          (turn_follows g.B.Backing.holds more c.step.new.machine c.go_on_with_turn.new.machine c.step.new.backing c.go_on_with_turn.ensures.keeps c.go_on_with_turn.ensures.row);
+          (turn_follows g.B.Backing.holds more c.step.new.machine c.go_on_with_turn.new.machine c.step.new.backing c.go_on_with_turn.ensures.keeps c.go_on_with_turn.ensures.counts.order c.go_on_with_turn.ensures.row);
       quiet = λ said s m t h says next few wants.
           (made_present g a said s says h m t next is (omega arith)).quiet few wants;
       written = λ said s m t h says next tells few fits none.

@@ -1,4 +1,4 @@
-use Rattle.std.proofs.Common.{◌-◌, ◌+◌, length, refl, sym, ap, ◌∙◌, subst, arith}
+use Rattle.std.proofs.Common.{[], ◌-◌, ◌+◌, length, refl, sym, ap, ◌∙◌, subst, arith}
 use Rattle.b67_task_tables.specs.declared.tables.Tasks.{Tasks}
 use Rattle.b67_task_tables.specs.Tables.{given_of}
 use Rattle.b67_task_tables.proofs.Keeping.{rows_put, given_put}
@@ -68,7 +68,7 @@ pub returns-clause-stops : goal.returns-clause-stops
 returns-clause-stops c = λ other. why_here c.turn_room-room.result c.make_in_turn-made.result c.make_in_turn-made.new.machine.cpu c.args.why.now c.make_in_turn-made.new.why c.make_in_turn-made.ensures.few c.requires.done c.make_in_turn-made.ensures.why other
 
 pub returns-then-room-eq0-clause-counts : goal.returns-then-room-eq0-clause-counts
-returns-then-room-eq0-clause-counts c = record { few = omega arith; rests = λ none. refl; turn = omega arith; all = λ e. refl }
+returns-then-room-eq0-clause-counts c = record { few = omega arith; rests = λ none. refl; turn = omega arith; all = λ e. refl; order = record { between = []; count = refl; last = c.args.machine.now; each = refl; counted = refl } }
 
 pub returns-clause-counts : goal.returns-clause-counts
 returns-clause-counts c =
@@ -79,6 +79,9 @@ returns-clause-counts c =
       rests = λ none. absurd (omega (arith, none, few));
       turn = ap (λ (z : Tasks). z.turn) c.count_turn.ensures.rest ∙ ap (λ (z : Tasks). z.turn + c.make_in_turn-made.result) c.make_in_turn-made.ensures.tables;
       all = λ e. c.make_in_turn-made.ensures.why.all (omega (arith, e, few, made));
+      order =
+          let f = c.make_in_turn-made.ensures.first in
+          record { between = f.between; count = f.count; last = c.make_in_turn-made.new.machine; each = f.each; counted = refl };
     }
 
 pub returns-then-room-eq0-clause-lasts : goal.returns-then-room-eq0-clause-lasts
