@@ -36,7 +36,7 @@ module _ {D : Type 0} (holds : D → Option (List (List ℕ))) (core : ℕ) (p :
 
   follows_then : (k k' : Machine) (d d' : D) → IsOnward holds k k' d d' → Holds k d → Holds k' d'
   follows_then k k' d d' (by_a_step leads moves) h = holds_then 1 k k' d d' leads h
-  follows_then k k' d d' (in_a_turn n leads same) h = holds_then n k k' d d' leads h
+  follows_then k k' d d' (in_a_turn between made each counted leads same) h = holds_then (length between) k k' d d' leads h
 
   each_holds : (between : List (Between D)) (k k' : Machine) (d d' : D) → FollowEach holds between k k' d d' → Holds k d
       → (b : Between D) → Has (record { machine = k'; device = d' } ∷ between) b → HoldsSession holds core p b
