@@ -6,8 +6,9 @@ ghost use Rattle.b67_promises.specs.Shelves.{shelf_kept};
 use crate::given::same;
 use crate::shelf::{Shelf, ShelfFile};
 use crate::shipped::{program_described, program_twice};
+use b67_backing::{Backing, CrookedBacking};
 use b67_program::{Devices, Words};
-use b67_recorded::{RecordedProcess, RecordedSink, RecordedSource};
+use b67_recorded::{Mirrored, RecordedProcess, RecordedSink, RecordedSource};
 use std::alloc::{AllocError, Global};
 use std::io;
 use std::io::Write;
@@ -82,7 +83,7 @@ fn writer(alloc: Global) -> ByBytes {
     }
 }
 
-fn desk(core: &'static str) -> Desk {
+fn process_in(core: &'static str) -> Desk {
     Desk {
         core,
         shelf: Shelf::new(),
@@ -90,7 +91,7 @@ fn desk(core: &'static str) -> Desk {
 }
 
 fn serve_one(alloc: Global, lines: &mut ByBytes) -> ExitCode {
-    let mut process = RecordedProcess::new(alloc, desk("630"));
+    let mut process = RecordedProcess::new(alloc, process_in("630"));
     let mut input = RecordedSource::new(TWO.as_bytes());
     let mut printer = RecordedSink::new(lines);
     program_described(alloc, &mut process, &mut input, &mut printer)
@@ -105,10 +106,10 @@ fn serves_a_recorded_process(rt: HostRuntime) {
 }
 
 fn serve_two(alloc: Global, lines: &mut ByBytes, other_lines: &mut ByBytes) -> (ExitCode, ExitCode) {
-    let mut process = RecordedProcess::new(alloc, desk("630"));
+    let mut process = RecordedProcess::new(alloc, process_in("630"));
     let mut input = RecordedSource::new(TWO.as_bytes());
     let mut printer = RecordedSink::new(lines);
-    let mut other_process = RecordedProcess::new(alloc, desk("4096"));
+    let mut other_process = RecordedProcess::new(alloc, process_in("4096"));
     let mut other_input = RecordedSource::new(TWO.as_bytes());
     let mut other_printer = RecordedSink::new(other_lines);
     program_twice(
@@ -130,4 +131,14 @@ fn serves_two_recorded_processes(rt: HostRuntime) {
     same(&rt, codes.1 == ExitCode::SUCCESS, true);
     same(&rt, lines.lines.as_slice(), LINES.as_bytes());
     same(&rt, other_lines.lines.as_slice(), LINES.as_bytes());
+}
+
+// A device that gives one number at every place: what was written comes back as a failure.
+#[test]
+fn lies_are_failures(rt: HostRuntime) {
+    let mut mirror = Mirrored::over(CrookedBacking::new(9, 7), Vec::new(rt.alloc()));
+    same(&rt, mirror.write(1, &[7; 30]).is_ok(), true);
+    same(&rt, mirror.read(1, &mut [0; 30]).is_ok(), true);
+    same(&rt, mirror.write(1, &[5; 30]).is_ok(), true);
+    same(&rt, mirror.read(1, &mut [0; 30]).is_ok(), false);
 }
