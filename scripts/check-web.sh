@@ -5,10 +5,10 @@
 #
 # PROGRAM is `b67` on the path if it isn't given. Five parts, and each line says how long one took:
 #
-# heap      the heap of the module by itself, built by the kit's clang
+# heap      the heap of the module by itself, built by the kit's clang and lowered by binaryen
 # reader    the page's reader of images and its other parts, by node's own test runner
-# page      made again by scripts/web.sh from the proved crates, with the same bytes as web/b67.html; it wants the esbuild by which
-#           that was joined (web/README.md)
+# page      made again by scripts/web.sh from the proved crates, with the same bytes as web/b67.html; it wants the esbuild and the
+#           wasm-opt by which that was made (web/README.md)
 # module    each deck of decks/ by each command in the page's module and in PROGRAM: statuses, all that is printed, and the sectors
 # searches  of each deck that is run: images from marks and by the command `image`; searches by one run and by a look at each state
 #
@@ -30,24 +30,28 @@ program=$(command -v "${1:-b67}") || missing "${1:-b67}: no such program"
 page=$top/web/b67.html
 [ -f "$page" ] || missing "web/b67.html isn't there: sh scripts/web.sh"
 command -v node >/dev/null || missing "node isn't on the path"
-run=node
-node --experimental-wasm-memory64 -e 0 2>/dev/null && run='node --experimental-wasm-memory64'
-$run --input-type=module -e "import {has64} from '$top/web/check/module.mjs'; process.exit(has64() ? 0 : 1)" ||
-    missing "this node has no memories of 64 bits: take node 20 or later"
 room=$(mktemp -d)
 trap 'rm -rf "$room"' EXIT
 kit=$(command -v rt >/dev/null && dirname "$(dirname "$(readlink -f "$(command -v rt)")")")/toolchain/bin
 
 heap() {
     [ -x "$kit/clang" ] || { echo "the kit isn't here"; return 2; }
+    command -v wasm-opt >/dev/null || { echo "wasm-opt isn't on the path (Debian: apt-get install binaryen)"; return 2; }
     "$kit/clang" --target=wasm64-unknown-unknown -mcpu=lime1 --no-default-config -O3 -Wall -Wextra -Werror -ffreestanding -nostdinc \
         -c -x c "$top/web/heap.c" -o "$room/heap.o" &&
-        "$kit/ld.lld" -flavor wasm -mwasm64 --no-entry --stack-first --max-memory=67108864 --fatal-warnings --threads=1 --export=room \
-            --export=rattle_alloc --export=rattle_realloc --export=rattle_dealloc --export=__multi3 -o "$room/heap.wasm" "$room/heap.o" &&
-        $run "$top/web/check/heap.mjs" "$room/heap.wasm"
+        heap_linked heap --max-memory=67108864 && heap_linked large &&
+        node "$top/web/check/heap.mjs" "$room/heap.wasm" "$room/large.wasm"
+}
+# heap_linked NAME [FLAG]: the heap alone as a module, lowered as the page's is
+heap_linked() {
+    name=$1
+    shift
+    "$kit/ld.lld" -flavor wasm -mwasm64 --no-entry --stack-first "$@" --fatal-warnings --threads=1 --export=room --export=rattle_alloc \
+        --export=rattle_realloc --export=rattle_dealloc --export=__multi3 -o "$room/$name.64" "$room/heap.o" &&
+        sh "$top/web/lower.sh" "$room/$name.64" "$room/$name.wasm"
 }
 reader() {
-    B67=$program $run --test --test-reporter=tap "$top"/web/tests/*.test.js >"$room/tests" 2>&1 || { cat "$room/tests"; return 1; }
+    B67=$program node --test --test-reporter=tap "$top"/web/tests/*.test.js >"$room/tests" 2>&1 || { cat "$room/tests"; return 1; }
     echo "$(sed -n 's/^# pass //p' "$room/tests") tests passed"
 }
 page() {
@@ -58,10 +62,10 @@ page() {
     fi
 }
 module() {
-    $run "$top/web/check/compare.mjs" "$page" "$program" "$top/decks"
+    node "$top/web/check/compare.mjs" "$page" "$program" "$top/decks"
 }
 searches() {
-    $run "$top/web/check/searches.mjs" "$page" "$top/decks"
+    node "$top/web/check/searches.mjs" "$page" "$top/decks"
 }
 
 differ='' lacking='' begun=$(date +%s)

@@ -5,9 +5,9 @@
 #
 # OUT.html is web/b67.html if it isn't given. The crate b67_web and those below it are proved by then (`rt lib` in crates/b67_web).
 # Rattle's LLVM backend gives its module for b67_web to clang (web/module.py), the kit's own clang compiles that for WebAssembly
-# (web/wasm.sh), and the page's parts are joined (web/join.py, by Debian's esbuild). All other tools but the shell and python3 are
-# the kit's, and nothing of it is kept. One tree, one kit and one esbuild give the same bytes each time. Some two minutes. Status 2
-# if something is missing.
+# (web/wasm.sh), Debian's binaryen lowers its memory to 32 bits (web/lower.sh), and the page's parts are joined (web/join.py, by
+# Debian's esbuild). All other tools but the shell and python3 are the kit's, and nothing of it is kept. One tree, one kit, one
+# binaryen and one esbuild give the same bytes each time. Some two minutes. Status 2 if something is missing.
 set -eu
 usage() {
     echo "usage: sh scripts/web.sh [OUT.html]" >&2
@@ -25,6 +25,7 @@ out=${1:-$top/web/b67.html}
 command -v rt >/dev/null || missing "rt, the command of the Rattle kit, isn't on the path"
 command -v python3 >/dev/null || missing "python3 isn't on the path"
 command -v esbuild >/dev/null || missing "esbuild isn't on the path (Debian: apt-get install esbuild)"
+command -v wasm-opt >/dev/null || missing "wasm-opt isn't on the path (Debian: apt-get install binaryen)"
 kit=$(dirname "$(dirname "$(readlink -f "$(command -v rt)")")")
 for tool in clang ld.lld; do
     [ -x "$kit/toolchain/bin/$tool" ] || missing "the kit has no toolchain/bin/$tool"

@@ -35,7 +35,7 @@ export class CardsArea {
   put(text, card = 1) {
     const {before, part, after, first, cards} = partOf(text, card);
     Object.assign(this, {before, after, first, cards, refused: 0});
-    this.field.value = part;
+    this.field.value = part; // the caret is at its end then
     this.field.scrollTop = 0;
     this.showPart();
     this.draw();
@@ -63,9 +63,14 @@ export class CardsArea {
     put(byId('part-bar'), `cards ${first + 1} to ${last} of ${cards.toLocaleString('en')} `, button('◂ before', first + 1 - PART / 2, first === 0), ' ', button('after ▸', last + PART / 2, last >= cards),
       element('label', {}, ' card ', number));
   }
+  // Puts the caret at the begin of a card, and brings it into view: a browser would scroll to wherever the caret stands.
   goes(card) {
-    this.brings(Math.max(1, card));
-    this.field.focus();
+    const to = Math.max(1, Math.min(card, this.cards)), {field} = this;
+    this.brings(to);
+    const from = startOf(field.value, to - this.first - 1);
+    field.setSelectionRange(from, from);
+    field.focus({preventScroll: true});
+    this.brings(to);
   }
 
   // Brings a card into the field and into view, with some before it.

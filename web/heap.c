@@ -1,7 +1,11 @@
 // What the module of the page needs beside the machine. wasm64 has no C library, so here are the three functions of the heap that
 // Rattle's `Global` calls, two for the page itself, and the product of 128 bits that the compiler calls.
 //
-// The memory from `top` on was never given out. Below it lie blocks: a head of 16 bytes, then 2^k bytes, 4 <= k <= 34. A block is
+// Pointers have 64 bits here. web/wasm.sh then lowers the linked module to a memory of 32 bits, which every browser has: each address
+// loses its upper half, which is 0, and a page may grow to 2^32 bytes. So may the number of pages that growth answers, and its -1 may
+// come back as 2^32 - 1: whether memory has grown is seen at its size alone.
+//
+// The memory from `top` on was never given out. Below it lie blocks: a head of 16 bytes, then 2^k bytes, 4 <= k <= 31. A block is
 // given out whole, and is never split or joined. A block that was freed waits in a list of those with the same k. All these sizes
 // are multiples of 16, and the first head is aligned to 16, so each block is. `Global` asks for no more, and for less than 2^63
 // bytes. A call of the page has an instance, so a heap, of its own.
@@ -21,7 +25,7 @@ typedef struct {
     void *p;
 } Tried;
 
-enum { LEAST = 4, MOST = 34 }; // a browser gives a module at most 2^34 bytes
+enum { LEAST = 4, MOST = 31 }; // the memory has at most 2^32 bytes
 
 extern unsigned char __heap_base[]; // the linker's: where the stack and the data have ended
 static u64 top; // 0 before the first call
@@ -39,10 +43,13 @@ static void *take(u64 n) {
         return head + 1;
     }
     if (!top) top = ((u64)__heap_base + 15) / 16 * 16;
-    // No sum overflows: `top` is at most the memory's end, so below 2^49, and the block at most 2^34 + 16 bytes.
+    // No sum overflows: `top` is at most the memory's end, so at most 2^32, and the block at most 2^31 + 16 bytes.
     u64 after = top + sizeof(Head) + ((u64)1 << power);
     u64 end = __builtin_wasm_memory_size(0) * 65536;
-    if (after > end && __builtin_wasm_memory_grow(0, (after - end + 65535) / 65536) == (u64)-1) return 0;
+    if (after > end) {
+        (void)__builtin_wasm_memory_grow(0, (after - end + 65535) / 65536);
+        if (after > __builtin_wasm_memory_size(0) * 65536) return 0;
+    }
     head = (Head *)top;
     head->power = power;
     top = after;

@@ -22,7 +22,7 @@ import {stoppedText, underWayText} from './under-way.js';
 
 const [LEAST_CORE, MOST_CORE] = [256, 1048575];
 const BUSY_MILLISECONDS = 200; // after which the page says that it computes
-const NO_BROWSER = 'This browser can’t run the machine, which needs WebAssembly with memories of 64 bits: open this page in a Chrome, Edge or Firefox of 2025 or later.';
+const NO_BROWSER = 'This browser can’t run the machine, which is WebAssembly: open this page in a browser of 2024 or later, with WebAssembly switched on.';
 const NO_POLICY = 'The policy under which this page was sent forbids WebAssembly, so the machine can’t run here: save the page, and open the file.';
 
 export class Page {

@@ -89,7 +89,7 @@ export class Program {
   }
 }
 
-// A program over the module's bytes; where the browser has no memories of 64 bits this fails.
+// A program over the module's bytes; where the browser has no WebAssembly, or forbids it, this fails.
 export async function programOf(bytes) {
   return new Program(await WebAssembly.compile(bytes));
 }

@@ -1,23 +1,29 @@
-// A browser without a window, by the commands of WebDriver (W3C): Chromium by its own chromedriver, Firefox by Marionette, which has the
-// same commands over a socket. drivers.mjs carries them; what Chromium alone can (a script before a page's own, a size of a phone, the
-// eyes of another) goes by its DevTools.
+// A browser without a window, by the commands of WebDriver (W3C): Chromium by its own chromedriver, WebKit by WebKitWebDriver, Firefox by
+// Marionette, which has the same commands over a socket. drivers.mjs carries them; what Chromium alone can (a script before a page's own,
+// a size of a phone, the eyes of another) goes by its DevTools.
 import fs from 'node:fs';
 import path from 'node:path';
-import {Chromedriver, Marionette} from './drivers.mjs';
+import {Chromedriver, Marionette, WebKit} from './drivers.mjs';
 
 const KEYS = {Enter: '\uE007', Backspace: '\uE003', Tab: '\uE004', Escape: '\uE00C', PageUp: '\uE00E', PageDown: '\uE00F', End: '\uE010', Home: '\uE011',
   ArrowLeft: '\uE012', ArrowUp: '\uE013', ArrowRight: '\uE014', ArrowDown: '\uE015'};
 const SHIFT = '\uE008';
-// Firefox has no log of its console for a driver: what a page complains of is gathered in it.
+// Firefox and WebKit have no log of their console for a driver: what a page complains of is gathered in it.
 const WATCHES = `window.complaints = [];
   for (const kind of ['error', 'unhandledrejection']) addEventListener(kind, it => complaints.push(String(it.message ?? it.reason)));
   console.error = (...words) => complaints.push(words.join(' '));`;
 
+// Which browser a program is.
+export function kindOf(program) {
+  const name = path.basename(program);
+  return name.startsWith('firefox') ? 'firefox' : name === 'MiniBrowser' ? 'webkit' : 'chromium';
+}
+
 export class Browser {
   // Starts a browser, by its program, and opens an empty page of this size. `errors` has what pages have complained of so far.
   static async started(program, width = 1400, height = 900) {
-    const it = new Browser(), firefox = path.basename(program).startsWith('firefox');
-    Object.assign(it, {firefox, errors: [], driver: await (firefox ? Marionette : Chromedriver).started(program)});
+    const it = new Browser(), kind = kindOf(program);
+    Object.assign(it, {kind, gathers: kind !== 'chromium', errors: [], driver: await {firefox: Marionette, webkit: WebKit, chromium: Chromedriver}[kind].started(program)});
     await it.driver.call('SetTimeouts', {script: 300000});
     await it.opens('about:blank');
     await it.size(width, height);
@@ -27,12 +33,12 @@ export class Browser {
   async opens(url) {
     await this.hears();
     await this.driver.call('Navigate', {url});
-    if (this.firefox) await this.value(`${WATCHES} 0`);
+    if (this.gathers) await this.value(`${WATCHES} 0`);
   }
   async reloads() {
     await this.hears();
     await this.driver.call('Refresh');
-    if (this.firefox) await this.value(`${WATCHES} 0`);
+    if (this.gathers) await this.value(`${WATCHES} 0`);
   }
 
   // Lets a script run before those of each page.
@@ -43,7 +49,7 @@ export class Browser {
   // Takes in what the page has complained of. A complaint of the net counts if the page itself has asked for that address: a new Chromium
   // complains of what it asks for by itself.
   async hears() {
-    if (this.firefox) return void this.errors.push(...await this.value('(window.complaints ?? []).splice(0)').catch(() => []));
+    if (this.gathers) return void this.errors.push(...await this.value('(window.complaints ?? []).splice(0)').catch(() => []));
     const asked = await this.value("[location.href, ...performance.getEntriesByType('resource').map(it => it.name)]").catch(() => []);
     for (const {level, source, message} of await this.driver.log()) {
       if (level === 'SEVERE' && (source !== 'network' || asked.includes(message.split(' ')[0]))) this.errors.push(message);
@@ -68,15 +74,16 @@ export class Browser {
     }
   }
 
-  // The size of the page. Of Firefox the window is set, as large as its page and what is around it.
+  // The size of the page. Of Firefox and WebKit the window is set, as large as its page and what is around it.
   async size(width, height) {
-    if (!this.firefox) return this.driver.devtools('Emulation.setDeviceMetricsOverride', {width, height, deviceScaleFactor: 1, mobile: false});
+    if (!this.gathers) return this.driver.devtools('Emulation.setDeviceMetricsOverride', {width, height, deviceScaleFactor: 1, mobile: false});
     await this.driver.call('SetWindowRect', {width, height});
     const [inner, high] = await this.value('[innerWidth, innerHeight]');
     return this.driver.call('SetWindowRect', {width: 2 * width - inner, height: 2 * height - high});
   }
   dark(is_dark) {
-    if (this.firefox) return this.driver.setting('layout.css.prefers-color-scheme.content-override', is_dark ? 0 : 1);
+    if (this.kind === 'webkit') return; // it follows its desktop
+    if (this.kind === 'firefox') return this.driver.setting('layout.css.prefers-color-scheme.content-override', is_dark ? 0 : 1);
     return this.driver.devtools('Emulation.setEmulatedMedia', {features: [{name: 'prefers-color-scheme', value: is_dark ? 'dark' : 'light'}]});
   }
   // How the page looks to other eyes: `deuteranopia`, `protanopia`, `achromatopsia`, `none`.

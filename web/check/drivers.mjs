@@ -1,14 +1,14 @@
-// What carries WebDriver's commands to a browser: chromedriver by HTTP, and Firefox's Marionette by a socket. Debian has no geckodriver,
-// so Marionette, under which geckodriver would work, is spoken to itself: a message is JSON after its length.
+// What carries WebDriver's commands to a browser: chromedriver and WebKitWebDriver by HTTP, and Firefox's Marionette by a socket. Debian has
+// no geckodriver, so Marionette, under which geckodriver would work, is spoken to itself: a message is JSON after its length.
 import {spawn} from 'node:child_process';
 import fs from 'node:fs';
 import net from 'node:net';
 import os from 'node:os';
 import path from 'node:path';
 
-// Of each command that is used: chromedriver's method and address.
+// Of each command that is used: its method and address by HTTP.
 const COMMANDS = {SetTimeouts: ['POST', 'timeouts'], Navigate: ['POST', 'url'], Refresh: ['POST', 'refresh'], ExecuteAsyncScript: ['POST', 'execute/async'],
-  PerformActions: ['POST', 'actions'], TakeScreenshot: ['GET', 'screenshot']};
+  PerformActions: ['POST', 'actions'], TakeScreenshot: ['GET', 'screenshot'], SetWindowRect: ['POST', 'window/rect']};
 const FLAGS = ['--headless=new', '--disable-gpu', '--disable-dev-shm-usage', '--no-first-run', '--disable-extensions', '--disable-background-networking', '--hide-scrollbars'];
 
 function roomFor(name) {
@@ -19,10 +19,33 @@ function roomFor(name) {
 async function ended(child, room) {
   await Promise.race([new Promise(goes => (child.exitCode === null ? child.once('exit', goes) : goes())), new Promise(goes => setTimeout(goes, 8000))]);
   child.kill('SIGKILL');
-  fs.rmSync(room, {recursive: true, force: true, maxRetries: 5});
+  for (let k = 0; k < 20 && fs.existsSync(room); k++) { // its children may still write there
+    await new Promise(goes => setTimeout(goes, 100));
+    try {
+      fs.rmSync(room, {recursive: true, force: true});
+    } catch {}
+  }
 }
 
-export class Chromedriver {
+// A driver that hears commands by HTTP.
+class ByHttp {
+  async asks(method, name, data) {
+    const answer = await fetch(name ? `${this.address}/${name}` : this.address, {method, ...(data && {body: JSON.stringify(data)})}), {value} = await answer.json();
+    if (!answer.ok) throw new Error(value.message);
+    return value;
+  }
+  call(command, data = {}) {
+    const [method, name] = COMMANDS[command];
+    return this.asks(method, name, method === 'POST' ? data : undefined);
+  }
+  async ends() {
+    await this.asks('DELETE', '').catch(() => {});
+    this.child.kill();
+    await ended(this.child, this.room);
+  }
+}
+
+export class Chromedriver extends ByHttp {
   static async started(program) {
     const it = new Chromedriver(), alone = process.getuid?.() === 0 ? ['--no-sandbox'] : []; // root has no sandbox
     it.room = roomFor('chromium');
@@ -42,26 +65,11 @@ export class Chromedriver {
       this.child.once('exit', () => fails(new Error(`chromedriver has ended: ${said}`)));
     });
   }
-
-  async asks(method, name, data) {
-    const answer = await fetch(name ? `${this.address}/${name}` : this.address, {method, ...(data && {body: JSON.stringify(data)})}), {value} = await answer.json();
-    if (!answer.ok) throw new Error(value.message);
-    return value;
-  }
-  call(command, data = {}) {
-    const [method, name] = COMMANDS[command];
-    return this.asks(method, name, method === 'POST' ? data : undefined);
-  }
   devtools(cmd, params) {
     return this.asks('POST', 'goog/cdp/execute', {cmd, params});
   }
   log() {
     return this.asks('POST', 'se/log', {type: 'browser'});
-  }
-  async ends() {
-    await this.asks('DELETE', '').catch(() => {});
-    this.child.kill();
-    await ended(this.child, this.room);
   }
 }
 
@@ -81,7 +89,37 @@ async function connected(port) {
     if (await new Promise(goes => socket.once('connect', () => goes(true)).once('error', () => goes(false)))) return socket;
     await new Promise(goes => setTimeout(goes, 200));
   }
-  throw new Error('Firefox doesn’t answer');
+  throw new Error('the browser doesn’t answer');
+}
+
+// A display for a browser that has no headless form, where the machine has none: {DISPLAY}, and Xvfb's process, or nothing.
+async function displayOf(room) {
+  if (process.env.DISPLAY || process.env.WAYLAND_DISPLAY) return {};
+  const child = spawn('Xvfb', ['-displayfd', '3', '-screen', '0', '2000x1200x24', '-nolisten', 'tcp'], {stdio: ['ignore', 'ignore', 'ignore', 'pipe'], cwd: room});
+  const number = await new Promise((goes, fails) => {
+    child.stdio[3].setEncoding('utf8').once('data', goes);
+    child.once('error', () => fails(new Error('Xvfb isn’t there (Debian: xvfb)'))).once('exit', () => fails(new Error('Xvfb has ended')));
+  });
+  return {child, env: {DISPLAY: `:${number.trim()}`}};
+}
+
+// WebKit, Safari's engine, in the small browser that WebKitGTK brings with it.
+export class WebKit extends ByHttp {
+  static async started(program) {
+    const it = new WebKit(), port = await freePort();
+    it.room = roomFor('webkit');
+    it.display = await displayOf(it.room);
+    it.child = spawn('WebKitWebDriver', [`--port=${port}`], {stdio: 'ignore', env: {...process.env, ...it.display.env, HOME: it.room, XDG_DATA_HOME: it.room, XDG_CACHE_HOME: it.room}});
+    it.address = `http://127.0.0.1:${port}/session`;
+    (await connected(port)).destroy();
+    const {sessionId} = await it.asks('POST', '', {capabilities: {alwaysMatch: {'webkitgtk:browserOptions': {binary: program, args: ['--automation']}}}});
+    it.address += `/${sessionId}`;
+    return it;
+  }
+  async ends() {
+    await super.ends();
+    this.display.child?.kill();
+  }
 }
 
 export class Marionette {

@@ -1,12 +1,13 @@
-// The heap of the page's module, tried by itself: node --experimental-wasm-memory64 heap.mjs HEAP.wasm
+// The heap of the page's module, tried by itself: node heap.mjs HEAP.wasm LARGE.wasm
 //
-// HEAP.wasm is heap.c alone with all its functions exported, in a memory of 64 MiB at most, linked by scripts/check-web.sh. A long
-// row of calls by chance is compared with a list of the blocks that live: where they lie, how they are aligned, what they hold, and
-// what is left after a refusal. Then products of 128 bits are compared with those of JavaScript.
+// HEAP.wasm is heap.c alone with all its functions exported, in a memory of 64 MiB at most, linked and lowered to a memory of 32 bits
+// by scripts/check-web.sh. A long row of calls by chance is compared with a list of the blocks that live: where they lie, how they are
+// aligned, what they hold, and what is left after a refusal. Then products of 128 bits are compared with those of JavaScript.
+// LARGE.wasm is the same without that limit: what no memory of 32 bits has is refused there, too.
 import fs from 'node:fs';
 
 const MOST = 64 << 20, CALLS = 20_000;
-const module = new WebAssembly.Module(fs.readFileSync(process.argv[2]));
+const [module, large] = process.argv.slice(2).map(file => new WebAssembly.Module(fs.readFileSync(file)));
 let seed = 12345;
 
 // A number below n, by a rule, so that each run makes the same calls.
@@ -23,8 +24,8 @@ function wants(holds, what) {
 }
 
 class Heap {
-  constructor() {
-    this.x = new WebAssembly.Instance(module, {}).exports;
+  constructor(of = module) {
+    this.x = new WebAssembly.Instance(of, {}).exports;
     this.answer = this.x.room(16n); // where the answers of the two functions stand
     this.least = Number(this.answer) + 16;
     this.live = new Map(); // of each block its start, its length and the byte that fills it
@@ -120,6 +121,17 @@ function used_up() {
   wants(heap.realloc(blocks[9], 1 << 19, 10, 1), 'a block that shrinks was refused');
 }
 
+// In a memory that grows to 2^32 bytes: a block that doesn't fit is refused, and what is given then is real memory.
+function beyond() {
+  const heap = new Heap(large);
+  for (const length of [2n ** 32n, 2n ** 33n, 2n ** 34n, 2n ** 40n, 2n ** 63n, 2n ** 31n + 1n, 2n ** 32n - 32n]) wants(heap.x.room(length) === 0n, `${length} bytes were given`);
+  const half = heap.x.room(2n ** 31n), end = Number(half) + 2 ** 31;
+  wants(half === 0n || end <= heap.x.memory.buffer.byteLength, 'half of the memory was given, and isn’t there');
+  if (half) heap.bytes(end - 1, 1)[0] = 7;
+  wants(!half || heap.x.room(2n ** 31n) === 0n, 'two halves of the memory were given beside what lies below them');
+  wants(heap.alloc(1000, 16), 'nothing is given after refusals');
+}
+
 // A fresh heap's room holds zeros, and a block of no bytes has a place of its own.
 function fresh() {
   const heap = new Heap();
@@ -146,5 +158,6 @@ function products() {
 
 by_chance();
 used_up();
+beyond();
 fresh();
 console.log(`heap: ${CALLS} calls and ${products()} products as they should be`);

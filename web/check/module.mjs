@@ -14,11 +14,6 @@ export function moduleOf(page) {
   return new WebAssembly.Module(Buffer.from(found[0], 'base64'));
 }
 
-// Whether this engine has memories of 64 bits: a module of one such memory.
-export function has64() {
-  return WebAssembly.validate(new Uint8Array([0, 97, 115, 109, 1, 0, 0, 0, 5, 3, 1, 4, 1]));
-}
-
 // A call in an instance of its own: words, text and sectors go in, null for so many of zeros as a file has. A command that names no
 // backing gets one sector.
 export function callModule(module, words, text, sectors = null) {

@@ -1,5 +1,5 @@
 // The page in a browser without a window: node page.mjs BROWSER PAGE PROGRAM DECKS [FOLDER], called by scripts/check-page.sh. BROWSER is
-// Chromium's program, or Firefox's.
+// Chromium's program, Firefox's, or WebKit's MiniBrowser.
 //
 // Tries the parts that decks.mjs, inputs.mjs and course.mjs have, or those that TRIES names. With FOLDER it also writes pictures there.
 // Prints each difference, each complaint of the console, and at last `N the same, M different`.
@@ -26,19 +26,19 @@ async function takes_pictures(it) {
   }
 }
 
-async function without_memory64(it) {
+async function without_wasm(it) {
   await it.starts('WebAssembly.validate = () => false; WebAssembly.compile = () => Promise.reject(new WebAssembly.CompileError("no"));');
-  it.wants((await it.state()).message, 'a browser without memories of 64 bits: no sentence');
+  it.wants((await it.state()).message, 'a browser that can’t run the module: no sentence');
   await it.ends();
 }
 
 async function tries_all(it) {
-  const parts = {each_deck, two_cores, follows, signs, pinned, aloud, bad_input, faults, mistakes, names, keeps, long_decks, course, sheets, ...(it.isFirefox ? {} : {policies}), ...(pictures ? {takes_pictures} : {})};
+  const parts = {each_deck, two_cores, follows, signs, pinned, aloud, bad_input, faults, mistakes, names, keeps, long_decks, course, sheets, ...(it.isChromium ? {policies} : {}), ...(pictures ? {takes_pictures} : {})};
   const named = process.env.TRIES?.split(',');
   await it.starts();
   for (const [name, part] of Object.entries(parts)) if (!named || named.includes(name)) await part(it);
   await it.ends();
-  if (!it.isFirefox) await without_memory64(it);
+  if (it.isChromium) await without_wasm(it);
 }
 
 const it = new Tried({program, page, native, decks});

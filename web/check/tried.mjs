@@ -3,7 +3,7 @@ import fs from 'node:fs';
 import os from 'node:os';
 import path from 'node:path';
 import {pathToFileURL} from 'node:url';
-import {Browser} from './browser.mjs';
+import {Browser, kindOf} from './browser.mjs';
 import {callNative} from './module.mjs';
 
 const room = fs.mkdtempSync(path.join(os.tmpdir(), 'b67-'));
@@ -18,7 +18,7 @@ export function told(text) {
 export class Tried {
   // `program` is the browser's, `native` the machine's, `decks` the folder of decks.
   constructor({program, page, native, decks}) {
-    Object.assign(this, {program, page, native, folder: decks, same: 0, different: 0, seen: new Map(), isFirefox: path.basename(program).startsWith('firefox')});
+    Object.assign(this, {program, page, native, folder: decks, same: 0, different: 0, seen: new Map(), isChromium: kindOf(program) === 'chromium'});
   }
 
   wants(holds, what) {
