@@ -3,7 +3,7 @@
 #
 #     sh scripts/check-web.sh [PROGRAM]
 #
-# PROGRAM is `b67` on the path if it isn't given. Five parts, and each line says how long one took:
+# PROGRAM is `b67` on the path if it isn't given. Six parts, and each line says how long one took:
 #
 # heap      the heap of the module by itself, built by the kit's clang and lowered by binaryen
 # reader    the page's reader of images and its other parts, by node's own test runner
@@ -11,8 +11,9 @@
 #           wasm-opt by which that was made (web/README.md)
 # module    each deck of decks/ by each command in the page's module and in PROGRAM: statuses, all that is printed, and the sectors
 # searches  of each deck that is run: images from marks and by the command `image`; searches by one run and by a look at each state
+# shell     web/b67.mjs, the machine as a command of node: decks/run.sh over it, and the rows of crates/b67_rows, with their backing files
 #
-# The last line is `check-web: all the same`, or names the parts that differ or can't be tried. Four minutes on a machine that does
+# The last line is `check-web: all the same`, or names the parts that differ or can't be tried. Six minutes on a machine that does
 # nothing else. Status 1 if anything differs, 2 if something is missing: then what can be tried is tried. No part of the gate.
 set -eu
 usage() {
@@ -67,9 +68,12 @@ module() {
 searches() {
     node "$top/web/check/searches.mjs" "$page" "$top/decks"
 }
+shell() {
+    node "$top/web/check/shell.mjs" "$top/web/b67.mjs" "$page" "$program" "$top/decks" "$top/crates/b67_rows/data"
+}
 
 differ='' lacking='' begun=$(date +%s)
-for part in heap reader page module searches; do
+for part in heap reader page module searches shell; do
     since=$(date +%s) status=0
     $part >"$room/said" 2>&1 || status=$?
     case $status in

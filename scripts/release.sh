@@ -50,6 +50,7 @@ cp "$program" "$out/bin/b67"
 cp docs/b67.1 "$out/man/man1/b67.1"
 cp docs/*.5 "$out/man/man5/"
 [ ! -f "$page" ] || cp "$page" "$out/b67.html"
+[ ! -f "$page" ] || cp web/b67.mjs "$out/b67.mjs"
 mapfile -t files < <(git ls-files README.md CHANGES.md CITATION.cff CONTRIBUTING.md docs bench/README.md web/README.md reference \
     crates/b67_promises/src/lib.rt crates/b67_promises/src/paging.rt)
 put "${files[@]}"
@@ -92,8 +93,9 @@ image of a halted machine; docs/statement.html, in a browser, what is proved. Th
 TEXT
     [ ! -f "$out/b67.html" ] || cat <<'TEXT'
 
-b67.html is the machine in a page: open it in a browser of 2025 or later. It needs nothing of the above, so on Windows, on a Mac
-or on an older Linux it is all that runs; its button Lessons has the course.
+b67.html is the machine in a page: open it in a browser of 2024 or later. It needs nothing of the above, so it runs on Windows, on
+a Mac, on an older Linux and on a phone; its button Lessons has the course. b67.mjs, beside it, is the same machine as a command,
+wherever there is node 18 or later: node b67.mjs run --core 4096 < decks/sum/stdin
 TEXT
     printf '\nEach file has its sum in SHA256SUMS: sha256sum -c SHA256SUMS\n'
 } >"$out/START.txt"

@@ -1,0 +1,153 @@
+#!/usr/bin/env node
+// The proved machine as a command: `node web/b67.mjs run --core 4096 < deck`. It needs node 18 or later and, beside it, b67.html, out of
+// which it takes the WebAssembly module; nothing is built or installed. The commands, their words, their statuses and what they print are
+// those of the program `b67` (docs/MACHINE.md, section 20, and docs/MESSAGES.md). Otherwise than there:
+//
+// - `--backing FILE` may be left out of `run` and `image`: then the sectors are memory. A file has the program's form, so each goes on from
+//   the other's; it is read before the run and written after it, and not locked: give each run a file of its own.
+// - All lines are printed at the end; of more than 1 GiB the beginning, with status 8. `bind` takes four pairs at most. A closed input is an empty one.
+// - Status 10 and a sentence on standard error: what was asked can't be done here.
+import fs from 'node:fs';
+import path from 'node:path';
+import {fileURLToPath} from 'node:url';
+
+const [SECTORS, SECTOR_BYTES, MOST_WORDS] = [65536, 240, 5];
+const ROOMS = [24, 27, 30].map(power => 2 ** power); // bytes of lines; a run that prints more is made again in the next one
+const [READING_FAULT, BACKING_FAULT, PRINTING, CANT] = [7, 6, 8, 10];
+
+class Cant extends Error {}
+
+// The page's text, and the module in it.
+export function pageOf(file = process.env.B67_PAGE ?? fileURLToPath(new URL('b67.html', import.meta.url))) {
+  let html;
+  try {
+    html = fs.readFileSync(file, 'latin1');
+  } catch {
+    throw new Cant(`${file} isn’t there: put b67.html beside b67.mjs, or name it by the variable B67_PAGE`);
+  }
+  const found = /^AGFzb[A-Za-z0-9+/]+=*$/m.exec(html);
+  if (!found) throw new Cant(`${file} holds no module of the machine`);
+  return {html, bytes: Buffer.from(found[0], 'base64')};
+}
+
+// A call in an instance of its own: words, a text, and sectors as a file has them, or null for so many of zeros. Gives the status, what is
+// printed, and the sectors.
+function called(module, words, text, {sectors, many, room}) {
+  const x = new WebAssembly.Instance(module, {}).exports, view = (at, length) => new Uint8Array(x.memory.buffer, Number(at), length);
+  const roomFor = length => x.room(BigInt(length)) || fails(new Cant('this computer has no memory left for the machine'));
+  const put = bytes => {
+    const at = roomFor(bytes.length);
+    view(at, bytes.length).set(bytes);
+    return [at, BigInt(bytes.length)];
+  };
+  const given = Array.from({length: MOST_WORDS}, (_, k) => put(Buffer.from(words[k] ?? ''))).flat(), source = put(text);
+  const held = roomFor(many * SECTOR_BYTES), lines = roomFor(room), printed = roomFor(8), seen = view(held, many * SECTOR_BYTES);
+  if (sectors) seen.set(Buffer.from(sectors).swap64());
+  const status = x.b67_web_serve(...given, BigInt(words.length), ...source, held, BigInt(many), lines, BigInt(room), printed) & 255;
+  const length = Number(new DataView(x.memory.buffer).getBigUint64(Number(printed), true));
+  return {status, bytes: Buffer.from(view(lines, length)), sectors: () => Buffer.from(view(held, many * SECTOR_BYTES)).swap64()};
+}
+function fails(problem) {
+  throw problem;
+}
+
+// The file of --backing: {held, sectors, write}, or {why} it is none. It is created if it is missing; a file of another length is left as it is.
+function opened(file) {
+  const length = SECTORS * SECTOR_BYTES;
+  try {
+    const held = fs.openSync(file, fs.constants.O_RDWR | fs.constants.O_CREAT, 0o666), its = fs.fstatSync(held), out = fs.fstatSync(1);
+    if (!its.isFile() || its.ino === out.ino && its.dev === out.dev) return {why: its.isFile() ? 'the lines are to be printed into it' : 'it is no file'};
+    if (its.size !== 0 && its.size !== length) return {why: `it has ${its.size} bytes, and a backing file has ${length}`};
+    if (its.size === 0) fs.ftruncateSync(held, length);
+    return {held, sectors: its.size ? fs.readFileSync(file) : null};
+  } catch (problem) {
+    return {why: problem.message};
+  }
+}
+// Writes the sectors up to the last byte that has changed.
+function writes({held, sectors}, after) {
+  let end = after.length;
+  for (const part of [65536, 8]) while (end > 0 && same(sectors, after, Math.max(0, end - part), end)) end -= Math.min(part, end);
+  fs.writeSync(held, after, 0, end, 0);
+  fs.closeSync(held);
+}
+function same(before, after, from, to) {
+  const part = after.subarray(from, to);
+  return before ? part.equals(before.subarray(from, to)) : part.every(it => it === 0);
+}
+
+// What stands in the place of a run whose backing is no file: the deck, or the image, is read and judged first.
+function withoutBacking(module, words, text, file, why) {
+  const judged = called(module, [words[0] === 'resume' ? 'dump' : 'check'], text, {many: 1, room: ROOMS[1]});
+  return judged.status ? judged : {status: BACKING_FAULT, bytes: Buffer.from('BACKING FAULT\n'), said: `${file}: ${why}`};
+}
+
+// Carries out a command over a text: {status, bytes, said}, where `said` is for standard error.
+export function serve(module, words, text) {
+  const [name] = words, at = words.indexOf('--backing'), over = ['run', 'image', 'resume'].includes(name), file = over && at > 0 ? words[at + 1] : undefined;
+  if (name === 'bind' && words.length > MOST_WORDS && words.slice(1).every(it => /^\d+=\d+$/.test(it))) throw new Cant('bind takes four pairs at most here: bind some, and bind what comes of it with the others');
+  const passed = words.length > MOST_WORDS ? [] : ['run', 'image'].includes(name) && at < 0 ? [...words, '--backing', 'memory'] : words;
+  const isCommand = !file || called(module, passed, Buffer.from('?'), {many: 1, room: ROOMS[0]}).status !== 1;
+  const device = file && isCommand ? opened(file) : null;
+  if (device?.why) return withoutBacking(module, passed, text, file, device.why);
+  const many = over || name === 'exercise' ? SECTORS : 1;
+  let made;
+  for (const room of ROOMS) {
+    made = called(module, passed, text, {sectors: device?.sectors, many, room});
+    if (made.status !== PRINTING) break;
+  }
+  if (device) writes(device, made.sectors());
+  return {...made, said: made.status === PRINTING ? 'more than 1 GiB is printed: this is the beginning' : ''};
+}
+
+// What stands in the place of a command whose input can't be read; its file is there afterwards, as after any run.
+function unread(words) {
+  const at = words.indexOf('--backing');
+  if (at > 0) opened(words[at + 1]);
+  return {status: READING_FAULT, bytes: Buffer.from('READING FAULT\n')};
+}
+
+// All of standard input.
+function input() {
+  const parts = [], part = Buffer.alloc(65536), waits = new Int32Array(new SharedArrayBuffer(4));
+  for (;;) {
+    try {
+      const many = fs.readSync(0, part);
+      if (!many) return Buffer.concat(parts);
+      parts.push(Buffer.from(part.subarray(0, many)));
+    } catch ({code}) {
+      if (code === 'EOF') return Buffer.concat(parts);
+      if (code !== 'EAGAIN') return null;
+      Atomics.wait(waits, 0, 0, 5);
+    }
+  }
+}
+
+// Prints all bytes; says whether that was done.
+function print(bytes) {
+  const waits = new Int32Array(new SharedArrayBuffer(4));
+  for (let at = 0; at < bytes.length;) {
+    try {
+      at += fs.writeSync(1, bytes, at, Math.min(bytes.length - at, 1 << 20));
+    } catch ({code}) {
+      if (code !== 'EAGAIN') return false;
+      Atomics.wait(waits, 0, 0, 5);
+    }
+  }
+  return true;
+}
+
+function main(words) {
+  try {
+    const module = new WebAssembly.Module(pageOf().bytes), text = words[0] === 'exercise' ? Buffer.alloc(0) : input();
+    const {status, bytes, said} = text ? serve(module, words, text) : unread(words);
+    process.exitCode = print(bytes) ? status : PRINTING;
+    if (said) console.error(`b67.mjs: ${said}`);
+  } catch (problem) {
+    if (!(problem instanceof Cant)) throw problem;
+    console.error(`b67.mjs: ${problem.message}`);
+    process.exitCode = CANT;
+  }
+}
+
+if (process.argv[1] && fs.realpathSync(process.argv[1]) === fileURLToPath(import.meta.url)) main(process.argv.slice(2));
