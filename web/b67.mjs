@@ -7,9 +7,23 @@
 //   the other's; it is read before the run and written after it, and not locked: give each run a file of its own.
 // - All lines are printed at the end; of more than 1 GiB the beginning, with status 8. `bind` takes four pairs at most. A closed input is an empty one.
 // - Status 10 and a sentence on standard error: what was asked can't be done here.
+//
+// Two commands for teachers, over the same module and the page's own scripts, in one process:
+//
+//     node web/b67.mjs mark DECK.. EXPECTED [--data FILE] [--csv]
+//     node web/b67.mjs class FILE.. > marks.csv
+//
+// `mark` runs each deck in turns of 1, 7, 17 and 1,000 operators, in its least core and in the greatest, and compares its lines with those of
+// EXPECTED, up to `1.1 ENDED`, as scripts/mark.sh does. --data gives other numbers for READ in the place of those on ?DATA cards, which a
+// deck of constants doesn't know. No job makes more than 1,000,000 operators, and no run prints much more than EXPECTED has. Status 1 if a
+// deck is wrong. `class` takes the links that pupils have handed in out of files, or of all files of a folder, does each work again, and
+// prints a table: 1 for a work that came out again, 0 for one that didn't, t for one that can't be done again. Nothing of it is proved.
 import fs from 'node:fs';
 import path from 'node:path';
+import stream from 'node:stream';
 import {fileURLToPath} from 'node:url';
+import vm from 'node:vm';
+import zlib from 'node:zlib';
 
 const [SECTORS, SECTOR_BYTES, MOST_WORDS] = [65536, 240, 5];
 const ROOMS = [24, 27, 30].map(power => 2 ** power); // bytes of lines; a run that prints more is made again in the next one
@@ -137,12 +151,115 @@ function print(bytes) {
   return true;
 }
 
-function main(words) {
+// ------------------------------------------------------------ for teachers
+
+const [QUANTA, MOST_OPERATORS, MOST_CORE] = [[1, 7, 17, 1000], 1000000, 1048575];
+
+// The page's own scripts, without a page: they hand out what they can do. Node before 20.12 can't undo `deflate-raw` as a browser does.
+function partsOf({html}) {
+  const text = Buffer.from(html, 'latin1').toString('utf8'), [, script] = /<script id="script">\n([\s\S]*?)\n<\/script>/.exec(text) ?? [], [, decks] = /id="decks">\n([\s\S]*?)<\/script>/.exec(text) ?? [];
+  let parts = null;
+  globalThis.b67Takes = it => { parts = it; };
+  vm.runInThisContext(script ?? '');
+  if (!parts) throw new Cant('this b67.html is of another version than b67.mjs');
   try {
-    const module = new WebAssembly.Module(pageOf().bytes), text = words[0] === 'exercise' ? Buffer.alloc(0) : input();
-    const {status, bytes, said} = text ? serve(module, words, text) : unread(words);
-    process.exitCode = print(bytes) ? status : PRINTING;
-    if (said) console.error(`b67.mjs: ${said}`);
+    new DecompressionStream('deflate-raw');
+  } catch {
+    globalThis.DecompressionStream = function () { return stream.Duplex.toWeb(zlib.createInflateRaw()); };
+  }
+  return {...parts, decks: parts.decksOf(`${decks.trim()}\n`)};
+}
+
+function read(file) {
+  try {
+    return fs.readFileSync(file, 'latin1').replaceAll('\r', '');
+  } catch {
+    throw new Cant(`${file}: not a file that can be read`);
+  }
+}
+// The files that are named, and those of folders.
+function filesOf(names) {
+  return names.flatMap(name => (fs.statSync(name, {throwIfNoEntry: false})?.isDirectory() ? filesOf(fs.readdirSync(name).sort().map(it => path.join(name, it))) : [name]));
+}
+
+// A deck that is marked: without turns of its own, with a bound on its operators, and with other numbers if there are some.
+function markedDeck(text, data) {
+  const bounded = text.replace(/^\?QUANTUM.*\n/gm, '').replace(/^(\?LIMIT +)(\d+)/gm, (_, card, most) => card + Math.min(Number(most), MOST_OPERATORS));
+  return data === null ? bounded : bounded.replace(/^\?DATA.*\n(?:[^?].*\n)*/gm, `?DATA\n${data.trim()}\n`);
+}
+// The first line that isn't as it should be, in words; nothing if all are.
+function firstWrong(lines, wanted) {
+  const [is, should] = [lines, wanted].map(it => it.split('\n').slice(0, -1)), at = [...is, ''].findIndex((line, k) => line !== (should[k] ?? ''));
+  if (is.length === should.length && is.every((line, k) => line === should[k])) return '';
+  if (at >= is.length) return `line ${at + 1} is missing, ${should[at]}`;
+  return should[at] === undefined ? `line ${at + 1} is ${is[at]}, and nothing more is wanted` : `line ${at + 1} is ${is[at]} and should be ${should[at]}`;
+}
+
+// The marks of one deck: how many of its runs were right, of how many, and what was wrong first.
+function markOf(module, text, wanted, withoutNames, data) {
+  const run = (core, deck) => {
+    const {status, bytes} = called(module, ['run', '--core', String(core), '--backing', 'b'], Buffer.from(deck, 'latin1'), {many: SECTORS / 16, room: 4 * wanted.length + 4096});
+    return {status, lines: bytes.toString('latin1')};
+  };
+  let deck, [right, runs, first] = [0, 0, ''];
+  try {
+    deck = markedDeck(withoutNames(text), data);
+  } catch (problem) {
+    return {right, runs, first: problem.message};
+  }
+  const checked = called(module, ['check'], Buffer.from(deck, 'latin1'), {many: 1, room: 1 << 16}), said = checked.bytes.toString('latin1').trim().split('\n').at(-1);
+  if (checked.status || !said) return {right, runs, first: said ? `refused, ${said}` : 'no job is in it'};
+  for (const quantum of QUANTA) for (const core of [256, MOST_CORE]) {
+    let its = core, ran = run(its, `?QUANTUM ${quantum}\n${deck}`);
+    while (ran.status === 4 && its < MOST_CORE) ran = run(its = Math.min(MOST_CORE, Number(/^NO CORE (\d+)/m.exec(ran.lines)[1])), `?QUANTUM ${quantum}\n${deck}`);
+    const why = firstWrong(ran.lines, wanted);
+    runs++;
+    if (!why) right++;
+    else first ||= `in turns of ${quantum}, in ${its} words: ${why}`;
+  }
+  return {right, runs, first};
+}
+
+async function mark(module, page, words) {
+  const at = words.indexOf('--data'), data = at < 0 ? null : read(words[at + 1] ?? ''), csv = words.includes('--csv'), {withoutNames, csvOf} = partsOf(page);
+  const files = words.filter((it, k) => it !== '--csv' && (at < 0 || k !== at && k !== at + 1)), wanted = files.length > 1 ? read(files.pop()) : '';
+  if (!/^\d+\.\d+ /m.test(wanted) || /^\?JOB/m.test(wanted)) throw new Cant('usage: mark DECK.. EXPECTED [--data FILE] [--csv], where EXPECTED has the lines of a right run');
+  const lines = filesOf(files).map(file => {
+    const {right, runs, first} = markOf(module, read(file), wanted, withoutNames, data);
+    if (!csv) console.log(runs && right === runs ? `${file}: right in ${runs} runs` : runs ? `${file}: wrong in ${runs - right} of ${runs} runs\n    ${first}` : `${file}: ${first}`);
+    return [file, runs && right === runs ? 1 : 0, right, runs, first];
+  });
+  if (csv) process.stdout.write(csvOf([['deck', 'mark', 'right', 'runs', 'first that is wrong'], ...lines]));
+  return lines.every(([, is]) => is) ? 0 : 1;
+}
+
+async function marksOfClass(page, words) {
+  const {Desk, handsOf, tasksFor, marksOf, linesOf, csvOf, decks} = partsOf(page), desk = new Desk(() => {}), ask = async (name, data) => desk[name](data);
+  const {hands, broken} = await handsOf(filesOf(words).map(read).join('\n')), tasks = tasksFor(hands.map(it => it.hand), decks), [marks, seen] = [new Map(), new Map()];
+  if (!hands.length) throw new Cant('no link of work that was handed in stands in these files: each has the sign # and hand: in it');
+  await desk.start({bytes: page.bytes, compares: false});
+  for (const [k, {part, hand}] of hands.entries()) {
+    if (process.stderr.isTTY) process.stderr.write(`\r${k + 1} of ${hands.length} `);
+    marks.set(part, await marksOf(ask, hand, tasks, decks, {seen}));
+  }
+  process.stdout.write(csvOf(linesOf(hands, tasks, part => marks.get(part))));
+  if (broken) console.error(`b67.mjs: ${broken} of the links can’t be read: were they cut?`);
+  return 0;
+}
+
+async function carriesOut(words) {
+  const page = pageOf(), [name, ...rest] = words;
+  if (name === 'class') return marksOfClass(page, rest);
+  const module = new WebAssembly.Module(page.bytes);
+  if (name === 'mark') return mark(module, page, rest);
+  const text = name === 'exercise' ? Buffer.alloc(0) : input(), {status, bytes, said} = text ? serve(module, words, text) : unread(words), whole = print(bytes);
+  if (said) console.error(`b67.mjs: ${said}`);
+  return whole ? status : PRINTING;
+}
+
+async function main(words) {
+  try {
+    process.exitCode = await carriesOut(words);
   } catch (problem) {
     if (!(problem instanceof Cant)) throw problem;
     console.error(`b67.mjs: ${problem.message}`);
@@ -150,4 +267,4 @@ function main(words) {
   }
 }
 
-if (process.argv[1] && fs.realpathSync(process.argv[1]) === fileURLToPath(import.meta.url)) main(process.argv.slice(2));
+if (process.argv[1] && fs.realpathSync(process.argv[1]) === fileURLToPath(import.meta.url)) await main(process.argv.slice(2));

@@ -9,10 +9,10 @@ import {Quiz} from './quiz.js';
 import {printQuestions} from './paper.js';
 import {operatorParts} from './reading.js';
 import {packedText} from './share.js';
-import {sheetOf} from './sheet.js';
+import {keyOfSheet, newestOf, sheetOf} from './sheet.js';
 
 const ANY_WAY = 'Step with →, or click a card, which sets a breakpoint, and press Enter to go there.';
-const [SHEETS, NAME, MOST_SHEETS, FORGET] = ['b67-sheets', 'b67-name', 20, 'Forget my marks'];
+const [SHEETS, NAME, NUMBER, MOST_SHEETS, FORGET] = ['b67-sheets', 'b67-name', 'b67-number', 60, 'Forget my marks'];
 
 // What must hold for a task of writing, in words; of one of finding, the ways to go there.
 export function wantedText({kind, how = ANY_WAY, lines, refused, refusal, leastCore, resumed, halts, has, lacks}) {
@@ -44,7 +44,7 @@ function showMemoryOf({core}) {
 
 export class Course {
   constructor(page) {
-    Object.assign(this, {page, progress: new Progress(page.storage), quiz: new Quiz(), current: null, sheets: []});
+    Object.assign(this, {page, progress: new Progress(page.storage), quiz: new Quiz(), current: null, sheets: [], tries: new Map()});
     for (const text of (keptValue(page.storage, SHEETS) ?? []).reverse()) this.takesKept(text);
   }
 
@@ -53,11 +53,14 @@ export class Course {
     return !this.progress.work.size && !this.page.editor.own.list().length;
   }
 
-  // Takes in a sheet, the newest first; the same one stands once.
+  // Takes in a sheet, the newest first; the same one stands once, in its newest version.
   takeSheet(text) {
-    const sheet = sheetOf(text, this.page.decks);
+    const [sheet] = newestOf([this.sheets.find(it => it.key === keyOfSheet(text)), sheetOf(text, this.page.decks)].filter(Boolean));
     this.sheets = [sheet, ...this.sheets.filter(it => it.key !== sheet.key)].slice(0, MOST_SHEETS);
     return sheet;
+  }
+  keepsSheets() {
+    keepValue(this.page.storage, SHEETS, this.sheets.map(it => it.text));
   }
   // Takes in one that was kept; one that can't be read any more is left out.
   takesKept(text) {
@@ -74,8 +77,9 @@ export class Course {
   list() {
     const button = (text, act, title) => element('button', {type: 'button', onclick: act, title}, text);
     const name = element('input', {id: 'pupil', size: 14, placeholder: 'your name', 'aria-label': 'your name, for your teacher', autocomplete: 'name', value: keptValue(this.page.storage, NAME) ?? ''});
+    const number = element('input', {id: 'pupil-number', size: 9, placeholder: 'number', 'aria-label': 'your number or address at school, if your teacher wants it', value: keptValue(this.page.storage, NUMBER) ?? ''});
     put(byId('lessons'), element('h2', {}, 'Lessons'), element('p', {id: 'progress-said', role: 'status'}),
-      element('p', {class: 'group'}, name, button('Hand in', () => this.page.guard(() => this.handsIn(name.value.trim())), 'one link that shows your teacher what you have done')),
+      element('p', {class: 'group'}, name, number, button('Hand in', () => this.page.guard(() => this.handsIn(name.value.trim(), number.value.trim())), 'one link that shows your teacher what you have done')),
       element('div', {id: 'sheets'}), COURSE.map(lesson => this.lessonPart(lesson)),
       element('p', {}, 'Key q asks a question before each step, in any deck. ', button(FORGET, event => this.forget(event.target))),
       element('p', {class: 'dim'}, 'For a teacher: the address of a lesson or an exercise can be handed on, copy it from its link.'),
@@ -131,6 +135,7 @@ export class Course {
     button.textContent = sure ? FORGET : 'All of them, and the work? Press again';
     if (!sure) return;
     this.progress.forget();
+    this.page.editor.forgetsTasks();
     this.showMarks();
   }
 
@@ -159,7 +164,7 @@ export class Course {
   // Opens a sheet: the task of that number, or its first one that isn't done.
   async opensSheet(text, number) {
     const sheet = this.takeSheet(text);
-    keepValue(this.page.storage, SHEETS, this.sheets.map(it => it.text));
+    this.keepsSheets();
     const task = sheet.tasks[number - 1] ?? sheet.tasks.find(it => !this.progress.isDone(it)) ?? sheet.tasks[0];
     await this.begin(task);
     await this.listSheets();
@@ -277,22 +282,33 @@ export class Course {
 
   // Asks before a step; a right answer at the moment of a task to predict does it.
   async asks(now, then, session) {
-    const said = await this.quiz.asks(now, then, session.text), task = this.current;
+    const {current} = this, said = await this.quiz.asks(now, then, session.text), task = this.current;
+    if (said !== null && current === task && task?.kind === 'predict') this.tries.set(task.id, (this.tries.get(task.id) ?? 0) + 1);
     if (!said || task?.kind !== 'predict') return;
     const {name, core} = session, its = task.at === `${name},${core},${now.count}` || task.count === now.count && (task.deck ? session.raw === task.deck : name === deckOfTask(task));
-    if (its) this.done(task, {deck: session.raw, core, count: now.count}, `Right: ${said}.`);
+    if (its) this.done(task, {deck: session.raw, core, count: now.count, answer: said, tries: this.tries.get(task.id)}, `Right: ${said}.`);
   }
 
   // ------------------------------------------------------------ handing in
 
-  // Shows the one link that a pupil hands in, with their name in it.
-  async handsIn(name) {
+  named(name, number) {
+    keepValue(this.page.storage, NAME, name);
+    keepValue(this.page.storage, NUMBER, number);
+  }
+  // Another tab has done a task, or forgotten all.
+  looks() {
+    this.progress.looks();
+    this.showMarks();
+  }
+
+  // Shows the one link that a pupil hands in, with their name in it: all that is done, of lessons and of sheets.
+  async handsIn(name, number) {
     const {page} = this, {work} = this.progress;
     if (!work.size) throw new Error('Nothing is done yet, so there is nothing to hand in: do an exercise first.');
     if (!name) throw new Error('Type your name beside Hand in first, so that your teacher knows whose work it is.');
-    keepValue(page.storage, NAME, name);
-    const sheet = this.sheets.find(it => it.tasks.some(task => work.has(task.id))), mine = [...work].filter(([id]) => !id.startsWith('s') || sheet && id.startsWith(`${sheet.key}/`));
-    const packed = await packedHand({name, version: page.version, sheet: sheet?.text, work: mine});
+    this.named(name, number);
+    const sheets = this.sheets.filter(it => it.tasks.some(task => work.has(task.id))), mine = [...work].filter(([id]) => !id.startsWith('s') || sheets.some(({key}) => id.startsWith(`${key}/`)));
+    const packed = await packedHand({name, number, time: new Date().toISOString().slice(0, 16), version: page.version, sheets: sheets.map(it => it.text), work: mine});
     page.places.shows(`What ${name} hands in: ${mine.length} ${mine.length === 1 ? 'exercise' : 'exercises'}. Send this link to your teacher.`, page.places.withHash(`#hand:${packed}`));
   }
 }

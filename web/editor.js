@@ -131,6 +131,15 @@ export class Editor {
     saveFile(this.text, `${(firstJob(this.text) || this.name).toLowerCase().replace(/[^a-z0-9_-]+/g, '-')}.deck`);
   }
 
+  // Removes the decks that were written for exercises; one of them that is open gives way to the first deck of the page.
+  forgetsTasks() {
+    for (const {name} of this.own.list().filter(it => it.task)) this.own.remove(name);
+    clearTimeout(this.keeping);
+    if (this.has(this.name)) return this.list();
+    this.name = '';
+    this.choose(START.name);
+  }
+
   remove() {
     clearTimeout(this.keeping);
     const from = this.own.get(this.name)?.from;

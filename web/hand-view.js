@@ -1,18 +1,13 @@
 // What a teacher sees of what pupils hand in: the tasks of one, each with its deck, and a table of a class.
 import {byId, element, put} from './elements.js';
 import {COURSE} from './course.js';
-import {doneAgain, handedIn, handsIn, sameDecks} from './handin.js';
+import {columnOf, csvOf, handsOf, lettersOf, linesOf, marksOf, sheetsOf, sumsOf, tasksFor} from './class.js';
+import {saveFile} from './keep.js';
 import {packed} from './share.js';
-import {sheetOf} from './sheet.js';
 
-// The tasks that a work can be about: those of the lessons, and those of its sheet.
+// The tasks that a work can be about, in parts: its sheets, and the lessons.
 function partsFor(hand, decks) {
-  const lessons = COURSE.map(({id, title, tasks}) => ({title: `${id} ${title}`, tasks}));
-  try {
-    return hand.sheet ? [{...sheetOf(hand.sheet, decks)}, ...lessons] : lessons;
-  } catch {
-    return lessons;
-  }
+  return [...sheetsOf([hand], decks), ...COURSE.map(({id, title, tasks}) => ({title: `${id} ${title}`, tasks}))];
 }
 
 function nameOfWork({kind, number, id}) {
@@ -21,7 +16,8 @@ function nameOfWork({kind, number, id}) {
 
 export class Hand {
   constructor(page) {
-    Object.assign(this, {page, hand: null, links: '', part: '', looked: null});
+    Object.assign(this, {page, hand: null, links: '', part: '', looked: null, marks: new Map()}); // of each part of an address its marks, once done again
+    this.ask = (name, data) => page.client.ask(name, data);
   }
 
   // Shows what one pupil has handed in.
@@ -30,10 +26,12 @@ export class Hand {
     const other = hand.version === page.version ? '' : ` It was made by version ${hand.version} of the page; this is ${page.version}.`;
     this.forgets();
     Object.assign(this, {hand, part});
-    put(byId('hand-view'), this.links ? element('p', {}, this.backButton()) : null, element('h2', {}, `Handed in by ${hand.name}: ${many} of ${tasks.length} exercises`),
-      element('p', {id: 'again-said', role: 'status', class: 'dim'}, `What is marked here was told by the pupil’s page.${other}`),
-      element('p', {}, element('button', {type: 'button', id: 'again', onclick: () => page.guard(() => this.again(tasks))}, 'Do each of them again, with this page’s machine')),
+    put(byId('hand-view'), this.links ? element('p', {}, this.backButton()) : null, element('h2', {}, `Handed in by ${hand.name}${hand.number && ` (${hand.number})`}: ${many} of ${tasks.length} exercises`),
+      element('p', {id: 'again-said', role: 'status', class: 'dim'}, `What is marked here was told by the pupil’s page${hand.time && `, ${hand.time}`}.${other}`),
+      element('p', {class: 'group'}, element('button', {type: 'button', id: 'again', onclick: () => page.guard(() => this.again(tasks))}, 'Do each of them again, with this page’s machine'),
+        element('button', {type: 'button', id: 'go-on', title: 'for the pupil: on another computer, or after marks were lost', onclick: () => page.guard(() => this.goesOn())}, 'Go on with this work here')),
       parts.map(part => this.partOf(part, hand)), this.classPart());
+    if (this.marks.has(part)) this.showsMarks(this.marks.get(part));
     page.show('hand');
   }
   // The view without anybody's work, for links that are pasted.
@@ -42,6 +40,7 @@ export class Hand {
     this.hand = null;
     put(byId('hand-view'), element('h2', {}, 'Work that was handed in'), this.classPart());
     this.page.places.held = '';
+    this.page.showLessons(false); // a table of a class wants the width
     this.page.show('hand');
     byId('class-links').focus();
     if (this.links) return this.page.guard(() => this.showsClass(this.links));
@@ -93,41 +92,94 @@ export class Hand {
 
   // Does each work again, and marks what this page's machine finds otherwise.
   async again(tasks) {
-    const {hand, page} = this;
-    let [same, other, told] = [0, 0, 0];
-    for (const task of tasks.filter(it => hand.work.has(it.id))) {
-      const is = await doneAgain((name, data) => page.client.ask(name, data), task, hand.work.get(task.id), page.decks);
-      if (hand !== this.hand) return;
-      const cell = document.querySelector(`[data-hand="${task.id}"] .mark`);
+    const {hand, page, part} = this;
+    const marks = await marksOf(this.ask, hand, tasks, page.decks, {hears: it => { if (hand === this.hand) this.showsMarks(it); }});
+    this.marks.set(part, marks);
+    if (hand !== this.hand) return;
+    const {again, not, told} = sumsOf(hand, tasks, marks);
+    byId('again-said').textContent = `Done again: ${again}. ${told ? `Answers to questions, which only the pupil’s page knows: ${told}. ` : ''}Not so: ${not}.`;
+  }
+  showsMarks(marks) {
+    for (const [id, is] of marks) {
+      const cell = document.querySelector(`[data-hand="${id}"] .mark`);
       put(cell, is === null ? '✓ told' : is ? '✓ again' : '✕ not so');
       cell.className = `mark ${is === false ? 'wrong' : 'right'}`;
-      if (is === null) told++;
-      else if (is) same++;
-      else other++;
     }
-    byId('again-said').textContent = `Done again: ${same}. Answers to questions, which only the pupil’s page knows: ${told}. Not so: ${other}.`;
+  }
+
+  // Takes what was handed in into this browser, as if it had been done here, and goes on with it.
+  async goesOn() {
+    const {hand, page} = this, {course} = page, tasks = tasksFor([hand], page.decks);
+    for (const text of hand.sheets) course.takesKept(text);
+    course.keepsSheets();
+    course.progress.takes(hand.work);
+    for (const {id, kind} of tasks) {
+      const work = hand.work.get(id);
+      if (kind === 'write' && work?.deck.includes('\n') && !page.editor.own.list().some(it => it.task === id)) page.editor.own.begin(work.deck, work.core, '', id);
+    }
+    course.named(hand.name, hand.number);
+    course.list();
+    page.showLessons(true);
+    page.say(`${hand.work.size} ${hand.work.size === 1 ? 'exercise is' : 'exercises are'} in this browser now: go on in the list of lessons.`);
   }
 
   // ------------------------------------------------------------ a class
 
   classPart() {
-    const links = element('textarea', {id: 'class-links', rows: 3, 'aria-label': 'links that pupils have handed in', placeholder: 'Paste the links of one or of all pupils here, in any text.'});
+    const links = element('textarea', {id: 'class-links', rows: 3, 'aria-label': 'links that pupils have handed in', placeholder: 'Paste the links of one or of all pupils here, in any text, or drop their messages as files.'});
     links.value = this.links;
-    return element('section', {class: 'class'}, element('h2', {}, 'A whole class'), links,
-      element('p', {}, element('button', {type: 'button', id: 'class-show', onclick: () => this.page.guard(() => this.showsClass(links.value))}, 'Show them as a table')), element('div', {id: 'class-table'}));
+    const files = element('input', {type: 'file', id: 'class-files', multiple: true, 'aria-label': 'messages of pupils, as files', onchange: () => this.takesFiles(files.files)});
+    const section = element('section', {class: 'class'}, element('h2', {}, 'A whole class'), links,
+      element('p', {class: 'group'}, element('button', {type: 'button', id: 'class-show', onclick: () => this.page.guard(() => this.showsClass(links.value))}, 'Do all of them again, as a table'),
+        element('label', {class: 'file button', for: 'class-files'}, 'files'), files), element('p', {id: 'class-said', role: 'status'}), element('div', {id: 'class-table', tabindex: 0, role: 'region', 'aria-label': 'table of the class'}));
+    section.addEventListener('dragover', event => event.preventDefault());
+    section.addEventListener('drop', event => {
+      if (event.dataTransfer.files.length) event.preventDefault();
+      this.takesFiles(event.dataTransfer.files);
+    });
+    return section;
   }
-  // A row for each pupil, a column for each task.
+  // Puts what files hold below what stands in the field.
+  takesFiles(files) {
+    return this.page.guard(async () => {
+      const texts = await Promise.all([...files].map(file => file.text()));
+      byId('class-links').value = [byId('class-links').value, ...texts].filter(Boolean).join('\n');
+      await this.showsClass(byId('class-links').value);
+    });
+  }
+
+  // A row for each pupil, a column for each task. Each work is done again here; those that were, in this page, aren't once more.
   async showsClass(text) {
     this.links = text;
-    const found = await Promise.all(handsIn(text).map(async part => ({part, hand: await handedIn(part).catch(() => null)})));
-    const hands = found.filter(it => it.hand), sheets = hands.map(({hand}) => partsFor(hand, this.page.decks)).flatMap(parts => parts.filter(part => part.key));
-    const columns = [...new Map([...sheets, ...COURSE].flatMap(part => part.tasks.map(task => [task.id, task]))).values()];
+    const {page} = this, {hands, broken} = await handsOf(text), tasks = tasksFor(hands.map(it => it.hand), page.decks);
     if (!hands.length) throw new Error('No link of work that was handed in stands in this text: each has the sign # and hand: in it.');
-    const head = element('tr', {}, element('th', {}, 'pupil'), element('th', {}, 'done'), columns.map(task => element('th', {title: task.text}, task.number ? `s${task.number}` : task.id)));
-    const same = new Map(columns.map(({id}) => [id, sameDecks(hands.map(({hand}) => hand.work.get(id) ?? null))])), isSame = [...same.values()].flat().some(Boolean);
-    const rows = hands.map(({part, hand}, k) => element('tr', {}, element('th', {}, this.linkOf(part, hand.name)), element('td', {class: 'number'}, String(columns.filter(task => hand.work.has(task.id)).length)),
-      columns.map(({id}) => element('td', {}, hand.work.has(id) ? `✓${same.get(id)[k] && ` ${same.get(id)[k]}`}` : ''))));
-    const broken = found.length - hands.length;
-    put(byId('class-table'), broken ? element('p', {}, `${broken} of the links can’t be read: were they cut?`) : null, element('table', {}, head, rows), isSame ? element('p', {class: 'dim'}, 'Equal letters in a column: the same cards, comments left out. Of a short exercise that says little.') : null);
+    const table = {hands, tasks, broken, letters: lettersOf(hands, tasks)}, seen = new Map();
+    this.draws(table);
+    for (const [k, {part, hand}] of hands.entries()) {
+      if (this.marks.has(part)) continue;
+      byId('class-said').textContent = `Doing again what ${hand.name} handed in: ${k + 1} of ${hands.length}. Stop leaves the others as they were told.`;
+      const marks = await marksOf(this.ask, hand, tasks, page.decks, {seen});
+      this.marks.set(part, marks);
+      if (this.links !== text || !byId('class-table')) return;
+      document.querySelector(`[data-pupil="${k}"]`)?.replaceWith(this.pupilRow(table, k));
+    }
+    this.draws(table);
+  }
+  draws(table) {
+    const {hands, tasks, broken, letters} = table, isSame = [...letters.values()].flat().some(Boolean), older = hands.filter(it => it.older).length;
+    const head = element('tr', {}, ['pupil', 'told', 'again', 'not so'].map(it => element('th', {}, it)), tasks.map(task => element('th', {title: task.text}, columnOf(task, tasks))));
+    const save = () => saveFile(csvOf(linesOf(hands, tasks, part => this.marks.get(part))), 'marks.csv', 'text/csv');
+    put(byId('class-table'), broken ? element('p', {}, `${broken} of the links can’t be read: were they cut?`) : null, element('p', {}, element('button', {type: 'button', id: 'class-save', onclick: save}, 'Save the table as CSV')),
+      element('table', {}, head, hands.map((_, k) => this.pupilRow(table, k))), isSame ? element('p', {class: 'dim'}, 'Equal letters in a column: the same cards, comments left out. Of a short exercise that says little.') : null);
+    byId('class-said').textContent = `${hands.length - older} pupils${older ? `, and ${older} older links of theirs` : ''}. ✓ came out again on this page’s machine, ✕ didn’t, ? wasn’t done again.`;
+  }
+  pupilRow({hands, tasks, letters}, k) {
+    const {part, hand, older} = hands[k], marks = this.marks.get(part), {claimed, again, not} = sumsOf(hand, tasks, marks), number = text => element('td', {class: 'number'}, String(text));
+    const cell = ({id}) => {
+      const is = marks?.get(id), sign = !marks?.has(id) ? '?' : is === false ? '✕' : is ? '✓' : 't';
+      return element('td', {class: is === false ? 'mark wrong' : undefined}, hand.work.has(id) ? `${sign}${letters.get(id)[k] && ` ${letters.get(id)[k]}`}` : '');
+    };
+    return element('tr', {'data-pupil': k, class: older ? 'dim' : undefined}, element('th', {}, this.linkOf(part, hand.name), hand.number ? ` ${hand.number}` : '', older ? ' (older)' : ''),
+      number(claimed), number(marks ? again : ''), element('td', {class: not ? 'number mark wrong' : 'number'}, marks ? String(not) : ''), tasks.map(cell));
   }
 }

@@ -1,5 +1,5 @@
-// What stays in this browser: decks of one's own, and which tasks are done. Each has an entry of its own in the storage, so that two tabs
-// don't overwrite each other. Where there is no storage, as in a frame without an origin, all lasts as long as the page.
+// What stays in this browser: decks of one's own, and which tasks are done. Each deck has an entry of its own in the storage, and marks are
+// put beside those that stand there by then, so that two tabs don't overwrite each other. Where there is no storage, as in a frame without an origin, all lasts as long as the page.
 const [DECK, MOST_DECKS] = ['b67-deck ', 60];
 
 // The browser's storage; null where it is refused.

@@ -2,7 +2,7 @@
 // kept in the browser, where it keeps things.
 import {keepValue, keptValue} from './keep.js';
 
-const WORK = 'b67-work';
+export const WORK = 'b67-work';
 
 // The deck of a task, by its address or by the word `on` of a sheet; empty if the task has cards of its own or none.
 export function deckOfTask({at = '', on = ''}) {
@@ -18,10 +18,20 @@ export class Progress {
   }
   // Marks a task as done by a work: {deck, core} and for a moment {count}. A deck of the page is its name.
   mark({id}, work) {
-    const is = !this.work.has(id);
-    this.work.set(id, work);
-    keepValue(this.storage, WORK, Object.fromEntries(this.work));
+    const is = !this.isDone({id});
+    this.takes([[id, work]]);
     return is;
+  }
+  // Takes in works beside those that the browser keeps by now, perhaps from another tab.
+  takes(works) {
+    this.looks();
+    for (const [id, work] of works) this.work.set(id, work);
+    keepValue(this.storage, WORK, Object.fromEntries(this.work));
+  }
+  // Looks at what the browser keeps, after another tab has changed it.
+  looks() {
+    const kept = keptValue(this.storage, WORK);
+    if (kept) this.work = new Map(Object.entries(kept));
   }
   forget() {
     this.work.clear();
@@ -35,15 +45,21 @@ export function isFound(task, {name, text}, state) {
   return task.kind === 'find' && its && state.count > 0 && task.holds(state);
 }
 
+// Whether a deck holds a text, which a comment doesn't count for, or what a pattern says.
+function holding(text) {
+  const cards = text.replace(/;.*$/gm, '');
+  return it => (typeof it === 'string' ? cards.includes(it) : it.test(text));
+}
+
 // Whether a deck has what its task wants of it, and nothing that it must lack.
 function isOfTask({has = [], lacks = []}, text) {
-  const holds = it => (typeof it === 'string' ? text.includes(it) : it.test(text));
+  const holds = holding(text);
   return [has].flat().every(holds) && ![lacks].flat().some(holds);
 }
 
 // Why a run hasn't done a task of writing: the first line that differs, or what the deck lacks or may not have.
 export function whyNot({lines = [], has = [], lacks = []}, text, printed) {
-  const is = printed.split('\n').slice(0, -1), at = lines.findIndex((line, k) => is[k] !== line), holds = it => (typeof it === 'string' ? text.includes(it) : it.test(text));
+  const is = printed.split('\n').slice(0, -1), at = lines.findIndex((line, k) => is[k] !== line), holds = holding(text);
   if (at >= 0) return `Line ${at + 1} ${is[at] === undefined ? 'is missing' : `is ${is[at]}`}, and must be ${lines[at]}.`;
   if (lines.length && is.length > lines.length) return `${lines.length} lines must be printed, and there are ${is.length}.`;
   const missing = [has].flat().find(it => !holds(it)), kept = [lacks].flat().find(holds);

@@ -1,5 +1,6 @@
 // A sheet: tasks of a teacher's own, written as a text. A line is a word, a colon and what it says; the cards of a deck stand below `deck:`,
-// up to the next `task:`. `title:` may stand before the first task. The words of a task:
+// up to the next `task:`. Before the first task may stand `title:`, and `id:`, a name by which marks are kept: a sheet of the same id and a
+// greater `version:` takes the place of the one before, and the work stays, task by task. The words of a task:
 //
 //     task: a name              ask: the question; several lines are one text
 //     deck: the cards below     on: a deck of the page            core: words of core        at: the operator at which it opens
@@ -10,6 +11,8 @@ import {allOf, conditionOf, CONDITIONS} from './conditions.js';
 const MANY = ['ask', 'prints', 'has', 'lacks', 'find'];
 const ONE = ['on', 'core', 'at', 'refused', 'first', 'predict'];
 export const EXAMPLE = `title: A sheet of my own
+id: my-sheet-1
+version: 1
 
 task: Two and three
 ask: Change the deck so that it prints 7.
@@ -60,18 +63,19 @@ function takeLine(task, word, text, line) {
 // The parts of a text: its title, and its tasks as they are written.
 function partsOf(text) {
   const tasks = [], lines = text.replaceAll('\r', '').split('\n');
-  let title = '';
+  const its = {title: '', id: '', version: ''};
   lines.forEach((line, k) => {
     const task = tasks.at(-1), begins = /^task:\s*(.*)$/.exec(line), found = /^([a-z]+):\s*(.*?)\s*$/.exec(line);
     if (begins) tasks.push(newTask(begins[1].trim(), k + 1));
     else if (task?.cards) task.cards.push(line);
-    else if (found?.[1] === 'title' && !task) title = found[2];
+    else if (found?.[1] in its && !task) its[found[1]] = found[2];
     else if (found?.[1] === 'deck' && task) task.cards = found[2] ? [found[2]] : [];
     else if (found && task) takeLine(task, found[1], found[2], k + 1);
-    else if (line.trim()) throw new SheetRefused(k + 1, task ? 'a line is a word, a colon, and a text, as in ask: What is printed?' : 'a sheet begins with title: or task:.');
+    else if (line.trim()) throw new SheetRefused(k + 1, task ? 'a line is a word, a colon, and a text, as in ask: What is printed?' : 'a sheet begins with title:, id:, version: or task:.');
+    if (found?.[1] === 'version' && !task && !/^\d+$/.test(found[2])) throw new SheetRefused(k + 1, 'version: wants a number.');
   });
   if (!tasks.length) throw new SheetRefused(lines.length, 'it has no task: write task: and a name.');
-  return {title, tasks};
+  return {...its, tasks};
 }
 
 // The kind of a task, by what must hold.
@@ -100,8 +104,25 @@ function keyOf(text) {
   return `s${(sum >>> 0).toString(36)}`;
 }
 
-// The sheet that a text is: {key, title, text, tasks}; fails with the line and a sentence. `decks` are those of the page.
+// The key of the sheet that a text is; of a text that is none nothing.
+export function keyOfSheet(text) {
+  try {
+    const {id} = partsOf(text);
+    return keyOf(id ? `id:${id}` : text);
+  } catch {
+    return '';
+  }
+}
+
+// Of sheets the newest one of each key, in their order.
+export function newestOf(sheets) {
+  const best = new Map();
+  for (const sheet of sheets) if (!(best.get(sheet.key)?.version > sheet.version)) best.set(sheet.key, sheet);
+  return [...best.values()];
+}
+
+// The sheet that a text is: {key, title, id, version, text, tasks}; fails with the line and a sentence. `decks` are those of the page.
 export function sheetOf(text, decks) {
-  const {title, tasks} = partsOf(text), key = keyOf(text);
-  return {key, title: title || 'Exercises of your teacher', text, tasks: tasks.map((task, k) => taskOf(task, k + 1, key, decks))};
+  const {title, id, version, tasks} = partsOf(text), key = keyOfSheet(text);
+  return {key, title: title || 'Exercises of your teacher', id, version: Number(version), text, tasks: tasks.map((task, k) => taskOf(task, k + 1, key, decks))};
 }

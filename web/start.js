@@ -1,12 +1,17 @@
 // Wires the controls to the page, and starts it; the same script is the worker's.
 import {byId, put} from './elements.js';
-import {serve} from './worker.js';
+import {Desk, serve} from './worker.js';
 import {Page} from './page.js';
 import {perform, toggleLessons} from './acts.js';
 import {actOf, KEYS} from './keys.js';
 import {countAt} from './timeline.js';
 import {cellAt} from './draw-stacks.js';
 import {numbersForRead, withNumbers} from './deck-view.js';
+import {WORK} from './progress.js';
+import {COURSE} from './course.js';
+import {csvOf, handsOf, linesOf, marksOf, tasksFor} from './class.js';
+import {decksOf} from './decks.js';
+import {withoutNames} from './names.js';
 
 function onKey(page, event) {
   const {target, key, shiftKey} = event;
@@ -100,6 +105,7 @@ function listenToWindow(page) {
   document.addEventListener('keydown', event => onKey(page, event));
   window.addEventListener('hashchange', event => page.places.follow(event.newURL ? new URL(event.newURL).hash : location.hash));
   window.addEventListener('resize', () => page.steps.redraw());
+  window.addEventListener('storage', ({key}) => { if (key === WORK) page.course.looks(); });
   for (const [name, prints] of [['beforeprint', true], ['afterprint', false]]) window.addEventListener(name, () => { page.steps.view.prints = prints; page.steps.redraw(); });
 }
 
@@ -133,5 +139,7 @@ async function start() {
   document.body.dataset.ready = '1';
 }
 
-if (typeof document === 'undefined') serve();
+// In node, b67.mjs takes the parts that need no page.
+if (globalThis.b67Takes) globalThis.b67Takes({Desk, COURSE, decksOf, withoutNames, handsOf, tasksFor, marksOf, linesOf, csvOf});
+else if (typeof document === 'undefined') serve();
 else start();

@@ -102,7 +102,7 @@ async function comesBack(it) {
 // The one link of all that was done, as a teacher sees it.
 async function handsIn(it) {
   const {browser} = it;
-  await browser.value("document.getElementById('lessons').hidden || 0, document.getElementById('pupil').value = 'Ada'; 0");
+  await browser.value("document.getElementById('lessons').hidden || 0, document.getElementById('pupil').value = 'Ada', document.getElementById('pupil-number').value = '17'; 0");
   await it.opens('lesson:1');
   await browser.value("[...document.querySelectorAll('#lessons button')].find(it => it.textContent === 'Hand in').click(); 0");
   await it.until("document.getElementById('link-dialog').open");
@@ -112,12 +112,16 @@ async function handsIn(it) {
   await browser.opens('about:blank');
   await browser.opens(address);
   await it.ready();
-  it.wants(/^Handed in by Ada: 29 of 29/.test(await it.shown('#hand-view h2')), `what was handed in: ${await it.shown('#hand-view h2')}`);
+  it.wants(/^Handed in by Ada \(17\): 29 of 29/.test(await it.shown('#hand-view h2')), `what was handed in: ${await it.shown('#hand-view h2')}`);
   await it.click('#again');
-  it.wants(/^Done again: 24\. Answers to questions.*: 5\. Not so: 0\.$/.test(await it.shown('#again-said')), `done again: ${await it.shown('#again-said')}`);
+  it.wants(/^Done again: 29\. Not so: 0\.$/.test(await it.shown('#again-said')), `done again: ${await it.shown('#again-said')}`);
   await browser.value(`document.getElementById('class-links').value = ${JSON.stringify(`Ada: ${address}\nBo: ${address.slice(0, -40)}`)}; 0`);
   await it.click('#class-show');
   it.wants(await browser.value("document.querySelectorAll('#class-table tr').length") === 2 && /1 of the links/.test(await it.shown('#class-table p')), 'the table of a class');
+  it.wants(/^Ada 17\|29\|29\|0\|✓/.test(await browser.value("[...document.querySelectorAll('#class-table tr:nth-child(2) > *')].map(it => it.textContent).join('|')")), 'the row of a pupil');
+  await browser.value(`{ const data = new DataTransfer(); data.items.add(new File(['Cy: ${address.slice(address.indexOf('#'), -80)}'], 'cy.txt')); document.querySelector('section.class').dispatchEvent(new DragEvent('drop', {dataTransfer: data, bubbles: true, cancelable: true})); } 0`);
+  await it.state();
+  it.wants(/2 of the links/.test(await it.shown('#class-table p')), 'a file that is dropped');
   await browser.value("document.querySelector('[data-hand=\"1.5\"] a').click(); 0");
   const state = await it.state();
   it.wants(state.text === WRITTEN['1.5'][0], 'the deck of a task that was handed in');
@@ -125,7 +129,25 @@ async function handsIn(it) {
   await browser.value("[...document.querySelectorAll('#task button')].find(it => it.textContent === 'All of the class').click(); 0");
   await it.state();
   it.wants(await browser.value("document.querySelectorAll('#class-table tr').length") === 2 && await it.shown('#task') === '', 'the way back to the table of a class');
+  await goesOn(it, address);
   await onPaper(it);
+}
+
+// What was handed in goes back into a browser; another tab's mark is seen, and beside it one's own is kept.
+async function goesOn(it, address) {
+  const {browser} = it, lessons = () => it.shown('#lessons-button');
+  await browser.value('localStorage.clear(); 0');
+  await browser.opens('about:blank');
+  await browser.opens(address);
+  await it.ready();
+  it.wants(await lessons() === 'Lessons', `before a hand-in is taken back: ${await lessons()}`);
+  await it.click('#go-on');
+  it.wants(await lessons() === `Lessons ${TASKS.length}/${TASKS.length}` && await browser.value("document.getElementById('pupil-number').value") === '17', `a hand-in that is taken back: ${await lessons()}`);
+  it.wants((await it.opens('task:1.5')).text === WRITTEN['1.5'][0], 'the deck of a hand-in that is taken back');
+  await browser.value(`localStorage.setItem('b67-work', '{"1.1":{"deck":"start","core":4096,"count":4}}'); dispatchEvent(new StorageEvent('storage', {key: 'b67-work'})); 0`);
+  it.wants(await lessons() === `Lessons 1/${TASKS.length}`, `after another tab has changed the marks: ${await lessons()}`);
+  await it.click('#run');
+  it.wants(await lessons() === `Lessons 2/${TASKS.length}` && /"1\.1".*"1\.5"/.test(await browser.value("localStorage.getItem('b67-work')")), `a mark beside another tab’s: ${await lessons()}`);
 }
 
 // The questions of a lesson for the printer, and nothing else.

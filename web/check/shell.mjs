@@ -9,6 +9,8 @@ import fs from 'node:fs';
 import os from 'node:os';
 import path from 'node:path';
 import {pageOf, serve} from '../b67.mjs';
+import {packedHand} from '../handin.js';
+import {WRITTEN} from '../tests/answers.js';
 
 const [command, page, program, decks, rows] = process.argv.slice(2), RUN = 'run --core 4096 --backing b';
 const module = new WebAssembly.Module(pageOf(page).bytes), room = fs.mkdtempSync(path.join(os.tmpdir(), 'b67-'));
@@ -91,8 +93,32 @@ function by_decks() {
   if (status) wants(false, String(stdout));
 }
 
+// Marks: a right deck, one of constants, which other numbers find out, one that loops, one that prints without end, and one that is none.
+function by_marks() {
+  const folder = path.join(room, 'marks'), prints = number => `MKST\nNAMC 0,9\n${number}\nENTR\n`, deck = cards => `?JOB A\n?LIMIT 100000000\n?ASM\nSEGMENT MAIN 2\n${cards}EXIT\n?DATA\n4\n?END\n`;
+  fs.mkdirSync(folder);
+  const files = {right: deck(prints('MKST\nNAMC 0,11\nENTR')), constant: deck(prints('LT8 4')), loop: deck('TOP: BRUN TOP\n'), spams: deck(`TOP: ${prints('LT8 4')}BRUN TOP\n`), none: 'print 4\n',
+    lines: '1.1 4\n1.1 ENDED\n', five: '5\n', lines5: '1.1 5\n1.1 ENDED\n'};
+  for (const [name, text] of Object.entries(files)) fs.writeFileSync(path.join(folder, name), text);
+  const marks = (...words) => spawnSync(command, ['mark', ...words, '--csv'], {cwd: folder}).stdout.toString().split('\n').slice(1, -1).map(line => line.split(',').slice(0, 2).join(' ')).join();
+  const all = ['right', 'constant', 'loop', 'spams', 'none'], begun = Date.now(), [first, second] = [marks(...all, 'lines'), marks(...all, 'lines5', '--data', 'five')];
+  wants(first === 'right 1,constant 1,loop 0,spams 0,none 0', `marks: ${first}`);
+  wants(second === 'right 1,constant 0,loop 0,spams 0,none 0', `marks with other numbers: ${second}`);
+  wants(Date.now() - begun < 120000, 'marks of decks that loop take too long');
+  wants(spawnSync(command, ['mark', 'right', 'none'], {cwd: folder}).status === 10 && spawnSync(command, ['class', 'none'], {cwd: folder}).status === 10, 'what can’t be marked');
+}
+async function by_class() {
+  const packed = await packedHand({name: 'Ada', number: '17', version: '1', work: [['1.5', {deck: WRITTEN['1.5'][0], core: 4096}], ['1.3', {deck: WRITTEN['1.5'][0], core: 4096}]]}), folder = path.join(room, 'class');
+  fs.mkdirSync(path.join(folder, 'Ada'), {recursive: true});
+  fs.writeFileSync(path.join(folder, 'Ada/online.html'), `<a href="https://a.b/b67.html#hand:${packed}">`);
+  const {status, stdout} = spawnSync(command, ['class', folder]);
+  wants(status === 0 && /^id,name.*\n17,Ada,,,2,1,1,0,0,,,0,,1,/.test(stdout), `a class: ${status} ${stdout}`);
+}
+
 by_rows();
 by_shell();
+by_marks();
+await by_class();
 by_decks();
 process.chdir('/');
 fs.rmSync(room, {recursive: true});

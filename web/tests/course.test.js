@@ -101,6 +101,13 @@ test('marks are kept, with the work', () => {
   assert.deepEqual(new Progress(storage).work.get('1.1'), work);
   assert.ok(!new Progress(storage).isDone({id: '1.2'}));
   assert.equal(new Progress(null).mark({id: '1.1'}, work), true);
+  const [one, two] = [new Progress(storage), new Progress(storage)]; // two tabs
+  one.mark({id: '2.1'}, work);
+  two.mark({id: '2.2'}, work);
+  assert.deepEqual(['1.1', '2.1', '2.2'].map(id => [new Progress(storage), two].map(it => it.isDone({id}))), [[true, true], [true, true], [true, true]]);
+  one.forget();
+  two.looks();
+  assert.ok(!two.isDone({id: '2.2'}));
 });
 
 test('each operator of a deck with a text in ALGOL has its line', () => {

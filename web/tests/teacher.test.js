@@ -4,14 +4,16 @@ import {readFileSync} from 'node:fs';
 import {after, test} from 'node:test';
 import {setImmediate as turn} from 'node:timers/promises';
 import {Native, decks} from './native.js';
-import {FOUND, WRITTEN} from './answers.js';
+import {FOUND, PREDICTED, WRITTEN} from './answers.js';
+import {START} from '../decks.js';
 import {CONDITIONS, conditionOf} from '../conditions.js';
 import {TASKS} from '../course.js';
+import {csvOf, handsOf, linesOf, marksOf, tasksFor} from '../class.js';
 import {doneAgain, handedIn, handsIn, packedHand, sameDecks} from '../handin.js';
 import {namesIn, NamesRefused, withoutNames} from '../names.js';
 import {isFound, isWritten} from '../progress.js';
 import {runWords, textOf} from '../program.js';
-import {EXAMPLE, sheetOf} from '../sheet.js';
+import {EXAMPLE, keyOfSheet, newestOf, sheetOf} from '../sheet.js';
 import {sentenceOf} from '../speech.js';
 import {cellWords, nextCell} from '../walk.js';
 import {Desk} from '../worker.js';
@@ -52,7 +54,7 @@ test('the sheet that TEACHING shows is done rightly and wrongly', () => {
 });
 
 test('a sheet that is none says which line is wrong', () => {
-  const wrong = [['', /Line 1 .* no task/], ['what', /Line 1 .* begins with title: or task:/], ['task: A\nask: B\n', /Line 1 .* nothing says when/], ['task: A\nask: B\nprint: 1\n', /Line 3 .* print: is no word/],
+  const wrong = [['', /Line 1 .* no task/], ['what', /Line 1 .* begins with title:, id:, version: or task:/], ['version: two\ntask: A', /Line 1 .* wants a number/], ['task: A\nask: B\n', /Line 1 .* nothing says when/], ['task: A\nask: B\nprint: 1\n', /Line 3 .* print: is no word/],
     ['task: A\nprints: 1.1 5\n', /Line 1 .* asks nothing/], ['task: A\nask: B\nfind: the end\non: two\n', /Line 3 .*“the end” is no condition/], ['task: A\nask: B\nfind: card 3\n', /wants a deck/],
     ['task: A\nask: B\nfind: card 3\non: none\n', /has no deck none/], ['task: A\nask: B\nfind: card 3\non: two\nprints: 1\n', /several kinds/], ['task: A\nask: B\ncore: many\n', /Line 3 .* wants a number/],
     ['task: A\nask: B\ncore: 1\ncore: 2\n', /Line 4 .* twice/]];
@@ -86,6 +88,51 @@ test('what a pupil hands in is one address, and each work is done again', async 
   assert.deepEqual(again, [true, false, true, false, true, null, false]);
   assert.deepEqual(handsIn(`Ada: b67.html#hand:${packed}\nBo <file:///b67.html#hand:abc-_1>, again #hand:abc-_1`), [packed, 'abc-_1']);
   await assert.rejects(handedIn(packed.slice(0, -9)), /isn’t whole|no work/);
+});
+
+test('an answer to a question is done again, where it was handed in', async () => {
+  await turn();
+  const desk = deskOf(), task = TASKS.find(it => it.id === '1.1'), [name, core, count] = task.at.split(','), work = {deck: name, core: Number(core), count: Number(count)};
+  const [right, wrong] = PREDICTED['1.1'], again = async its => doneAgain(asker(desk), task, {...work, ...its}, new Map([...PAGE, ['start', START]]));
+  assert.deepEqual([await again({answer: right, tries: 2}), await again({answer: wrong}), await again({answer: null}), await again({answer: right, count: work.count + 1})], [true, false, null, false]);
+});
+
+test('the run of a pupil’s deck is bounded, and Stop isn’t taken for a wrong work', async () => {
+  await turn();
+  const desk = deskOf(), task = TASKS.find(it => it.id === '1.5'), loop = '?JOB A\n?LIMIT 100000000\n?ASM\nSEGMENT MAIN 2\nTOP: MKST\nNAMC 0,9\nLT8 42\nENTR\nBRUN TOP\n?END\n';
+  let limit = '';
+  const ask = async (name, data) => { limit = /\?LIMIT \d+/.exec(data.text)[0]; return desk[name](data); };
+  assert.deepEqual([await doneAgain(ask, task, {deck: loop, core: 4096}, PAGE), limit], [false, '?LIMIT 1000000']);
+  await assert.rejects(doneAgain(async () => { throw new Error('stopped'); }, task, {deck: loop, core: 4096}, PAGE), /stopped/);
+});
+
+test('a sheet with an id keeps its work when a letter of it changes', () => {
+  const [old, now, plain, other] = [EXAMPLE, EXAMPLE.replace('prints 7', 'shall print 7').replace('version: 1', 'version: 2'), EXAMPLE.replace(/^(id|version):.*\n/gm, ''), EXAMPLE.replace('sheet-1', 'sheet-2')].map(text => sheetOf(text, PAGE));
+  assert.deepEqual([old.key === now.key, old.key === plain.key, old.key === other.key, now.version], [true, false, false, 2]);
+  assert.deepEqual(now.tasks.map(it => it.id), old.tasks.map(it => it.id));
+  assert.deepEqual(newestOf([now, old, plain]).map(it => it.version), [2, 0]);
+  assert.equal(keyOfSheet('no sheet'), '');
+});
+
+test('what a deck must have isn’t met by a comment', () => {
+  const {tasks: [task]} = sheetOf('task: A\nask: B\nprints: 1.1 4\nhas: RDIV\nlacks: LT8 4\n', PAGE), done = text => isWritten(task, {words: runWords(4096), text, status: 0, printed: '1.1 4\n', core: 4096});
+  assert.deepEqual([done('LT8 8\nRDIV\n'), done('LT8 8 ; RDIV\n'), done('RDIV\nLT8 4\n'), done('RDIV ; LT8 4\n')], [true, false, false, true]);
+});
+
+test('the marks of a class: claimed and done again apart, the newest link of a pupil, and a table for spreadsheets', async () => {
+  await turn();
+  const {tasks} = sheetOf(EXAMPLE, PAGE), good = ['1.5', {deck: WRITTEN['1.5'][0], core: 4096}], forged = ['1.3', {deck: WRITTEN['1.5'][0], core: 4096}], mine = [tasks[0].id, {deck: tasks[0].deck.replace('LT8 2', 'LT8 4'), core: 4096}];
+  const packed = await Promise.all([{name: 'Ada', number: '17', time: '2026-12-01T10:00', work: [good]}, {name: 'Ada', number: '17', time: '2026-12-02T10:00', work: [good, mine], sheets: [EXAMPLE]},
+    {name: '=Bo, "B"', work: [forged]}].map(it => packedHand({version: '1', ...it})));
+  const text = `${packed.map(it => `x#hand:${it}`).join('\n')}\n#hand:abc`, {hands, broken} = await handsOf(text.replace(packed[0].slice(40), `=\r\n${packed[0].slice(40)}`));
+  assert.deepEqual([hands.length, broken, hands.map(it => it.older)], [3, 1, [true, false, false]]);
+  const all = tasksFor(hands.map(it => it.hand), PAGE), desk = deskOf(), marks = new Map(), seen = new Map();
+  for (const {part, hand} of hands) marks.set(part, await marksOf(asker(desk), hand, all, PAGE, {seen}));
+  const [head, ...rows] = csvOf(linesOf(hands, all, part => marks.get(part))).split('\n');
+  assert.match(head, /^id,name,time,older,claimed,total,not so,told,same decks,s1,s2,1\.1,/);
+  assert.match(rows[0], /^17,Ada,2026-12-01T10:00,older,1,1,0,0,1,/);
+  assert.match(rows[1], /^17,Ada,2026-12-02T10:00,,2,2,0,0,1,1,,/);
+  assert.match(rows[2], /^,"'=Bo, ""B""",,,1,0,1,0,0,/);
 });
 
 test('equal decks of several pupils', () => {
