@@ -55,7 +55,7 @@ mapfile -t files < <(git ls-files README.md CHANGES.md CITATION.cff CONTRIBUTING
     crates/b67_promises/src/lib.rt crates/b67_promises/src/paging.rt)
 put "${files[@]}"
 # the page stands at the top, where a pupil finds it
-sed -i 's:`web/b67\.html`:`b67.html`:' "$out/README.md"
+sed -i 's:`web/b67\.html`:`b67.html`:; s:node web/b67\.mjs:node b67.mjs:' "$out/README.md" "$out/docs/TEACHING.md" "$out/web/README.md"
 # of the scripts those that need only the program, sh, awk and Python; the others work on the repository
 for file in $(git ls-files scripts); do
     case $file in

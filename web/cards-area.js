@@ -59,18 +59,23 @@ export class CardsArea {
     this.part = last - first;
     byId('part-bar').hidden = cards <= MOST_IN_FIELD;
     if (cards <= MOST_IN_FIELD) return put(byId('part-bar'));
-    const number = element('input', {type: 'number', min: 1, max: cards, 'aria-label': 'card', onchange: event => this.goes(Number(event.target.value) || 1)});
+    const goes = (event, focus) => this.goes(Number(event.target.value) || 1, focus);
+    const number = element('input', {type: 'number', min: 1, max: cards, 'aria-label': 'card', onchange: event => goes(event, false), onkeydown: event => { if (event.key === 'Enter') goes(event, true); }});
     put(byId('part-bar'), `cards ${first + 1} to ${last} of ${cards.toLocaleString('en')} `, button('◂ before', first + 1 - PART / 2, first === 0), ' ', button('after ▸', last + PART / 2, last >= cards),
       element('label', {}, ' card ', number));
   }
   // Puts the caret at the begin of a card, and brings it into view: a browser would scroll to wherever the caret stands.
-  goes(card) {
+  goes(card, focus = true) {
     const to = Math.max(1, Math.min(card, this.cards)), {field} = this;
     this.brings(to);
     const from = startOf(field.value, to - this.first - 1);
     field.setSelectionRange(from, from);
-    field.focus({preventScroll: true});
+    if (focus) field.focus({preventScroll: true});
     this.brings(to);
+    if (focus) return;
+    const number = byId('part-bar').querySelector('input'); // made anew with another part
+    number.value = to;
+    number.focus();
   }
 
   // Brings a card into the field and into view, with some before it.

@@ -29,7 +29,6 @@ export class Commands {
     const refused = showResult(page.rows, {words, ...result, byHand: /^\?HEX/m.test(text), word: refusedWord(result.text, text), text: name === 'image' ? withoutImage(result.text) : result.text}, refusedOf);
     page.editor.area.marks(refused, true);
     if (result.status === 0 && /run|check/.test(name) && !hasJob(text)) page.say(NO_JOB);
-    if (result.status === 8) page.say('More is printed than the page takes, which is 16 MB: give the job a lower ?LIMIT, or let it print less.');
     if (/^(run|resume|check)$/.test(name) && result.status < 4) await page.course.ran({words, text: resumes ? this.halted.text : text, result, core, halt: resumes ? this.halted.halt : null});
     return result;
   }
@@ -76,6 +75,7 @@ export class Commands {
       await page.coreIs(words);
       return this.run();
     };
+    if (page.course.current?.leastCore) return; // that is what it asks
     if (words && words <= MOST_CORE && text === page.given()) offer(`Take ${words.toLocaleString('en')} words of core, enough for the whole run, and run`, take);
   }
 

@@ -2,7 +2,9 @@
 import {byId, element, isNarrow, put} from './elements.js';
 import {COURSE, TASKS} from './course.js';
 import {packedHand, sameElsewhere} from './handin.js';
-import {showHelp} from './help.js';
+import {perform} from './acts.js';
+import {showHelp, withWords} from './help.js';
+import {KEYS} from './keys.js';
 import {keepValue, keptValue} from './keep.js';
 import {deckOfTask, isFound, isWritten, Progress, whyNot} from './progress.js';
 import {Quiz} from './quiz.js';
@@ -16,7 +18,7 @@ const [SHEETS, NAME, NUMBER, MOST_SHEETS, FORGET] = ['b67-sheets', 'b67-name', '
 
 // What must hold for a task of writing, in words; of one of finding, the ways to go there.
 export function wantedText({kind, how = ANY_WAY, lines, refused, refusal, leastCore, resumed, halts, has, lacks}) {
-  const parts = [...(kind === 'find' ? [how] : []), ...(lines ? [`Run must print ${lines.join(', ')}${halts ? ', and then HALTED' : ''}, and the same in a core of another size, which the page tries by itself.`] : []),
+  const parts = [...(kind === 'find' ? [how] : []), ...(lines ? [`Run must print ${lines.join(', ')}${halts ? ', and then HALTED' : ''}, and the page then tries another core, too.`] : []),
     ...(refused ? [`Check must refuse it${refusal ? `: ${refusal}` : ''}.`] : []), ...(leastCore ? ['Run must succeed in that core.'] : []), ...(resumed ? [`Resume must print ${resumed.join(', ')}.`] : [])];
   for (const [texts, verb] of [[has, 'must have'], [lacks, 'may not have']]) if (Array.isArray(texts) && texts.length) parts.push(`The deck ${verb}: ${texts.join(', ')}.`);
   return parts.join(' ');
@@ -89,9 +91,9 @@ export class Course {
     this.listSheets();
   }
   lessonPart({id, title, idea, shows, tells = {}, tasks}) {
-    const sentence = (parts, k) => element('li', {'data-tells': tells[k]}, element('span', {}, parts.map(part => (Array.isArray(part) ? element('a', {href: part[1]}, part[0]) : unparted(part)))));
+    const sentence = (parts, k) => element('li', {'data-tells': tells[k]}, element('span', {}, parts.map(part => (Array.isArray(part) ? element('a', {href: part[1]}, part[0]) : withWords(unparted(part))))));
     return element('details', {id: `lesson-${id}`}, element('summary', {}, `${id} ${title} `, element('span', {class: 'dim', 'data-lesson': id})),
-      element('p', {}, idea, ' ', element('a', {href: `#lesson:${id}`, class: 'small'}, 'address')), element('ol', {}, shows.map(sentence)),
+      element('p', {}, withWords(idea), ' ', element('a', {href: `#lesson:${id}`, class: 'small', title: 'an address that leads to this lesson, to hand on'}, 'address')), element('ol', {}, shows.map(sentence)),
       element('ul', {class: 'tasks'}, tasks.map(task => this.taskRow(task, `#task:${task.id}`))), this.paperButton(`${id} ${title}`, tasks));
   }
   // A button that prints the questions of a lesson or of a sheet.
@@ -216,17 +218,33 @@ export class Course {
     const button = (name, title, act) => element('button', {type: 'button', title, onclick: act}, name);
     box.hidden = !text;
     box.className = done ? 'done' : '';
+    document.body.classList.remove('asks');
     put(box, element('p', {}, element('strong', {}, current ? `${done ? '✓ ' : ''}Exercise ${numberOf(current)} ` : ''), element('span', {}, `${text} `), element('span', {class: 'wanted'}, wanted)),
-      done ? this.nextLink() : null, writes ? button('Cards and operators', 'how cards are written, and what each operator does', () => showHelp('Decks and cards', 'Procedures of the MCP', 'Operators')) : null,
+      done ? this.nextLink() : this.handKeys(`${text} ${wanted}`), writes ? button('Cards and operators', 'how cards are written, and what each operator does', () => showHelp('Decks and cards', 'Procedures of the MCP', 'Operators')) : null,
       writes ? button('Begin anew', 'with the deck as it was at first; yours stays in the list of decks', () => page.guard(() => this.begin(current, true))) : null,
       button('×', 'close the exercise', () => this.leaves()));
+  }
+  // Buttons for the keys that a task names, where there may be no keyboard.
+  handKeys(text) {
+    const {current, page} = this, named = [...text.matchAll(/\b(?:[Kk]eys? |press |, )([a-z]|Enter|End)\b/g)].map(found => found[1]);
+    if (!current || current.kind === 'write') return null;
+    const keys = [...new Set(current.kind === 'predict' ? ['ArrowLeft', 'ArrowRight'] : ['ArrowRight', ...named])].map(key => KEYS.find(it => it.key === key)).filter(Boolean);
+    return element('span', {class: 'group by-hand'}, keys.map(({act, sign, key, short}) => element('button', {type: 'button', onclick: () => perform(page, act, 1)}, short ?? (key === 'End' ? 'end' : sign ?? key))));
   }
   // What comes after a task: the next one of its sheet or its lesson, or the next lesson.
   nextLink() {
     const {current, tasks} = this, next = current && tasks[tasks.indexOf(current) + 1];
-    if (!next || next.sheet !== current.sheet) return null;
+    if (!next || next.sheet !== current.sheet) return this.finish();
     if (!next.sheet && lessonOf(next) !== lessonOf(current)) return element('a', {href: `#lesson:${lessonOf(next)}`}, `next: lesson ${lessonOf(next)}`);
     return element('a', {href: document.querySelector(`#lessons [data-task="${next.id}"] a`)?.hash}, `next: ${nameOfTask(next)}`);
+  }
+  // After the last task of the lessons, or of a sheet: how much is done, and what may come next.
+  finish() {
+    const left = TASKS.filter(task => !this.progress.isDone(task)), [first] = left, parts = COURSE.map(({id, tasks}) => `lesson ${id}: ${tasks.filter(task => this.progress.isDone(task)).length} of ${tasks.length}`);
+    if (this.current.sheet) return null;
+    if (first) return element('a', {href: `#task:${first.id}`}, `still open: ${left.length === 1 ? nameOfTask(first) : `${left.length}, first ${nameOfTask(first)}`}`);
+    return element('p', {id: 'finish'}, `All ${TASKS.length} exercises are done: ${parts.join(', ')}. Hand in, in the list of lessons, makes a link of it. What next? `, element('a', {href: '#bank2,4096'}, 'two programs that share a bank account'), ', ',
+      element('a', {href: '#quantum,1708,0'}, 'turns'), ' and ', element('a', {href: '#library,4096'}, 'a library'), ' are among the decks above; New begins one of your own.');
   }
   // Takes up the task that was being done before the page was loaded again.
   takesUp(id) {
@@ -273,10 +291,12 @@ export class Course {
     const least = task.leastCore && words[0] === 'run' && status === 0 ? await ask('coreFor', {deck: text, core: 256}) : null;
     if (!isWritten(task, {words, text, status, printed, core, least})) return this.notYet(task, words, status, whyNot(task, deck, printed));
     if (task.lines && !await sameElsewhere(ask, {text, core}, printed)) return;
-    this.done(task, {deck, core, halt}, task.lines ? 'Done: these are the lines, and in another core too.' : `Done${task.leastCore ? `: ${core} words are the fewest` : ''}.`);
+    this.done(task, {deck, core, halt}, task.lines ? 'Done: these are the lines, and in another core too.' : `Done${task.leastCore ? `: ${core} words are the fewest` : ''}.${task.why ? ` ${task.why}` : ''}`);
   }
   // Says that a run hasn't done the task, and why, once it was one that could have.
   notYet(task, words, status, why) {
+    if (task.refused && words[0] === 'check') return this.tell(task.text, `${wantedText(task)} Not yet: ${status === 2 ? 'the refusal is another one' : 'the deck is admitted'}.`);
+    if (task.leastCore && words[0] === 'run' && status === 0) return this.tell(task.text, `${wantedText(task)} Not yet: the deck runs in fewer words, too.`);
     if (words[0] === 'run' && status < 4 && !task.resumed) this.tell(task.text, `${wantedText(task)} Not yet. ${why}`);
   }
 
@@ -286,7 +306,9 @@ export class Course {
     if (said !== null && current === task && task?.kind === 'predict') this.tries.set(task.id, (this.tries.get(task.id) ?? 0) + 1);
     if (!said || task?.kind !== 'predict') return;
     const {name, core} = session, its = task.at === `${name},${core},${now.count}` || task.count === now.count && (task.deck ? session.raw === task.deck : name === deckOfTask(task));
-    if (its) this.done(task, {deck: session.raw, core, count: now.count, answer: said, tries: this.tries.get(task.id)}, `Right: ${said}.`);
+    if (!its) return;
+    this.done(task, {deck: session.raw, core, count: now.count, answer: said, tries: this.tries.get(task.id)}, `Right: ${said}.`);
+    byId('task').querySelector('a')?.focus({preventScroll: true}); // the field that had the focus is gone
   }
 
   // ------------------------------------------------------------ handing in

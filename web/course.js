@@ -16,7 +16,7 @@ export const COURSE = [
     tasks: [
       {id: '1.1', kind: 'predict', at: 'start,4096,4', text: 'What does the ADD leave?'},
       {id: '1.2', kind: 'write', text: 'Can a program add 1 to a reference? Write a deck that tries: push a couple and 1, and ADD them.', lines: ['1.1 INVALID OPERAND']},
-      {id: '1.3', kind: 'write', text: 'What comes after the greatest number, 549,755,813,887? Write a deck that adds 1 to it. LT48 pushes a number of that size.', lines: ['1.1 INTEGER OVERFLOW']},
+      {id: '1.3', kind: 'write', text: 'What comes after the greatest number, 549755813887? Write a deck that adds 1 to it. LT48 pushes a number of that size.', lines: ['1.1 INTEGER OVERFLOW']},
       {id: '1.4', kind: 'write', text: 'A number has 40 bits, a word 48. LNOT turns all 48 over, so the word is no number then. Write a deck that gives such a word to PRINT.', lines: ['1.1 EXPONENT']},
       {id: '1.5', kind: 'write', text: 'Write a deck that prints 42.', lines: ['1.1 42', '1.1 ENDED']}]},
   {id: '2', title: 'Stacks and the display', idea: 'A call is an activation record. The dynamic link is the way back; the static link leads to the record in which the procedure was declared.',
@@ -26,7 +26,8 @@ export const COURSE = [
       {id: '2.1', kind: 'predict', at: 'factorial,4096,23', text: 'FACT calls itself: where does the static link of the new record lead?'},
       {id: '2.2', kind: 'find', at: 'factorial,4096,0', text: 'Go to the first RETN: a record is left, and 3,2 is another cell than before.', how: 'Click a card with RETN, which sets a breakpoint, and press Enter: the machine goes on to it.', holds: made('RETN'), first: true},
       {id: '2.3', kind: 'find', at: 'factorial,4096,0', text: 'Go to a moment at which task 1.1 has six records or more.', how: 'Step with →, or go to the moment at which the stack is the highest (key r).', holds: state => deepest(state) >= 6},
-      {id: '2.4', kind: 'write', at: 'factorial,4096', text: 'Why can’t FACT have level 4? Give it that level, and press Check: the loader refuses it by its rule 8.', refused: /^LOAD \d+ REASON 8 /},
+      {id: '2.4', kind: 'write', at: 'factorial,4096', text: 'Why can’t FACT have level 4? Give it that level, and press Check: the loader refuses it by its rule 8.', refused: /^LOAD \d+ REASON 8 /,
+        why: 'MAIN has level 2, and FACT is declared in it, so its records have level 3: the static link of each leads to one of level 2.'},
       {id: '2.5', kind: 'write', text: 'Words below an open mark can’t be taken. Write a deck that pushes a word, marks the stack with MKST, and then tries to take the word: DLET takes one.', lines: ['1.1 STACK UNDERFLOW']}]},
   {id: '3', title: 'Call by name', tells: {1: '3.1', 2: '3.2'}, idea: 'ALGOL 60 passes an expression, which is evaluated at each use. Here a thunk is passed, a procedure without parameters; an operator that wanted a value meets it, and enters it by accident.',
     shows: [
@@ -61,20 +62,21 @@ export const COURSE = [
       [['The STOD of card 22', '#two,630,17'], ' touches the first array, which comes into core as zeros, and its element 5 becomes 11.'],
       [['The STOD of card 25', '#two,630,20'], ' touches the second one, and the first leaves core for the sectors 2 to 8; no copy is turned, since both copies were made before their arrays came into core.'],
       [['Operator 23', '#two,630,23'], ' fetches 11 and ', ['operator 24', '#two,630,24'], ' fetches 12, and each of them brings one array into core and writes the other to its sectors.'],
-      ['Beside it ', ['a core of 4,096 words', '#two,630,24,4096'], ' holds both arrays at the same operator: other pages in core, and ', ['the same line, 23', '#two,630,26,4096'], '.']],
+      ['Beside it ', ['a core of 4,096 words', '#two,630,24,4096'], ' holds both arrays at the same operator: other pages in core, and ', ['the same line, 23', '#two,630,26,4096'], '.'],
+      ['Why can’t a program tell? No operator gives it an address of core: it names a cell by a couple, and a word of an array by the array and an index. Whoever touches an array that is absent waits until the same words are back.']],
     tasks: [
       {id: '5.1', kind: 'find', at: 'two,630,0', text: 'Go to the operator at which an array leaves core for the first time.', how: 'Key g goes to the next paging: words come into core or leave it.', holds: outOfCore, first: true},
-      {id: '5.2', kind: 'predict', at: 'two,630,22', text: 'An array comes into core. What leaves it?'},
+      {id: '5.2', kind: 'predict', at: 'two,630,22', text: 'An array comes into core. What leaves core?'},
       {id: '5.3', kind: 'find', at: 'two,630,0', text: 'Give the deck two a core in which both arrays stay, and go to its end.', how: 'Type the words of core above, beside the deck’s name. The key End goes to the end of the run.', holds: state => state.status === 0 && state.coreWords > 630 && (state.remains?.things ?? []).filter(it => it.kind === 'array').every(it => it.at)},
       {id: '5.4', kind: 'write', at: 'ten,4096', text: 'How few words of core does the deck ten need? Run it in exactly that core.', leastCore: true, has: /^\?JOB TEN$/m},
       {id: '5.5', kind: 'find', at: 'two,630,24,4096', text: 'Two cores side by side: go to the moment at which both have printed 23.', how: 'Key o goes to the next line that is printed.', holds: state => state.count === 26 && state.lines.total > 0}]},
   {id: '6', title: 'An image, kept and resumed', core: true, idea: 'A halted machine is a text, the image, and its backing. From both the run goes on, and prints what it had still to print, which is proved.',
-    shows: [['Below the deck, under More, the button Image halts a run after some operators, and Resume goes on from there. At ', ['operator 20 of two', '#two,630,20'], ' the 11 of the first array is in its sectors alone; in ', ['a core of 4,096', '#two,4096,20'], ' it is in the image.'],
-      [['Stacks in words', '#two,630,20'], ', at the right, is what dump prints. ', ['In both cores', '#two,630,20,4096'], ' it is the same.']],
+    shows: [['Beside the deck, under More, the button Image halts a run after some operators, and Resume goes on from there. At ', ['operator 20 of two', '#two,630,20'], ' the 11 of the first array is in its sectors alone; in ', ['a core of 4,096', '#two,4096,20'], ' it is in the image.'],
+      [['Stacks in words', '#two,630,20'], ', at the right below core and backing, is what the command dump prints of an image. ', ['In both cores', '#two,630,20,4096'], ' it is the same.']],
     tasks: [
       {id: '6.1', kind: 'write', at: 'two,630', text: 'Halt two after 20 operators (More, Image), then let it go on (Resume): 23 is printed.', resumed: ['1.1 23', '1.1 ENDED']},
       {id: '6.2', kind: 'write', text: 'Write a deck with a ?HALT card that prints 7 and then halts, with a task alive.', lines: ['1.1 7'], halts: true},
-      {id: '6.3', kind: 'write', text: 'For the end: a loop that prints the squares 1, 4, 9, 16, 25.', lines: ['1.1 1', '1.1 4', '1.1 9', '1.1 16', '1.1 25', '1.1 ENDED'], has: /BR(TR|FL)/}]},
+      {id: '6.3', kind: 'write', text: 'For the end: a loop that prints the squares 1, 4, 9, 16, 25.', lines: ['1.1 1', '1.1 4', '1.1 9', '1.1 16', '1.1 25', '1.1 ENDED'], has: /^[^;]*BR(TR|FL)/m, hasSaid: 'a loop, with BRTR or BRFL'}]},
 ];
 
 export const TASKS = COURSE.flatMap(lesson => lesson.tasks);

@@ -71,14 +71,19 @@ export function showResult(rows, {words, status, text, milliseconds, place, byHa
   put(byId('outcome'), element('p', {class: `status ${outcomeOf(status, lines)}`},
     element('strong', {}, word || (!said && faulty ? 'A task ended by a fault.' : `${head}.`), ' '), word ? element('span', {class: 'dim'}, `${head}. ${means} ${advice}`) : `${!said && faulty ? `${head}. ` : ''}${means} ${advice}`,
     place?.[0] ? ` It is card ${place[0]}: ${place[1]}.` : '', element('span', {class: 'dim'}, ` ${Math.ceil(milliseconds)} ms`)));
-  put(byId('ran'), resultRows(lines, said ? null : rows));
+  showRan(resultRows(lines, said ? null : rows));
   return refusedOf === 'deck' ? place?.[0] || said?.card || 0 : 0;
 }
 
 // Says why a deck can't be given to the machine.
 export function showRefusal(sentence) {
   put(byId('outcome'), element('p', {class: 'status bad'}, sentence));
-  put(byId('ran'));
+  showRan([]);
+}
+// The lines; the key Tab comes to them if there are some, since they may have to be scrolled.
+export function showRan(rows) {
+  put(byId('ran'), rows);
+  byId('ran').tabIndex = rows.length ? 0 : -1;
 }
 
 // The lines, and of very many the first and the last ones.

@@ -4,7 +4,7 @@ import {GROUPS, START} from './decks.js';
 import {OwnDecks, saveFile} from './keep.js';
 import {MOST_OF_ADDRESS, packed} from './share.js';
 import {CardsArea} from './cards-area.js';
-import {showJobs} from './deck-view.js';
+import {showJobs, showRan} from './deck-view.js';
 
 export const USUAL_CORE = 4096;
 const KEEP_MILLISECONDS = 300;
@@ -75,7 +75,8 @@ export class Editor {
     this.area.put(text);
     this.list();
     this.tell();
-    for (const id of ['outcome', 'ran', 'card-help']) put(byId(id));
+    for (const id of ['outcome', 'card-help']) put(byId(id));
+    showRan([]);
     byId('take').disabled = byId('resume').disabled = true;
     showJobs(text);
     byId('welcome').hidden = true;

@@ -6,6 +6,9 @@ import {cellOfCouple, endOfChain, heldBy, listed, operatorParts, placeOf, record
 
 const [GREATEST, NO_NUMBER, DEEP] = [549755813887n, '#800000000000', 12];
 const ARGUMENTS = {ARRAYDEC: 1, PRINT: 1, PRINTROW: 1, READ: 0, AWAIT: 1, STATUS: 1, WAIT: 1, CAUSE: 1, DEALLOCATE: 1, RESIZE: 2};
+// What operators and intrinsics want that take no mere number.
+const WANTS = {STFF: 'a couple or a reference', INDX: 'an array or a copy of one, and a number', NXLV: 'an array or a copy of one, and a number', LOAD: 'a reference', STOD: 'a number and a reference to where it goes', STON: 'a number and a reference to where it goes'};
+const WANTED = {WAIT: 'a reference to the cell of the event, as NAMC 2,2 pushes one', CAUSE: 'a reference to the cell of the event, as NAMC 2,2 pushes one', ARRAYDEC: 'a number, the length'};
 const RESULTS = {ADD: (a, b) => a + b, SUBT: (a, b) => a - b, MULT: (a, b) => a * b};
 
 // The intrinsic that an open record is to call.
@@ -35,7 +38,7 @@ function operand(it) {
   if (name === 'RETN' && top?.kind === 'NAME') return {said: `RETN is to hand back ${heldBy(top)}, which means something in this record only.`, fits: [/plain couple/]};
   if (top?.kind === 'ARRAY') return {said: `${name} takes ${heldBy(top)} itself, not a copy of it.`, fits: [/array's original/]};
   const wrong = taken.filter(cell => cell.kind !== 'NUM'), arithmetic = !/^(INDX|NXLV|STOD|STON|LOAD|STFF|RETN)$/.test(name);
-  if (!wrong.length || !arithmetic) return {said: `${name} takes ${wordsText(taken)}, in record ${record.number}.`, fits: arithmetic ? null : [/isn't of the kind/, /^A reference where/], cells: taken};
+  if (!wrong.length || !arithmetic) return {said: `${name} takes ${wordsText(taken)}, in record ${record.number}.${WANTS[name] ? ` It wants ${WANTS[name]}.` : ''}`, fits: arithmetic ? null : [/isn't of the kind/, /^A reference where/], cells: taken};
   const [called] = record.cells;
   if (record.level < 0 && wrong.includes(called)) return {said: `${name} takes ${listed(taken.map(heldBy))}. But ${heldBy(called)} says what is to be called: perhaps an argument is missing.`, fits: [], cells: [called]};
   return {said: `${name} takes ${listed(taken.map(heldBy))}. It wants numbers, and ${listed(wrong.map(heldBy))} ${wrong.length > 1 ? 'are none' : 'is none'}.`,
@@ -48,7 +51,7 @@ function calledWrongly({record, task, state}) {
   if (intrinsic && wants !== undefined && given.length !== wants) {
     return {said: `${intrinsic} wants ${wants ? countOf(wants, 'argument') : 'no argument'}, and its record has ${wordsText(given)}.`, fits: [/wrong number of arguments/], cells: given};
   }
-  if (intrinsic) return {said: `${intrinsic} gets ${listed(given.map(heldBy))}.`, fits: /^(PRINTROW|DEALLOCATE|RESIZE)$/.test(intrinsic) ? [/without LOAD/] : given.some(it => it.kind === 'NAME') ? [/NAMC for VALC/] : null, cells: given};
+  if (intrinsic) return {said: `${intrinsic} gets ${listed(given.map(heldBy))}.${WANTED[intrinsic] ? ` It wants ${WANTED[intrinsic]}.` : ''}`, fits: /^(PRINTROW|DEALLOCATE|RESIZE)$/.test(intrinsic) ? [/without LOAD/] : given.some(it => it.kind === 'NAME') ? [/NAMC for VALC/] : null, cells: given};
   const called = record.cells[0], end = endOfChain(state, task, called);
   return {said: `The first word of record ${record.number} is to lead to a procedure: it is ${heldBy(called)}${end === called ? '' : `, and leads to ${heldBy(end)}`}.`, fits: [/ENTR of what is no procedure/], cells: [called]};
 }

@@ -17,6 +17,24 @@ const CARDS = [
   'A call is MKST, NAMC of the procedure’s cell, the arguments, ENTR. Level 0 has the procedures of the MCP, the Master Control Program: MKST, NAMC 0,9, a number, ENTR prints it.',
 ];
 
+// The words of the lessons that a reader may not know, each with the term of the glossary that tells it.
+const TOLD = {'activation record': 'record', 'static link': 'static link', 'dynamic link': 'dynamic link', 'display register': 'display', 'by accident': 'accidental entry', couple: 'couple', thunk: 'thunk', sectors: 'sector', turned: 'present, absent', copy: 'copy', MCP: 'MCP', backing: 'backing', cactus: 'cactus', proved: ''};
+const PROVED = 'What is proved, and what is trusted';
+
+// A text in parts: the first of each word that the glossary tells is a button that leads there.
+export function withWords(text) {
+  const parts = text.split(new RegExp(`\\b(${Object.keys(TOLD).join('|')})\\b`)), seen = new Set();
+  return parts.map((part, k) => (k % 2 && !seen.has(part) && seen.add(part) ? element('button', {type: 'button', class: 'word', title: 'what this word means', onclick: () => showWord(TOLD[part])}, part) : part));
+}
+// Shows the glossary at a term: the first one that begins with it, or has it.
+function showWord(word) {
+  showHelp(word ? 'Words' : PROVED);
+  if (!word) return;
+  const terms = [...byId('help').querySelectorAll('dt')], found = terms.find(it => it.textContent.toLowerCase().startsWith(word.toLowerCase())) ?? terms.find(it => it.textContent.toLowerCase().includes(word.toLowerCase()));
+  for (const it of terms) it.classList.toggle('wanted', it === found);
+  found?.scrollIntoView({block: 'center'});
+}
+
 function part(title, open, ...content) {
   return element('details', {open}, element('summary', {}, title), content);
 }
@@ -33,6 +51,6 @@ export function fillHelp(lexicon, letterKeys, version) {
   put(byId('help'), close, element('h2', {}, 'Help'), part('The picture', true, lines(PICTURE)), part('Keys', true, letterKeys, helpTable()),
     part('Decks and cards', false, lines(CARDS)), part('Procedures of the MCP', false, lexicon.intrinsicTable()), part('Operators', false, element('p', {}, 'In “a b -> c” the top of the stack is at the right: b is on top of a.'), lexicon.operatorTable()),
     part('Words', false, lexicon.glossary()),
-    part('What is proved, and what is trusted', false, element('p', {}, `b67 ${version}. The machine in this page is b67_web, of which these things are proved: status and lines are those of the definitions, and paging never changes a printed line.`),
+    part(PROVED, false, element('p', {}, `b67 ${version}. The machine in this page is b67_web, of which these things are proved: status and lines are those of the definitions, and paging never changes a printed line.`),
       proved.map(text => element('p', {}, text))));
 }

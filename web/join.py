@@ -21,6 +21,7 @@ import sys
 HERE = pathlib.Path(__file__).resolve().parent
 TOP = HERE.parent
 ESBUILD = "0.17.0"  # the version of Debian 12; another one may give other bytes
+ABOUT = {"ten": "An array of 100 words: how few words of core will do?"}  # in place of a README's line that names a file or tells an answer
 OPTIONS = ["--bundle", "--format=iife", "--charset=utf8", "--target=es2022", "--log-level=error"]
 
 
@@ -38,7 +39,7 @@ def decks():
     for folder in sorted((TOP / "decks").iterdir()):
         words = (folder / "args").read_text(encoding="utf-8").split() if (folder / "args").is_file() else []
         if words[:2] == ["run", "--core"]:
-            about = (folder / "README").read_text(encoding="utf-8").split("\n")[0]
+            about = ABOUT.get(folder.name) or (folder / "README").read_text(encoding="utf-8").split("\n")[0]
             cards = (folder / "stdin").read_text(encoding="utf-8")
             parts.append(f"#DECK {folder.name} {words[2]}\n#ABOUT {about}\n{cards}" + "\n" * (not cards.endswith("\n")))
     return "".join(parts)

@@ -23,9 +23,14 @@ const COMMANDS = {JOB: 'begins a job, with its name', ASM: 'the job’s program 
   END: 'ends the job', STACK: 'so many words has each stack', QUANTUM: 'so many operators has a turn, after which another task is next', LIMIT: 'so many operators may the job make',
   HALT: 'after so many operators the run halts, and leaves its image', SWITCH: 'when so many operators of the whole run are made, this task makes the next one, if it is ready; it is written job.task'};
 
+// The terms of the glossary, without marks, and without those that only the code has.
+function termsIn(text) {
+  return rowsOfTable(text).map(row => row.map(cell => cell.replace(/\*([^*]+)\*/g, '$1'))).filter(row => !/^in the code alone/.test(row.at(-1)));
+}
+
 export class Lexicon {
   constructor(operators, glossary) {
-    Object.assign(this, {operators: operatorsIn(operators), intrinsics: intrinsicsIn(operators), terms: rowsOfTable(glossary)});
+    Object.assign(this, {operators: operatorsIn(operators), intrinsics: intrinsicsIn(operators), terms: termsIn(glossary)});
   }
 
   // What a card's operator does, in a line; empty for a card without one. The table of operators has the rest.

@@ -8,6 +8,7 @@ const OURS = {
   'Statuses:0': 'If the deck shouldn’t be empty: write ?JOB and its cards.',
   'Statuses:3': 'Step shows the machine at that moment, and Resume goes on from an image.',
   'Statuses:4': 'Take at least `need` words of core: type the number above, or press the button. A later operator may need more still. A smaller ?STACK card lowers the need, for each task that lives at once.',
+  'Statuses:8': 'The page takes 16 MB of lines. Does a loop print in each turn? Look at what it tests; or give the job a lower ?LIMIT.',
   'Statuses:9': 'Close other pages, or take a smaller core.',
   'Endings and faults:LIMIT': 'An endless loop: step back from here, and look at what the loop tests. Or a long run: raise ?LIMIT, to 100,000,000 at most. An operator that waits is counted again when its task is woken.',
   'Endings and faults:DEADLOCK': 'Tasks that wait for each other in a circle; a WAIT of an event that was caused before its cell was set to 0, or that nobody causes; a STOD into the cell where CAUSE was meant; a task that awaits itself. Let all take shared things in one order.',
@@ -63,6 +64,7 @@ export function explained(rows, line, byHand = false) {
 
 // What a status means, without what the page hasn't.
 function meant(status, cell, numbers) {
+  if (status === 8) return 'More is printed than the page takes.';
   return status === 3 ? 'The count of ?HALT was reached while a task lives.' : plain(cell, numbers);
 }
 

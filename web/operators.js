@@ -24,7 +24,7 @@ export const MEANINGS = {
   ZERO: 'pushes 0', ONE: 'pushes 1', LT8: 'pushes a number', LT16: 'pushes a number', LT48: 'pushes a number',
   VALC: 'pushes the value of the cell', NAMC: 'pushes a couple, which names the cell',
   STFF: 'makes the couple on top a reference that holds in any procedure', LOAD: 'replaces the reference on top by the word that it leads to',
-  STOD: 'stores the number below at the reference on top', STON: 'stores as STOD does, and keeps the number',
+  STOD: 'takes a number and a reference, in either order, and stores the number there', STON: 'stores as STOD does, and keeps the number',
   INDX: 'takes an array and an index: makes a copy that names one element', NXLV: 'takes an array and an index: pushes the element’s value',
   ADD: 'adds the two numbers on top', SUBT: 'subtracts the number on top from the one below', MULT: 'multiplies the two numbers on top',
   IDIV: 'divides the number below by the one on top', RDIV: 'leaves the remainder of the division', CHSN: 'changes the sign',
@@ -37,5 +37,5 @@ export const MEANINGS = {
   MKST: 'marks the stack: a record for a call is begun', ENTR: 'calls: enters the record that was begun',
   EXIT: 'leaves the procedure without a value', RETN: 'leaves the procedure with the word on top as its value',
   MPCW: 'pushes the entry of a procedure', DLET: 'drops the word on top', EXCH: 'exchanges the two words on top',
-  DUPL: 'doubles the word on top', PUSH: 'does nothing', NOOP: 'does nothing', NVLD: 'is no operator: INVALID OPERATOR',
+  DUPL: 'doubles the word on top', PUSH: 'does nothing here: LT8 and VALC push', NOOP: 'does nothing', NVLD: 'is no operator: INVALID OPERATOR',
 };

@@ -1,5 +1,6 @@
 // Predict: a question about the next operator, made from the machine's own next state, which marks the answer. There is no key to it.
-import {operatorParts, recordsOf} from './reading.js';
+import {MEANINGS, TAKES} from './operators.js';
+import {heldBy, listed, operatorParts, recordsOf} from './reading.js';
 
 const COMPUTES = /^(ADD|SUBT|MULT|IDIV|RDIV|CHSN|LESS|LSEQ|GREQ|GRTR|EQUL|NEQL|NXLV|ISOL|INSR|LAND|LOR)$/;
 const [MOST_CHOICES, RECORD] = [6, / record /];
@@ -23,7 +24,8 @@ function aboutTask(now, then, deck) {
 function aboutPaging(now, then) {
   const out = then.changes.filter(it => it.kind === 'out').map(it => it.text), choices = now.things.filter(it => it.at).map(it => it.text);
   const right = choices.filter(it => out.some(text => text.startsWith(`${it},`)));
-  return right.length && choices.length > 1 ? {ask: 'This operator wants words for which core has no room. What leaves core?', choices: choices.slice(0, MOST_CHOICES), right} : null;
+  return right.length && choices.length > 1 ? {ask: 'This operator wants words for which core has no room. What leaves core?', choices: choices.slice(0, MOST_CHOICES), right,
+    why: 'its words and the hole beside them are enough; which of several leaves is the machine’s choice, and no line depends on it'} : null;
 }
 
 // Where the static link of a procedure's record leads.
@@ -34,24 +36,26 @@ function aboutLink(now, then) {
   const name = link => link.replace(' ', ' record '), all = then.tasks.flatMap(it => it.records.filter(record => record.level >= 0 && record !== top).map(record => `${it.name} record ${record.number}`));
   if (all.length < 2) return null;
   const right = name(top.link), near = all.filter(it => it !== right).slice(-MOST_CHOICES + 2);
-  return {ask: `This operator enters a procedure of level ${top.level}. To which record does the static link of its record lead?`, choices: all.filter(it => it === right || it === all[0] || near.includes(it)), right: [right]};
+  return {ask: `This operator enters a procedure of level ${top.level}. To which record does the static link of its record lead?`, choices: all.filter(it => it === right || it === all[0] || near.includes(it)), right: [right],
+    why: 'the procedure was declared in that record; who calls it doesn’t matter, and is the dynamic link'};
 }
 
 function aboutLine(now, then) {
   const line = then.fresh.find(it => /^\d+\.\d+ -?\d+$/.test(it));
-  return line ? {ask: 'A number is printed. Which one?', right: [line.split(' ')[1]]} : null;
+  return line ? {ask: 'A number is printed. Which one?', right: [line.split(' ')[1]], why: 'it was the argument on top of the stack'} : null;
 }
 
 function aboutFault(now, then) {
   const wrong = then.wrongs?.[0];
-  return wrong && wrong.name !== 'LIMIT' ? {ask: 'This operator ends its task. By which fault?', right: [wrong.name],
+  return wrong && wrong.name !== 'LIMIT' ? {ask: 'This operator ends its task. By which fault?', right: [wrong.name], why: wrong.said.replace(/\.$/, ''),
     choices: [...new Set([wrong.name, 'INVALID OPERAND', 'STACK UNDERFLOW', 'INVALID INDEX', 'INTEGER OVERFLOW', 'DEADLOCK', 'CRITICAL BLOCK'])].slice(0, MOST_CHOICES).sort()} : null;
 }
 
 function aboutTop(now, then) {
   const cell = recordsOf(then, now.next.task).at(-1)?.cells.at(-1);
   if (!COMPUTES.test(operatorParts(now.next)[0]) || cell?.kind !== 'NUM' || cell.text.startsWith('#')) return null;
-  return {ask: 'Which number is on top of the stack after it?', right: [cell.text]};
+  const [name] = operatorParts(now.next), taken = recordsOf(now, now.next.task).at(-1).cells.slice(-(TAKES[name] ?? 0));
+  return {ask: 'Which number is on top of the stack after it?', right: [cell.text], why: taken.length ? `${name} ${MEANINGS[name]}: it takes ${listed(taken.map(heldBy))}` : ''};
 }
 
 // The question that the next operator of a deck deserves; null for none.

@@ -21,12 +21,16 @@ export class Quiz {
     const right = isRight(question, answer), said = question.right.join(', ');
     this.asked++;
     if (right) this.right++;
-    put(byId('quiz'), element('strong', {class: right ? 'right' : 'wrong'}, right ? '✓ Right: ' : '✕ No: '), `${said}${question.why ? `, since ${question.why}` : ''}. ${right ? '' : 'The keys ← and → ask it again. '}${this.right} of ${this.asked} so far.`);
+    put(byId('quiz'), element('span', {}, element('strong', {class: right ? 'right' : 'wrong'}, right ? '✓ Right: ' : `✕ Not ${answer || 'that'}, but `), `${said}${question.why ? `, since ${question.why}` : ''}. ${right ? '' : 'The keys ← and → ask it again. '}${this.right} of ${this.asked} so far.`));
     return right ? said : '';
   }
   answerTo(question, next) {
-    return new Promise(resolve => {
-      this.resolve = resolve;
+    return new Promise(resolves => {
+      const resolve = this.resolve = value => {
+        document.body.classList.remove('asks');
+        resolves(value);
+      };
+      document.body.classList.add('asks'); // what would tell the answer isn't seen
       const input = question.choices ? null : element('input', {size: 12, 'aria-label': 'your answer', autocomplete: 'off'});
       const form = element('form', {onsubmit: event => { event.preventDefault(); resolve(input?.value ?? null); }}, question.choices
         ? question.choices.map(text => element('button', {type: 'button', onclick: () => resolve(text)}, text)) : [input, element('button', {}, 'Answer')],

@@ -13,10 +13,24 @@ import {csvOf, handsOf, linesOf, marksOf, tasksFor} from './class.js';
 import {decksOf} from './decks.js';
 import {withoutNames} from './names.js';
 
+// A key for the machine that was pressed in a field of a number, where it means nothing: the field takes its number, and then the key acts.
+function isStep(page, {target, key}) {
+  return target.type === 'number' && target.closest('header,#controls') && page.shows('step') && /^(Enter|End|Home|PageUp|PageDown)$/.test(key);
+}
+async function leavesField(page, event) {
+  event.preventDefault();
+  event.target.blur();
+  if (event.key === 'Enter') return;
+  await page.idle();
+  const {act, way} = actOf(event.key, event.shiftKey);
+  perform(page, act, way);
+}
+
 function onKey(page, event) {
   const {target, key, shiftKey} = event;
   if (event.ctrlKey || event.metaKey || event.altKey || document.querySelector('dialog[open]')) return;
   if (/^Arrow(Up|Down)$/.test(key) && target.closest?.('#cards,#right,#pair,#lessons,#printed,#results,#hand-view')) return;
+  if (isStep(page, event)) return leavesField(page, event);
   if (key !== 'Escape' && /^(INPUT|TEXTAREA|SELECT)$/.test(target.tagName)) return;
   if ((key === ' ' || key === 'Enter') && /^(BUTTON|A|SUMMARY)$/.test(target.tagName)) return;
   const found = actOf(key, shiftKey);
@@ -106,7 +120,16 @@ function listenToWindow(page) {
   window.addEventListener('hashchange', event => page.places.follow(event.newURL ? new URL(event.newURL).hash : location.hash));
   window.addEventListener('resize', () => page.steps.redraw());
   window.addEventListener('storage', ({key}) => { if (key === WORK) page.course.looks(); });
-  for (const [name, prints] of [['beforeprint', true], ['afterprint', false]]) window.addEventListener(name, () => { page.steps.view.prints = prints; page.steps.redraw(); });
+  for (const [name, prints] of [['beforeprint', true], ['afterprint', false]]) window.addEventListener(name, () => {
+    byId('deck-paper').textContent = prints && page.shows('deck') ? numbered(page.editor.text) : '';
+    page.steps.view.prints = prints;
+    page.steps.redraw();
+  });
+}
+
+// A deck with the numbers of its cards, for the printer.
+function numbered(text) {
+  return text.trimEnd().split('\n').map((card, k) => `${String(k + 1).padStart(5)}  ${card}`).join('\n');
 }
 
 // What tests ask of the page.

@@ -86,7 +86,7 @@ export function showLine(session, {goes, along}, width = byId('line').clientWidt
   const isKnown = known.length > Math.min(window.to, all) - window.from, isWhole = isKnown && window.from === 0 && window.to >= (end ?? Infinity);
   Object.assign(session, {isKnown, signs: signsOn(known, session.losses, isKnown, stops)});
   showSigns(byId('signs'), session.signs, isKnown, along);
-  if (!session.otherState) putKept(byId('changed'), changesPart(state, changesOf(session), goes));
+  putKept(byId('changed'), changesPart(state, changesOf(session), goes));
   const deepest = showTimeline(line, {count: state.count, window, briefs, stops, losses: session.losses, width}), depth = depthText(state, deepest, isWhole);
   if (byId('depth').textContent !== depth) byId('depth').textContent = depth;
   for (const [name, value] of [['now', state.count], ['min', 0], ['max', all]]) set(line, `aria-value${name}`, value);

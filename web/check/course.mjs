@@ -21,7 +21,7 @@ async function answers(it, answer) {
   await it.browser.value(`{ const quiz = document.getElementById('quiz'), field = quiz.querySelector('input'), answer = ${JSON.stringify(answer)};
     if (field) { field.value = answer; quiz.querySelector('form').requestSubmit(); }
     else [...quiz.querySelectorAll('button')].find(it => it.textContent === answer).click(); } 0`);
-  await it.until("/Right:|No:/.test(document.getElementById('quiz').textContent)");
+  await it.until("/Right:|Not .*, but/.test(document.getElementById('quiz').textContent)");
 }
 async function predicts(it, {id}, hash) {
   for (const [answer, right] of [[PREDICTED[id][1], false], [PREDICTED[id][0], true]]) {
@@ -79,8 +79,50 @@ export async function course(it) {
   await it.opens('jensen,4096,30');
   const lines = await it.browser.value("['now', 'next'].map(kind => document.querySelector(`#algol .${kind}`)?.textContent.trim() ?? '').join('|')");
   it.wants(lines === 'do total := total + term;|i × i))', `beside card 30 stand ${lines}`);
+  await stumbles(it);
   await comesBack(it);
   await handsIn(it);
+}
+
+// Where a pupil has stumbled once: the end of all, a word of a lesson, keys in a field of a number, a question at a fault, no keyboard, and paper.
+async function stumbles(it) {
+  const {browser} = it;
+  await it.opens('task:6.3');
+  await it.click('#run');
+  it.wants(/^All 29 exercises are done: lesson 1: 5 of 5, .*What next\?/.test(await it.shown('#finish')), `after the last task: ${await it.shown('#task')}`);
+  await it.opens('lesson:2');
+  await browser.value("[...document.querySelectorAll('#lesson-2 .word')].find(it => it.textContent === 'static link').click(); 0");
+  it.wants(/^static link/.test(await browser.value("document.querySelector('#help dt.wanted')?.textContent ?? ''")) && await browser.value("document.getElementById('help').open"), 'a word of a lesson leads nowhere');
+  await browser.value("document.getElementById('help').close(); 0");
+  await begins(it, 'two,630,0');
+  await browser.value("document.getElementById('core').focus(); document.getElementById('core').value = 832; 0");
+  await browser.press('End');
+  await it.until('b67.state().end !== null && b67.state().count > 20');
+  const {core, count} = await it.state();
+  it.wants(core === 832 && count === 27, `End in the field of core: ${core} words, operator ${count}`);
+  await asksAtFault(it);
+  await it.opens('sum,4096');
+  await browser.value("dispatchEvent(new Event('beforeprint')); 0");
+  it.wants(/^ +1 {2}.*\n +2 {2}/.test(await browser.value("document.getElementById('deck-paper').textContent")), 'the deck on paper');
+  await browser.value("dispatchEvent(new Event('afterprint')); 0");
+  await it.opens('task:3.2');
+  it.wants(await browser.value("[...document.querySelectorAll('#task .by-hand button')].map(it => it.textContent).join('|')") === 'step|store', 'buttons for the keys of a task');
+}
+// At the operator that faults the question hides what tells its answer.
+async function asksAtFault(it) {
+  const {browser} = it;
+  await it.writes('?JOB T\n?ASM\nSEGMENT MAIN 2\nNAMC 2,2\nONE\nADD\nEXIT\n?END\n', 4096);
+  await it.click('#step');
+  await browser.value('document.activeElement.blur(); 0');
+  for (const key of ['ArrowRight', 'ArrowRight']) await it.pressed('a fault', (await it.state()).text, key);
+  await browser.press('q');
+  await browser.press('ArrowRight');
+  await it.until("document.querySelector('#quiz form')");
+  it.wants(/By which fault/.test(await it.shown('#quiz')) && await it.shown('#fault') === '', `beside a question stands ${await it.shown('#fault')}`);
+  await browser.value("[...document.querySelectorAll('#quiz form button')].find(it => it.textContent === 'INTEGER OVERFLOW').click(); 0");
+  await it.state();
+  it.wants(/^✕ Not INTEGER OVERFLOW, but INVALID OPERAND, since ADD takes the couple 2,2 and 1\. It wants numbers/.test(await it.shown('#quiz')), `a wrong answer: ${await it.shown('#quiz')}`);
+  await browser.press('q');
 }
 
 // Whoever comes back to a task finds the deck that they wrote for it, until they begin anew; after the last task of a lesson comes the next lesson.

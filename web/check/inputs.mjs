@@ -21,7 +21,7 @@ async function refused(it) {
   it.wants(/^Core has/.test((await it.opens('two,630,3,5')).message), 'a second core of 5 words: no sentence');
   await it.writes(PRINTS, 4096);
   state = await it.click('#run');
-  it.wants(state.ran?.status === 8 && state.message, `a deck that prints without end: ${state.ran?.status} ${state.message}`);
+  it.wants(state.ran?.status === 8 && /16 MB of lines/.test(state.shown) && !/pipe|disk/.test(state.shown), `a deck that prints without end: ${state.ran?.status} ${state.shown.slice(0, 200)}`);
 }
 
 // What takes long is stopped, by the button and by a key, again and again, and the page goes on.
@@ -84,7 +84,7 @@ export async function faults(it) {
   await findsFault(it);
   it.wants(await it.shown('#gutter .refused') === '9' && /status 0/.test(await it.shown('.status.bad')), `a fault at card 9: ${await it.shown('#gutter .refused')} ${await it.shown('.status')}`);
   let state = await it.click('#look');
-  await it.until("!document.getElementById('fault').hidden");
+  await it.until("!document.getElementById('fault').hidden && document.querySelector('#signs[aria-busy=false]')"); // what is told above may take a line less by then
   it.wants(state.count === 5 && await it.shown('#cards .faulty .stop') === '9' && await it.shown('#stacks .wrong-sign') === '✕', `before a fault: ${state.count}`);
   state = await it.click('#fault button');
   it.wants(state.count === 6 && /couple 2,2/.test(await it.shown('#fault')) && await it.shown('#stacks.past .wrong-sign') === '✕', `at a fault: ${state.count} ${await it.shown('#fault')}`);
@@ -174,7 +174,7 @@ export async function long_decks(it) {
   await browser.value("{ const it = document.querySelector('#part-bar input'); it.value = 77006; it.dispatchEvent(new Event('change')); } new Promise(goes => setTimeout(goes, 200))");
   const last = await browser.value("document.getElementById('gutter').innerText.trim()");
   it.wants(/77006$/.test(last), `the last number of a long deck: ${last.slice(-20)}`);
-  await browser.value("{ const it = document.querySelector('#part-bar input'); it.value = 2500; it.dispatchEvent(new Event('change')); } new Promise(goes => setTimeout(goes, 200))");
+  await browser.value("{ const it = document.querySelector('#part-bar input'); it.value = 2500; it.dispatchEvent(new KeyboardEvent('keydown', {key: 'Enter'})); } new Promise(goes => setTimeout(goes, 200))");
   const [shown, caret] = await browser.value("[document.getElementById('gutter').innerText.trim().split(/\\s+/).map(Number), document.getElementById('card-help').textContent]");
   it.wants(shown.includes(2500) && shown[0] < 2500 && /^Card 2500\./.test(caret), `the field card with 2500 shows ${shown[0]} to ${shown.at(-1)}, and the caret: ${caret}`);
   await browser.value("{ const it = document.querySelector('#part-bar input'); it.value = 77006; it.dispatchEvent(new Event('change')); } new Promise(goes => setTimeout(goes, 200))");

@@ -63,6 +63,14 @@ for (const task of TASKS.filter(it => it.kind === 'predict')) {
   });
 }
 
+test('a question says why its answer is right', async () => {
+  await turn();
+  const desk = deskOf(), why = at => questionOf(...[0, 1].map(more => stateAt(desk, at, placeOf(`#${at}`).count + more))).why;
+  assert.equal(why('start,4096,4'), 'ADD adds the two numbers on top: it takes 2 and 3');
+  assert.match(why('factorial,4096,23'), /declared in that record/);
+  assert.match(why('two,630,22'), /machine’s choice/);
+});
+
 test('why a task is the next one', async () => {
   await turn();
   const desk = deskOf(), why = (deck, core, count) => questionOf(...[count, count + 1].map(at => desk.state({deck, core, count: at})), deck)?.why;
@@ -87,6 +95,9 @@ test('why a run hasn’t done a task', () => {
   for (const [printed, text, why] of [['1.1 1\n1.1 ENDED\n', '', 'Line 1 is 1.1 1, and must be 1.1 2.'], ['1.1 2\n', '', 'Line 2 is missing, and must be 1.1 ENDED.'], ['1.1 2\n1.1 ENDED\n1.2 ENDED\n', '', '2 lines must be printed, and there are 3.'],
     ['1.1 2\n1.1 ENDED\n', 'LT8 3', 'The lines are right, but the deck lacks ?SWITCH.'], ['1.1 2\n1.1 ENDED\n', '?SWITCH LT8 2', 'The lines are right, but the deck has LT8 2.'], ['1.1 2\n1.1 ENDED\n', '?SWITCH', '']]) assert.equal(whyNot(task, text, printed), why);
   assert.match(whyNot({lines, has: /SUM/}, 'LT8 2', '1.1 2\n1.1 ENDED\n'), /isn’t the deck/);
+  const task63 = TASKS.find(it => it.id === '6.3'), printed = `${task63.lines.join('\n')}\n`;
+  assert.equal(whyNot(task63, 'LT8 1 ; BRTR\n', printed), 'The lines are right, but the deck lacks a loop, with BRTR or BRFL.');
+  assert.equal(whyNot(task63, 'L: BRTR L\n', printed), '');
 });
 
 test('a run that is resumed', () => {

@@ -78,6 +78,8 @@ test('a refused card of assembly whose word is wrong', () => {
   const refused = [['ONE / AD / EXIT', 'ASM 5 REASON 1', 'No operator is called AD. Is it to be ADD?'], ['L: ENTER', 'ASM 4 REASON 1', 'No operator is called ENTER. Is it to be ENTR?'], ['add', 'ASM 4 REASON 1', 'Operators have capital letters: ADD.'],
     ['ONE / PRINTIT', 'ASM 5 REASON 1', 'No operator is called PRINTIT.'], ['L : ONE', 'ASM 4 REASON 1', ''], ['BRUN AGAIN', 'ASM 4 REASON 5', 'No card has the label AGAIN: before its operator.'],
     ['MPCW F', 'ASM 4 REASON 5', 'No SEGMENT card is called F.'], ['BRUN L / SEGMENT F 3 / L: EXIT', 'ASM 4 REASON 5', ''], ['LT8 300', 'ASM 4 REASON 3', ''], ['ONE', 'LOAD 1 REASON 8', '']];
+  for (const [card, start] of [['LT48 549,755', 'A number has no commas on a card: LT48 549755.'], ['LT8 -5', 'LT8 pushes no negative number: LT8 5, and CHSN'], ['PUSH 5', 'PUSH has no operand, and pushes nothing: LT8 5'], ['VALC 5', 'VALC wants a couple, as VALC 2,2'], ['LT8 300', '']])
+    assert.ok(refusedWord('ASM 4 REASON 2', `?JOB A\n?ASM\nSEGMENT MAIN 2\n${card}\n?END\n`).startsWith(start), card);
   for (const [cards, line, sentence] of refused) assert.equal(refusedWord(line, deckOf(cards)), sentence, cards);
 });
 
