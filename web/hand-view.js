@@ -153,17 +153,23 @@ export class Hand {
     this.links = text;
     const {page} = this, {hands, broken} = await handsOf(text), tasks = tasksFor(hands.map(it => it.hand), page.decks);
     if (!hands.length) throw new Error('No link of work that was handed in stands in this text: each has the sign # and hand: in it.');
-    const table = {hands, tasks, broken, letters: lettersOf(hands, tasks)}, seen = new Map();
+    const table = {hands, tasks, broken, letters: lettersOf(hands, tasks)};
     this.draws(table);
+    await this.marksAll(table, text).finally(() => { if (this.links === text && byId('class-table')) this.draws(table); });
+  }
+  async marksAll(table, text) {
+    const {hands, tasks} = table, {page} = this, seen = new Map(), stop = element('button', {type: 'button', id: 'class-stop', onclick: () => { this.halted = true; }}, 'Stop'), said = element('span');
+    this.halted = false;
+    put(byId('class-said'), said, stop);
     for (const [k, {part, hand}] of hands.entries()) {
+      if (this.halted) return;
       if (this.marks.has(part)) continue;
-      byId('class-said').textContent = `Doing again what ${hand.name} handed in: ${k + 1} of ${hands.length}. Stop leaves the others as they were told.`;
+      said.textContent = `Doing again what ${hand.name} handed in: ${k + 1} of ${hands.length}. `;
       const marks = await marksOf(this.ask, hand, tasks, page.decks, {seen});
       this.marks.set(part, marks);
       if (this.links !== text || !byId('class-table')) return;
       document.querySelector(`[data-pupil="${k}"]`)?.replaceWith(this.pupilRow(table, k));
     }
-    this.draws(table);
   }
   draws(table) {
     const {hands, tasks, broken, letters} = table, isSame = [...letters.values()].flat().some(Boolean), older = hands.filter(it => it.older).length;

@@ -56,7 +56,7 @@ async function stopsOnTheWay(it) {
   await it.browser.press('g');
   it.wants((await it.state()).count === 1, 'the segment comes into core elsewhere');
   await it.browser.press('g');
-  await it.until("/at operator ([2-9]|1[\\d,])/.test(document.getElementById('progress').textContent)");
+  await it.until("!document.getElementById('busy').hidden && /at operator ([2-9]|1[\\d,])/.test(document.getElementById('progress').textContent)"); // the text of the search before may stand there still
   await it.browser.press('Escape');
   const {message} = await it.state(), found = /^Stopped\. There is no paging from operator 1 to operator ([\d,]+)\. Go to operator \1$/.exec(message);
   const {count} = found ? await it.click('#message button') : {};
