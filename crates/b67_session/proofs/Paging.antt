@@ -1,13 +1,15 @@
 -- Steps that were made one by one.
-use Rattle.std.proofs.Common.{◌≡◌, ◌≢◌, ℕ, ◌+◌, List, [], ◌∷◌, length, Option, None, Result, Ok, Err, refl, sym, ap, ◌∙◌, subst}
+use Rattle.std.proofs.Common.{◌≡◌, ◌≢◌, ℕ, ◌+◌, List, [], ◌∷◌, length, Option, None, Result, Ok, Err, inl, inr, refl, sym, ap, ◌∙◌, subst}
 use Rattle.b67_layout_storage.specs.Machine.{Says, content_after}
 use Rattle.b67_layout_storage.proofs.Retold.{retold-same}
 use Rattle.b67_model.specs.Common.{RunLine, Session, after}
 use Rattle.b67_law_sessions.proofs.TurnRuns.{Came, came-none, came-more}
 use Rattle.b67_task_tables.specs.declared.tables.Machine.{Machine}
 use Rattle.b67_session.specs.AttemptStops.{Stop}
+use Rattle.b67_session.specs.AttemptStops as stops
+use Rattle.b67_session.proofs.Resuming.{next_row, limited_row}
 use Rattle.b67_session.proofs.Pausing.{known_still}
-use Rattle.b67_session.specs.Slices.{StandsAt, Keeps, Between, TakesOn, MovesItsWants, IsOnward, by_a_step, in_a_turn, HasPaged, PagesByStep, goes_well, stops_in}
+use Rattle.b67_session.specs.Slices.{StandsAt, Keeps, Between, TakesOn, MovesItsWants, IsOnward, by_a_step, in_a_turn, HasPaged, PagesByStep, SliceMeets, goes_well, stops_in}
 use Rattle.b67_session.specs.Steps.{StepGives, Steps, MadeInOrder, GoesOnInTurn}
 
 -- a whole step is the one after the session
@@ -60,7 +62,15 @@ module _ {D : Type 0} (holds : D → Option (List (List ℕ))) where
           }
 
   -- a step that was stopped
-  pub stop_pages : {A : Type 0} (stop : Stop) (old mid new : Machine) (d e f : D) (answered : Result (Unit {0}) Stop) → answered ≡ Err stop → HasPaged holds old mid d e → MovesItsWants holds answered mid new e f
+  pub stop_pages : {A : Type 0} (stop : Stop) (old mid new : Machine) (d e f : D) (answered : Result (Unit {0}) Stop) → answered ≡ Err stop → new.tasks.rows.items ≢ [] → HasPaged holds old mid d e → MovesItsWants holds answered mid new e f
       → PagesByStep {A = A} holds (Err stop) old new d f
-  stop_pages {A} stop old mid new d e f answered is h moves =
-      stops_in stop refl (record { machine = mid; device = e }) h (subst (λ (a : Result (Unit {0}) Stop). MovesItsWants holds a mid new e f) is moves)
+  stop_pages {A} stop old mid new d e f answered is lives h moves =
+      stops_in stop refl lives (record { machine = mid; device = e }) h (subst (λ (a : Result (Unit {0}) Stop). MovesItsWants holds a mid new e f) is moves)
+
+-- where a step was stopped a task lives
+pub stop_lives : (said : Option (List (List ℕ))) (exact : Type 0) (core count n steps : ℕ) (s : Session) (is_due : List ℕ) (stop : Stop) (new : Machine) → SliceMeets said exact core count n steps s is_due (Err stop) new → new.tasks.rows.items ≢ []
+stop_lives said exact core count n steps s is_due (stops.NoCore words size) new m = next_row said new s m.0.member m.0.task m.0.stands m.0.next
+stop_lives said exact core count n steps s is_due (stops.BackingFull sum size) new m = next_row said new s m.0.member m.0.task m.0.stands m.0.next
+stop_lives said exact core count n steps s is_due stops.BackingFault new m = next_row said new s m.0.member m.0.task m.0.stands m.0.next
+stop_lives said exact core count n steps s is_due stops.PrintFault new (proper, inl (b, room)) = next_row said new s b.member b.task b.stands b.next
+stop_lives said exact core count n steps s is_due stops.PrintFault new (proper, inr (part, l)) = limited_row said new s part l

@@ -231,10 +231,10 @@ pub record HasPaged {D : Type 0} (holds : D → Option (List (List ℕ))) (old n
   pub between : List (Between D)
   pub follow : FollowEach holds between old new device device'
 
--- so it was, and after a stop the step that it stopped moved no more than it wants either
+-- so it was, and after a stop, where a task lives, the step that it stopped moved no more than it wants either
 pub data PagesByStep {A D : Type 0} (holds : D → Option (List (List ℕ))) (answered : Result A Stop) (old new : Machine) (device device' : D) : Type 0 where
   goes_well : IsOk answered → HasPaged holds old new device device' → PagesByStep holds answered old new device device'
-  stops_in : (stop : Stop) → answered ≡ Err stop → (last : Between D) → HasPaged holds old last.machine device last.device
+  stops_in : (stop : Stop) → answered ≡ Err stop → new.tasks.rows.items ≢ [] → (last : Between D) → HasPaged holds old last.machine device last.device
       → MovesItsWants {A = Unit {0}} holds (Err stop) last.machine new last.device device' → PagesByStep holds answered old new device device'
 
 -- ---- what is answered

@@ -16,7 +16,7 @@ use Rattle.b67_task_tables.proofs.Keeping.{keeps_then, countable_kept}
 use Rattle.b67_session.proofs.Going.{Going, going-begins, going-lives, going-more, going-steps, going-stops, going-turn, begun_present, made_no_fewer, stop_rooms, stop_causes}
 use Rattle.b67_session.proofs.Pausing.{says_retold, still_told, known_still, retold_twice, pause_slices}
 use Rattle.b67_session.specs.Slices.{goes_well}
-use Rattle.b67_session.proofs.Paging.{nothing_paged, paged_then, step_follows, turn_follows, stop_pages}
+use Rattle.b67_session.proofs.Paging.{nothing_paged, paged_then, step_follows, turn_follows, stop_pages, stop_lives}
 use Rattle.b67_session.proofs.Rows.{stays_ended, went_on, none_made}
 use Rattle.b67_session.proofs.slices.go_on.Given.{Over}
 use Rattle.b67_session.proofs.slices.go_on.Goals.{After-step}
@@ -256,8 +256,10 @@ returns-in-None-clause-paged g c = goes_well refl c.turn.invariant.pages
 
 pub returns-in-Err-clause-paged : goal.returns-in-Err-clause-paged
 returns-in-Err-clause-paged g c =
+    let l = c.requires.begins.stands in
+    let row = returns-in-Err-clause-row g c l.said l.session l.says l.stands in
     stop_pages g.B.Backing.holds c.in-Err.stop c.args.machine.now c.turn.machine c.step.new.machine c.args.backing.now c.turn.backing c.step.new.backing c.step.result c.in-Err.is
-    c.turn.invariant.pages c.step.ensures.present
+    (stop_lives _ _ _ _ _ _ _ _ c.in-Err.stop c.step.new.machine row.meets) c.turn.invariant.pages c.step.ensures.present
 
 -- ---- no task from the beginning
 
