@@ -1,7 +1,7 @@
 //! The session that stands after a step or a store, and what a store makes of the machine: lemmas, and two laws on the arrays
 //! that rows keep and touch.
 //!
-//! For `b67_fetch`, `b67_mcp_calls` and what stands on them: laws `rows_keep_arrays`, `steps_touch_arrays`.
+//! For `b67_fetch`, `b67_mcp` and what stands on them: laws `rows_keep_arrays`, `steps_touch_arrays`.
 //!
 //! Begin with the law `steps_touch_arrays`.
 #![tactic(auto)]

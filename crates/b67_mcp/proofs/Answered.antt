@@ -3,12 +3,12 @@ use Rattle.std.proofs.Common.{ℕ, [], ◌∷◌, map, refl}
 use Rattle.b67_word.specs.declared.couples.Place.{Place}
 use Rattle.b67_model.specs.Common.{Word, Original, Task, SessionJob, top, below_top, answered, Session}
 use Rattle.b67_layout.specs.Common.{IsInOrderButCounts, Placement, TablesShow, IsRunning, here, with_job}
-use Rattle.b67_mcp_calls.specs.Calls.{MayCut}
-use Rattle.b67_mcp_calls.specs.Declaring.{job_declared, with_home}
-use Rattle.b67_mcp_calls.proofs.Tables.{tables-there}
+use Rattle.b67_mcp.specs.Printed.{MayCut}
+use Rattle.b67_mcp.specs.Declaring.{job_declared, with_home}
+use Rattle.b67_mcp.proofs.OriginalTables.{tables-there}
 use Rattle.b67_task_tables.specs.declared.tables.Tasks.{Tasks}
 use Rattle.b67_task_tables.specs.Tables.{task_row, job_row, counts_of, TasksShow}
-use Rattle.b67_mcp_calls.proofs.Passed.{jobs_kept, tables_after, replaces_answered, waits_answered}
+use Rattle.b67_mcp.proofs.Passed.{jobs_kept, tables_after, replaces_answered, waits_answered}
 
 module _ (plan : Placement) (s : Session) (m : SessionJob) (t : Task) (o : IsInOrderButCounts s) (runs : IsRunning plan s.jobs m t) (may : MayCut m t) (q : Place) (length at : ℕ) where
   there : Placement

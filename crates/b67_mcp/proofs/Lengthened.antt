@@ -18,14 +18,14 @@ use Rattle.b67_stack.proofs.Helds.{held-other}
 use Rattle.b67_layout.specs.Common.{IsInOrderButCounts, Placement, array_object, objects_of, machine_view, IsRunning, with_job, area_held}
 use Rattle.b67_layout_storage.specs.Machine.{IsPresent, PagingKeeps, Says, content_after}
 use Rattle.b67_overlay.specs.Spans.{MachineCanPage}
-use Rattle.b67_mcp_process.proofs.Passed.{copies_of, view_of}
+use Rattle.b67_mcp.proofs.PassedSpans.{copies_of, view_of}
 use Rattle.b67_layout_step.proofs.Arrays.{Renumbers}
 use Rattle.b67_exec_cells.proofs.Replaced.{array_object-has}
-use Rattle.b67_mcp_process.proofs.Passed.{short_full, within}
+use Rattle.b67_mcp.proofs.PassedSpans.{short_full, within}
 use Rattle.b67_task_tables.specs.declared.tables.Machine.{Machine}
 use Rattle.b67_task_tables.specs.Tables.{MachineRepresents}
 use Rattle.b67_task_need.specs.Needing.{StandsOrdered}
-use Rattle.b67_mcp_lengths.specs.Lengths.{IsArray, zeroed, cut_to, grown_to, emptied, shorter, OthersStay, LengthenMeets}
+use Rattle.b67_mcp.specs.Lengths.{IsArray, zeroed, cut_to, grown_to, emptied, shorter, OthersStay, LengthenMeets}
 use Rattle.b67_mcp.specs.declared.ends.Stop.{Stop}
 use Rattle.b67_mcp.specs.declared.ends.Stop.TheVariants as stops
 use Rattle.b67_mcp.specs.Running.{Keeps}

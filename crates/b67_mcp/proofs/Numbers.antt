@@ -9,12 +9,12 @@ use Rattle.b67_lemmas.proofs.Places.{at_mapped, map-slice_set, mapped_at, put_ba
 use Rattle.b67_model.specs.Common.{Word, Operand, Task, SessionJob, top, below_top, answered, read_from, number_of, Session}
 use Rattle.b67_layout.specs.Common.{IsInOrderButCounts, Placement, JobShows, TablesShow, IsRunning, here, with_job}
 use Rattle.b67_layout.specs.Rows as rows
-use Rattle.b67_mcp_calls.specs.Reads.{job_read, NumberIsRead, ReadMeets}
+use Rattle.b67_mcp.specs.Reads.{job_read, NumberIsRead, ReadMeets}
 use Rattle.b67_task_tables.specs.declared.tables.JobRow.{JobRow}
 use Rattle.b67_task_tables.specs.declared.tables.Tasks.{Tasks}
 use Rattle.b67_task_tables.specs.Tables.{task_row, job_row, counts_of, TasksShow, job_given}
 use Rattle.b67_layout.proofs.LiveTasks.{job_at}
-use Rattle.b67_mcp_calls.proofs.Passed.{jobs_put, tables_after, replaces_answered, waits_answered}
+use Rattle.b67_mcp.proofs.Passed.{jobs_put, tables_after, replaces_answered, waits_answered}
 use Rattle.b67_law_order.proofs.Numbered.{numbered_low}
 
 -- the row of a job

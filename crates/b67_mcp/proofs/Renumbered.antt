@@ -14,15 +14,15 @@ use Rattle.b67_layout.specs.Common.{IsInOrderButCounts, Placement, array_object,
 use Rattle.b67_layout.proofs.Common.{running_in_order, member-same, AllAlike, RepresentsSession-over}
 use Rattle.b67_layout_storage.specs.Machine.{PagingKeeps}
 use Rattle.b67_overlay.specs.Spans.{MachineCanPage}
-use Rattle.b67_mcp_process.proofs.Passed.{copies_of}
+use Rattle.b67_mcp.proofs.PassedSpans.{copies_of}
 use Rattle.b67_layout_storage.proofs.Devices.{says_of}
 use Rattle.b67_layout_storage.proofs.Untold.{untold}
 use Rattle.b67_layout_step.proofs.Arrays.{Renumbers, slots_same}
 use Rattle.b67_layout_step.proofs.Objects.{old_object, replaces}
 use Rattle.b67_task_tables.specs.declared.tables.Machine.{Machine}
 use Rattle.b67_task_tables.specs.Tables.{task_row, job_row, counts_of, TasksShow, MachineRepresents}
-use Rattle.b67_mcp_process.proofs.Moved.{same_jobs}
-use Rattle.b67_mcp_calls.proofs.Passed.{WaitsThere, jobs_kept, tables_after}
+use Rattle.b67_mcp.proofs.Moved.{same_jobs}
+use Rattle.b67_mcp.proofs.Passed.{WaitsThere, jobs_kept, tables_after}
 
 -- what its view says of a machine
 pub seen : (x : Storage) (told : Option (List (List ℕ))) (k : Machine) (plan : Placement) (s : Session) → IsInOrderButCounts s → MachineRepresents x told k plan s → MachineCanPage x k.cpu k.areas k.sectors told (machine_view plan s.jobs)

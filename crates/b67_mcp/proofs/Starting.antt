@@ -18,8 +18,8 @@ use Rattle.b67_task_need.specs.Needing.{need_with, StandsOrdered}
 use Rattle.b67_task_tables.specs.declared.tables.Machine.{Machine}
 use Rattle.b67_task_tables.specs.Tables.{MachineRepresents}
 use Rattle.b67_task_tables.specs.Shortage.{IsShortOf}
-use Rattle.b67_mcp_process.proofs.Passed.{short_full}
-use Rattle.b67_mcp_process.specs.Process.{StartsOne, ProcessMeets, ProcessWrites, ProcessFits}
+use Rattle.b67_mcp.proofs.PassedSpans.{short_full}
+use Rattle.b67_mcp.specs.Process.{StartsOne, ProcessMeets, ProcessWrites, ProcessFits}
 use Rattle.b67_exec_cells.specs.Called.{called_in}
 use Rattle.b67_mcp.specs.Called.{StartsTask, CallTouches, CallWrites, CallFits}
 use Rattle.b67_mcp.specs.Answers.{SilentMeets, call_end_of}

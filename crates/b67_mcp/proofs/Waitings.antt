@@ -7,7 +7,7 @@ use Rattle.b67_layout.specs.Common.{IsInOrderButCounts, Placement, here}
 use Rattle.b67_stack.specs.Represents.{Storage}
 use Rattle.b67_task_tables.specs.declared.tables.TaskState.{TaskState}
 use Rattle.b67_task_tables.specs.declared.tables.Machine.{Machine}
-use Rattle.b67_mcp_waits.specs.Events.{GoesOn, WaitMeets, DoneMeets}
+use Rattle.b67_mcp.specs.Events.{GoesOn, WaitMeets, DoneMeets}
 use Rattle.b67_mcp.specs.declared.ends.CallEnd.{CallEnd}
 use Rattle.b67_mcp.specs.declared.ends.CallEnd.TheVariants as ends
 use Rattle.b67_mcp.specs.Called.{StartsTask, CallTouches, CallFits}

@@ -6,8 +6,8 @@ use Rattle.b67_model.specs.Common.{Word, Task, Job, SessionJob, Goes, step, Sess
 use Rattle.b67_stack.specs.declared.Cpu.{Cpu}
 use Rattle.b67_stack.specs.Represents.{Storage}
 use Rattle.b67_layout.specs.Common.{Placement, JobShows, ForEach, with_job, session_moved}
-use Rattle.b67_mcp_calls.specs.Calls.{IsCall}
-use Rattle.b67_mcp_calls.specs.Reads.{ReadMeets}
+use Rattle.b67_mcp.specs.Printed.{IsCall}
+use Rattle.b67_mcp.specs.Reads.{ReadMeets}
 use Rattle.b67_task_tables.specs.declared.tables.JobRow.{JobRow}
 use Rattle.b67_task_tables.specs.declared.tables.Machine.{Machine}
 use Rattle.b67_task_tables.specs.Tables.{job_row, MachineRepresents}

@@ -7,8 +7,8 @@ use Rattle.b67_model.specs.Common.{Task, SessionJob, reading_of, Session}
 use Rattle.b67_stack.specs.Represents.{Storage}
 use Rattle.b67_layout.specs.Placement.{Placement}
 use Rattle.b67_exec_cells.specs.Running.{code_area}
-use Rattle.b67_mcp_calls.specs.Calls.{MayCut}
-pub use Rattle.b67_mcp_process.specs.Process.{CanNumber}
+use Rattle.b67_mcp.specs.Printed.{MayCut}
+pub use Rattle.b67_mcp.specs.Process.{CanNumber}
 use Rattle.b67_task_tables.specs.declared.tables.JobRow.{JobRow}
 use Rattle.b67_task_tables.specs.declared.tables.Machine.{Machine}
 use Rattle.b67_task_tables.specs.Runs.{RunsTask, ForEachRun}

@@ -1,23 +1,35 @@
-//! The call of an intrinsic by the running task, with the printer and the device. It promises the row of each intrinsic: what
-//! it answers and leaves, each fault, what it prints; and that after a stop the machine represents the same session.
+//! The call of an intrinsic by the running task, with the printer and the device: a file for each intrinsic or family. It
+//! promises the row of each: what it answers and leaves, each fault in its order, what it prints, whom it wakes or starts; and
+//! that after a stop the machine represents the same session.
 //!
 //! For `b67_session`: `intrinsic` (`call` with `row`, `present`, `fits`, `quiet`; `causes`, `kept`, `device`), which asks that
 //! each job's next task can be numbered; `stop_for`, the stop of a step for which core, sectors or the device fail.
 //!
-//! Begin with `intrinsic`, whose clause `call` holds the row of each intrinsic.
+//! Begin with `intrinsic`, whose clause `call` holds the row of each intrinsic; then the file of one, as `resize`.
 #![tactic(auto)]
 
+mod await_status;
+mod call;
+mod cell_given;
 mod deallocate;
 mod declare;
 mod ends;
+mod number;
+mod originals;
 mod print;
 mod print_row;
+mod print_row_lines;
+mod print_row_values;
 mod process;
+mod process_asked;
+mod process_started;
 mod read;
 mod resize;
 mod running;
 mod stopping;
+mod wait_cause;
 mod waits;
+mod woken;
 
 ghost use Rattle.std.specs.Prelude.{◌≡◌, ◌+◌, length};
 ghost use Rattle.b67_layout_storage.specs.Machine.{DeviceAfterCalls};

@@ -1,6 +1,9 @@
 //! PRINT.
 
-ghost use Rattle.std.specs.Prelude.{◌≡◌, ◌≢◌, ℕ, OnOk, OnErr, Err, ◌∷◌, []};
+ghost use Rattle.b67_model.specs.Words as words;
+ghost use Rattle.std.specs.Prelude.{◌≡◌, List, ◌≢◌, ℕ, OnOk, OnErr, Err, ◌∷◌, []};
+ghost use Rattle.b67_layout.specs.Meets.{ForEach};
+ghost use Rattle.b67_mcp.specs.Printed.{CallSome, IsCall, PrintMeets};
 ghost use Rattle.b67_model.specs.declared.intrinsics.TheConstants.{PRINT};
 ghost use Rattle.b67_io.specs.Causes.{HasCause};
 ghost use Rattle.b67_session_lines.specs.Parts.{TookRest, TookMore};
@@ -9,13 +12,30 @@ ghost use Rattle.b67_mcp.specs.declared.ends.Stop.TheVariants.{BackingFault};
 ghost use Rattle.b67_mcp.specs.Called.{printed_text, CallsSome, CallMeets, CallTouches, ChangesStack};
 ghost use Rattle.b67_mcp.specs.Running.{ForRuns, ForCalls, StandsAtEntr, Keeps, IsHeard};
 
+use crate::call::only_argument;
+use crate::number::whole;
 use crate::running::{cut, running_row};
 use crate::{CallEnd, Stop};
+use b67_entry::is_critical;
 use b67_io::Sink;
-use b67_mcp_calls::print_value;
 use b67_session_lines::{put_rest, value_line};
+use b67_stack::Cpu;
 use b67_task_tables::Machine;
-use b67_word::Failed;
+use b67_word::{Failed, Fault, Word};
+
+/// The value that a call of PRINT on the running stack prints, or the call's fault. Nothing is changed: the line is printed
+/// first, and then the call is cut.
+pub fn print_value(cpu: &Cpu) -> Result<i64, Fault>
+    requires { CallSome cpu.now }
+    ensures row { ForEach cpu.now (λ x plan s m t. (reference : words.Word) (arguments : List words.Word) → IsCall t reference arguments → PrintMeets m t arguments result) }
+{
+    let w = only_argument(cpu)?;
+    let value = whole(w);
+    if value.is_ok() && is_critical(cpu) {
+        return Err(Fault::CriticalBlock);
+    }
+    value
+}
 
 /// Prints what isn't printed yet of the line of a value that the running task prints. `printed` counts how many first bytes of
 /// it are printed; it is raised by those that are taken.

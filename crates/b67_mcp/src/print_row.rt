@@ -1,22 +1,95 @@
 //! PRINTROW.
 
-ghost use Rattle.std.specs.Prelude.{◌≡◌, ◌≢◌, ℕ, Err, ◌≤◌, ◌+◌, ℤ, List, [], ◌∷◌, length, Some, OnOk, OnErr, slice_range};
+ghost use Rattle.b67_model.specs.Words as words;
+ghost use Rattle.std.specs.Prelude.{◌≡◌, ℕ, List, ◌≢◌, Err, ◌≤◌, ◌+◌, ℤ, [], ◌∷◌, length, Some, OnOk, OnErr, slice_range};
+ghost use Rattle.b67_model.specs.Intrinsics.{row_copy};
+ghost use Rattle.b67_layout.specs.Meets.{ForEach};
+ghost use Rattle.b67_fetch.specs.Fetches.{IsFollowed, MayFollow};
+ghost use Rattle.b67_fetch.specs.Indexes.{FindsArray};
+ghost use Rattle.b67_mcp.specs.Printed.{CallSome, IsCall};
+ghost use Rattle.b67_mcp.specs.RowCalls.{CopyMeets, MissesCopy, RowMeets, RowTouches};
 ghost use Rattle.b67_model.specs.declared.intrinsics.TheConstants.{PRINTROW};
 ghost use Rattle.b67_io.specs.Causes.{HasCause};
 ghost use Rattle.b67_session_lines.specs.Parts.{TookRest, TookMore};
 ghost use Rattle.b67_model.specs.Steps.{Values};
-ghost use Rattle.b67_mcp_calls.specs.Texts.{values_of};
+ghost use Rattle.b67_mcp.specs.Texts.{values_of};
 ghost use Rattle.b67_mcp.specs.declared.ends.Stop.TheVariants.{BackingFault};
 ghost use Rattle.b67_mcp.specs.Called.{printed_text, CallsSome, CallMeets, CallTouches, ChangesStack};
 ghost use Rattle.b67_mcp.specs.Running.{ForRuns, ForCalls, StandsAtEntr, Keeps, IsHeard};
 
+use crate::call::only_argument;
+use crate::print_row_lines::say_row;
+use crate::print_row_values::are_whole;
 use crate::running::{cut, running_row};
 use crate::{CallEnd, Stop};
+use b67_ctl::DataDesc;
+use b67_entry::is_critical;
+use b67_exec_cells::array_descriptor;
 use b67_io::Sink;
-use b67_mcp_calls::{RowFound, row_to_print, say_row};
-use b67_stack::What;
+use b67_refer::owner;
+use b67_stack::{Cpu, What};
 use b67_task_tables::Machine;
-use b67_word::Failed;
+use b67_word::{Failed, Fault, Word};
+
+/// The row that a call prints: so many words from an address on; or the array whose original has this address is absent.
+#[derive(Clone, Copy, Debug, PartialEq, Eq)]
+pub enum RowFound {
+    Words { at: u32, count: u32 },
+    Absent(u32),
+}
+
+/// The address of the original that a word copies whole. INVALID OPERAND where it is no such copy.
+pub(crate) fn copied(cpu: &Cpu, w: Word) -> Result<u32, Fault>
+    requires { MayFollow cpu.now w }
+    ensures { ForEach cpu.now (λ x plan s m t. (v : words.Word) → IsFollowed x plan m t w v → FindsArray plan m result (row_copy v)) }
+{
+    if w.tag() != 5 {
+        return Err(Fault::InvalidOperand);
+    }
+    let copy = DataDesc::read(w);
+    if copy.copy && !copy.indexed {
+        Ok(owner(&cpu.core, copy))
+    } else {
+        Err(Fault::InvalidOperand)
+    }
+}
+
+/// The address of the original that the one argument of a call of PRINTROW copies, or the call's fault.
+fn argument(cpu: &Cpu) -> Result<u32, Fault>
+    requires { CallSome cpu.now }
+    ensures row { ForEach cpu.now (λ x plan s m t. (reference : words.Word) (arguments : List words.Word) → IsCall t reference arguments → CopyMeets plan m t arguments result) }
+    ensures copies { ForEach cpu.now (λ x plan s m t. (reference : words.Word) (arguments : List words.Word) → IsCall t reference arguments → MissesCopy arguments result) }
+{
+    match only_argument(cpu) {
+        Ok(w) => copied(cpu, w),
+        Err(fault) => Err(fault),
+    }
+}
+
+/// The row that a call of PRINTROW on the running stack prints, or the call's fault. An absent array comes before the
+/// faults of what it holds: after any other answer the array that the argument copies, if any, is present. Nothing is
+/// changed: the lines are printed first, and then the call is cut.
+pub fn row_to_print(cpu: &Cpu) -> Result<RowFound, Fault>
+    requires { CallSome cpu.now }
+    ensures row { ForEach cpu.now (λ x plan s m t. (reference : words.Word) (arguments : List words.Word) → IsCall t reference arguments → RowMeets x plan m t cpu.now.core arguments result) }
+    ensures present { ForEach cpu.now (λ x plan s m t. (reference : words.Word) (arguments : List words.Word) → IsCall t reference arguments → RowTouches x plan m arguments result) }
+{
+    let original = argument(cpu)?;
+    let desc = array_descriptor(cpu, original);
+    if !desc.present {
+        return Ok(RowFound::Absent(original));
+    }
+    if !are_whole(cpu.core.words(desc.address, desc.length)) {
+        return Err(Fault::Exponent);
+    }
+    if is_critical(cpu) {
+        return Err(Fault::CriticalBlock);
+    }
+    Ok(RowFound::Words {
+        at: desc.address,
+        count: desc.length,
+    })
+}
 
 /// Prints what isn't printed yet of the lines of a row of words in core, from an address on, which the running task prints.
 /// `printed` counts how many first bytes of them are printed; it is raised by those that are taken.

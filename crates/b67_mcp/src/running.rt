@@ -4,13 +4,13 @@ ghost use Rattle.std.specs.Prelude.{◌≡◌, ◌+◌, ◌^◌, ◌<◌};
 ghost use Rattle.b67_model.specs.Operators.{count_at};
 ghost use Rattle.b67_ctl.specs.Layout.{IsPlace};
 ghost use Rattle.b67_layout.specs.Meets.{with_job};
-ghost use Rattle.b67_mcp_calls.specs.Calls.{MayCut, job_cut};
+ghost use Rattle.b67_mcp.specs.Printed.{MayCut, job_cut};
 ghost use Rattle.b67_word.specs.declared.couples.Place.{Place};
 ghost use Rattle.b67_task_tables.specs.Tables.{MachineRepresents};
 ghost use Rattle.b67_mcp.specs.Called.{ChangesStack};
 ghost use Rattle.b67_mcp.specs.Running.{ForRuns, IsBehind, StandsAtEntr, CutsSome, Keeps};
 
-use b67_mcp_calls::cut_call;
+use crate::call::cut_call;
 use b67_task_tables::{Machine, TaskRow};
 use b67_word::Place;
 

@@ -6,9 +6,10 @@ ghost use Rattle.b67_mcp.specs.Answers.{SilentMeets, waiting_end};
 ghost use Rattle.b67_mcp.specs.Called.{CallsSome, CallTouches, CallFits};
 ghost use Rattle.b67_mcp.specs.Running.{ForCalls, Keeps};
 
+use crate::await_status::{await_task, status_of};
 use crate::running::next_place;
+use crate::wait_cause::{cause, wait_at};
 use crate::{CallEnd, silent};
-use b67_mcp_waits::{await_task, cause, status_of, wait_at};
 use b67_model::{AWAIT, STATUS, WAIT};
 use b67_task_tables::{Machine, TaskState};
 use b67_word::Fault;

@@ -4,8 +4,8 @@ use Rattle.b67_word.specs.Tagged.{Tagged}
 use Rattle.b67_word.specs.declared.couples.Place.{Place}
 use Rattle.b67_model.specs.Common.{with_array, all_zero, SessionJob}
 use Rattle.b67_layout.specs.Common.{array_object, machine_view, with_job}
-use Rattle.b67_mcp_calls.specs.Lengthening.{job_emptied}
-use Rattle.b67_mcp_lengths.specs.Lengths.{emptied}
+use Rattle.b67_mcp.specs.Lengthening.{job_emptied}
+use Rattle.b67_mcp.specs.Lengths.{emptied}
 use Rattle.b67_stack.specs.Shapes.{nowhere}
 use Rattle.b67_stack.proofs.Helds.{held-other}
 use Rattle.b67_mcp.specs.Called.{is_emptied}

@@ -2,7 +2,7 @@ use Rattle.std.proofs.Common.{◌≡◌, ℕ, refl, sym, ◌∙◌, subst}
 use Rattle.std.proofs.lemmas.Result.{err_from_is_err_and}
 use Rattle.b67_word.specs.declared.couples.Place.{Place}
 use Rattle.b67_layout.specs.Meets.{with_job}
-use Rattle.b67_mcp_calls.specs.Declaring.{job_declared, with_home, storage_without}
+use Rattle.b67_mcp.specs.Declaring.{job_declared, with_home, storage_without}
 use Rattle.std.proofs.lemmas.Bool.{eq-eqb}
 use Rattle.b67_layout.specs.Placement.{Placement}
 use Rattle.b67_stack.specs.Shapes.{nowhere}

@@ -3,7 +3,7 @@ use Rattle.std.proofs.lemmas.Int.{to_z-of_z}
 use Rattle.b67_session_lines.specs.Parts.{TookRest, TookMore}
 use Rattle.b67_mcp.specs.Called.{printed_text}
 use Rattle.b67_model.specs.Steps.{Value}
-use Rattle.b67_mcp_calls.specs.Calls.{job_cut}
+use Rattle.b67_mcp.specs.Printed.{job_cut}
 use Rattle.b67_mcp.proofs.Callings.{calling, reads_of, call_some}
 use Rattle.b67_mcp.proofs.Present.{faults_untouched, made_untouched}
 use Rattle.b67_mcp.proofs.Sizes.{kept_printed}

@@ -1,9 +1,9 @@
 use Rattle.std.proofs.Common.{inl, [], ◌∷◌, Some, Ok, refl, ◌∙◌, ap, subst, arith}
 use Rattle.b67_model.specs.Steps.{Values, Goes}
 use Rattle.b67_stack.specs.declared.What.TheVariants as what
-use Rattle.b67_mcp_calls.specs.Calls.{job_cut}
-use Rattle.b67_mcp_calls.specs.declared.row.RowFound.{RowFound}
-use Rattle.b67_mcp_calls.specs.RowCalls.{RowMeets, RowTouches}
+use Rattle.b67_mcp.specs.Printed.{job_cut}
+use Rattle.b67_mcp.specs.declared.print_row.RowFound.{RowFound}
+use Rattle.b67_mcp.specs.RowCalls.{RowMeets, RowTouches}
 use Rattle.b67_mcp.proofs.Callings.{calling, reads_of, call_some}
 use Rattle.b67_mcp.proofs.Touched.{touched_by_row}
 use Rattle.b67_mcp.proofs.Present.{row_faults, row_made}

@@ -4,7 +4,7 @@ use Rattle.std.specs.List.{slice_get}
 use Rattle.b67_word.specs.declared.couples.Place.{Place}
 use Rattle.b67_model.specs.Intrinsics.{read_from}
 use Rattle.b67_layout.specs.Meets.{with_job}
-use Rattle.b67_mcp_calls.specs.Reads.{job_read}
+use Rattle.b67_mcp.specs.Reads.{job_read}
 use Rattle.b67_task_tables.specs.declared.tables.Machine.{Machine}
 use Rattle.b67_task_tables.specs.declared.tables.Tasks.{Tasks}
 use Rattle.b67_task_tables.specs.Tables.{MachineRepresents}

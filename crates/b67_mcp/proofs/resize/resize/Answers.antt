@@ -6,8 +6,8 @@ use Rattle.b67_model.specs.Common.{Answer, Done, touched_of, SessionJob, with_ar
 use Rattle.b67_layout.specs.Meets.{with_job}
 use Rattle.b67_layout_storage.specs.Machine.{content_after}
 use Rattle.b67_layout_storage.proofs.Untold.{untold}
-use Rattle.b67_mcp_calls.specs.Lengthening.{job_resized, ResizeMeets}
-use Rattle.b67_mcp_calls.specs.declared.resize.Resizing.{Resizing}
+use Rattle.b67_mcp.specs.Lengthening.{job_resized, ResizeMeets}
+use Rattle.b67_mcp.specs.declared.resize.Resizing.{Resizing}
 use Rattle.b67_stack.specs.declared.What.TheVariants as what
 use Rattle.b67_task_tables.specs.declared.tables.Machine.{Machine}
 use Rattle.b67_task_tables.specs.declared.tables.Tasks.{Tasks}

@@ -1,9 +1,0 @@
-pub mod Owned
-pub mod Cuts
-pub mod Ones
-pub mod Pushed
-pub mod Answering
-pub mod Tables
-pub mod Frames
-pub mod Rows
-pub mod Standing

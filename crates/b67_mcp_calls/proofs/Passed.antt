@@ -1,4 +1,0 @@
--- What crates above take of the crate below through this one.
-pub use Rattle.b67_mcp_call.proofs.Frames.{replaces_cut, replaces_answered, waits_cut, waits_answered}
-pub use Rattle.b67_mcp_call.proofs.Tables.{WaitsThere, jobs_kept, jobs_put, tables_after}
-pub use Rattle.b67_mcp_call.proofs.Rows.{row_of}

@@ -1,5 +1,0 @@
-pub mod Freeing
-pub mod Emptied
-pub mod Shorter
-pub mod Longer
-pub mod Freed

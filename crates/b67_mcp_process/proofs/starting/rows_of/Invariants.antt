@@ -1,6 +1,0 @@
-use Rattle.std.specs.Prelude.{◌≡◌, ◌+◌, ◌≤◌, drop}
-use Rattle.b67_mcp_process.specs.Begins.{rows_of_job}
-use Rattle.b67_mcp_process.proofs.starting.rows_of.Given as goal
-
-abbrev pub invariant-loop-at : goal.invariant-loop-at
-invariant-loop-at l = (l.live + rows_of_job (drop l.at l.rows) l.job ≡ rows_of_job l.rows l.job) × (l.live ≤ l.at)
