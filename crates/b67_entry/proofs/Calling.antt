@@ -23,10 +23,10 @@ use Rattle.b67_layout.proofs.Objects.{objects-after}
 use Rattle.b67_entry.proofs.Returned.{clear_mark, clear_return}
 use Rattle.b67_layout_records.proofs.Leaves.{task_at}
 use Rattle.b67_entry.specs.Left.{Returns, here_left}
-use Rattle.b67_law_order.proofs.Follows.{frame_same}
+use Rattle.b67_law.proofs.Follows.{frame_same}
 use Rattle.b67_entry.proofs.Leaving.{under, on_top, on_stack, may_return, regs_left, job_at, member_at, task_left}
 use Rattle.b67_entry.proofs.Evaluating.{scene, seen, frames_same, answer_is}
-use Rattle.b67_law_order.proofs.Maps.{IsOperand}
+use Rattle.b67_law.proofs.Maps.{IsOperand}
 
 -- an accidental entry by whether the procedure's level is the next one
 accident_at : (h : OperatorContext) (cells : List Word) (back : Return) (f segment level : ℕ) (place : Place) (b : Bool) → (level_of_frame (frame h f) + 1 == level) ≡ b

@@ -28,7 +28,7 @@ use Rattle.b67_layout_records.proofs.Enters as Enters
 use Rattle.b67_layout_records.proofs.Enters.{IsMarkedWith, entered_frames, marked_stack, IsRunning-entered, SessionHolds-entered, RepresentsSession-entered}
 use Rattle.b67_entry.proofs.Sites.{Site, site}
 use Rattle.b67_entry.proofs.Segments.{few_segments}
-use Rattle.b67_law_order.proofs.Looks.{below_marked, below_some}
+use Rattle.b67_law.proofs.Looks.{below_marked, below_some}
 
 top_cells_in_order : (P : (ℕ → ℕ → Place → Type 0)) (arrays : List State.Array) (outer : List (ℕ × State.Standing)) (fs : List Frame) → FramesInOrder P arrays outer fs → CellsInOrder P arrays (map known_of fs ++ outer) (top fs).identity (top fs).cells
 top_cells_in_order P arrays outer [] g = (tt, tt)

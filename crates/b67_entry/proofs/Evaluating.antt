@@ -27,13 +27,13 @@ use Rattle.b67_exec_cells.specs.Elements.{HasElement}
 use Rattle.b67_layout_records.proofs.Nowhere.{array_stays}
 use Rattle.b67_entry.specs.Left.{Returns, here_left}
 use Rattle.b67_entry.specs.Returned.{with_word, ReturnsWord}
-use Rattle.b67_law_order.proofs.Follows.{follow_same}
+use Rattle.b67_law.proofs.Follows.{follow_same}
 use Rattle.b67_entry.proofs.Heres.{flat_same}
 use Rattle.b67_entry.proofs.Leaving.{member_at, task_left, regs_left, scene_left}
 use Rattle.b67_entry.proofs.Putting.{height_left}
 use Rattle.b67_entry.proofs.Replacing.{frames_with, job_with, Puts, puts_operand, stands_with, changed_with}
 use Rattle.b67_lemmas.proofs.Members.{change_twice, has_filter}
-use Rattle.b67_law_order.proofs.Maps.{IsOperand}
+use Rattle.b67_law.proofs.Maps.{IsOperand}
 
 -- a word that isn't an operand is followed
 follows : (h : OperatorContext) (v : Word) → (IsOperand v → ⊥) → returned h v true ≡ (follow h v >>= evaluates h)

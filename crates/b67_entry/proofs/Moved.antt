@@ -8,7 +8,7 @@ use Rattle.b67_lemmas.proofs.Members.{has_filter_in, keyed_has}
 use Rattle.b67_model.specs.Words as Words
 use Rattle.b67_model.specs.Common.{Word, Operand, Name, Ref, Row, Element, Original, Proc, Intrinsic, Ready, Frame, Standing, Array, Task, Job, SessionJob, owner_of, returnable, Session, IsSegment, IsEntered, Known, known_of, outer_of, reach_of, NamesEntered, NamesArray, WordInOrder}
 use Rattle.b67_layout.specs.Common.{IsInOrderButCounts, Placement, spot_in, outer_spots, spots, shape, IsRunning, RepresentsSession}
-use Rattle.b67_law_order.proofs.Reaches.{Alike, alike_has, alike_under}
+use Rattle.b67_law.proofs.Reaches.{Alike, alike_has, alike_under}
 use Rattle.b67_stack.specs.declared.Cpu.{Cpu}
 use Rattle.b67_stack.specs.Common.{Shape, Fits, StackPlace, Storage}
 use Rattle.b67_layout.proofs.Fresh.{running_in_order}

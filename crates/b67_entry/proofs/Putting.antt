@@ -19,7 +19,7 @@ use Rattle.b67_entry.specs.Returned.{with_word, ReturnsWord}
 use Rattle.b67_entry.proofs.Leaving.{scene_left}
 use Rattle.b67_entry.proofs.Replacing.{frames_with, job_with, puts_word, top_inside, stands_with, changed_with}
 use Rattle.b67_entry.proofs.Retns.{retn_left, retn_pushed}
-use Rattle.b67_law_order.proofs.Maps.{IsOperand}
+use Rattle.b67_law.proofs.Maps.{IsOperand}
 use Rattle.b67_layout_records.proofs.Apart.{some_words}
 
 -- a word was put on the stack: those above it stay, and the top is one higher

@@ -23,7 +23,7 @@ use Rattle.b67_entry.specs.Returned.{ReturnsWord}
 use Rattle.b67_entry.proofs.Exits.{leaves_last}
 use Rattle.b67_entry.proofs.Retns.{retn_empty, retn_passed}
 use Rattle.b67_entry.proofs.Sorted.{IsEntered, is_entered, is_last, returns_of}
-use Rattle.b67_law_order.proofs.Maps.{IsOperand}
+use Rattle.b67_law.proofs.Maps.{IsOperand}
 
 no_cells : {A B : Type 0} (f : A → B) (xs : List A) → map f xs ≡ [] → xs ≡ []
 no_cells f [] e = refl

@@ -8,7 +8,7 @@ use Rattle.b67_layout.specs.Meets.{here}
 use Rattle.b67_layout_records.proofs.Leaves.{task_at}
 use Rattle.b67_entry.proofs.Exits.{job_left, leaves_inner}
 use Rattle.b67_lemmas.proofs.Members.{change_twice}
-use Rattle.b67_law_order.proofs.Maps.{IsOperand}
+use Rattle.b67_law.proofs.Maps.{IsOperand}
 
 at_once : (h : OperatorContext) (v : Word) (value : Bool) → (value ≡ false) ⊎ IsOperand v → returned h v value ≡ pushes h v None
 at_once h v value e = grind arith

@@ -16,8 +16,8 @@ use Rattle.b67_layout.specs.Common.{IsInOrderButCounts, Placement, slot_of, spot
 use Rattle.b67_stack.specs.Stacks.{StackPlace}
 use Rattle.b67_layout.proofs.Common.{OnTop, task_with, spots-with, fresh}
 use Rattle.b67_layout.proofs.Others.{outer_spots-after}
-use Rattle.b67_law_order.proofs.Chases.{ok_some}
-use Rattle.b67_law_order.proofs.Looks.{known_cells}
+use Rattle.b67_law.proofs.Chases.{ok_some}
+use Rattle.b67_law.proofs.Looks.{known_cells}
 
 -- a list of frames of which one list of a task has other cells on top
 abbrev pub Seen : List Frame → List Word → Option Frame → Option Frame → Type 0

@@ -4,8 +4,8 @@ use Rattle.b67_word.specs.declared.couples.Place.{Place}
 use Rattle.b67_ctl.specs.Layout.{IsPlace}
 use Rattle.b67_model.specs.declared.operators.Op.{Op}
 use Rattle.b67_model.specs.Common.{Reading, reading_of, step_by, step, Task, JobConstants, SessionJob, Session, SettingInOrder}
-use Rattle.b67_law_order.proofs.Readings.{OpBits}
-use Rattle.b67_law_order.proofs.Segments.{reading_fits}
+use Rattle.b67_law.proofs.Readings.{OpBits}
+use Rattle.b67_law.proofs.Segments.{reading_fits}
 use Rattle.b67_stack.specs.declared.Cpu.{Cpu}
 use Rattle.b67_stack.specs.declared.Step.{Step}
 use Rattle.b67_stack.specs.Represents.{Storage}

@@ -6,7 +6,7 @@ use Rattle.std.proofs.lemmas.Bool.{eq-eqb, ne_eqb}
 use Rattle.std.proofs.lemmas.List.{length-map}
 use Rattle.b67_lemmas.specs.Lists.{Has, total}
 use Rattle.b67_lemmas.proofs.Members.{all_in, all_from, falls_low, keyed_falls, keyed_has, has_map, has_filter_in, find_none}
-use Rattle.b67_law_order.proofs.Numbered.{keyed_member}
+use Rattle.b67_law.proofs.Numbered.{keyed_member}
 use Rattle.b67_model.specs.Common.{Task, SessionJob, Switch, Condition, Ready, Awaits, WaitsAt, is_ready, BirthInOrder, IsSegment, IsInOrderButPlaces, JobInOrder, TaskInOrder}
 use Rattle.b67_stack.specs.Represents.{Storage}
 use Rattle.b67_layout.specs.Common.{slot_of, IsRunning, SessionHolds, TaskRow, JobRow, IsReady, TaskShows, TablesShow, Differ, parent_slot, critical_disp}

@@ -3,7 +3,7 @@ use Rattle.std.proofs.Common.{◌≡◌, ◌<◌, ℕ, zero, suc, List, ◌++◌
 use Rattle.b67_io.specs.Line.{ended}
 use Rattle.b67_task_tables.specs.declared.tables.Machine.{Machine}
 use Rattle.b67_model.specs.Common.{run_text, Task, SessionJob, Session, RunLine, live_tasks, number_of}
-use Rattle.b67_law_sessions.specs.Turns.{IsNext}
+use Rattle.b67_law.specs.Turns.{IsNext}
 use Rattle.b67_lemmas.proofs.Members.{keyed_has}
 use Rattle.b67_session.proofs.Rows.{none_of}
 use Rattle.b67_session_lines.specs.Stops.{Run, IsFinished, IsHalted, halted_line}

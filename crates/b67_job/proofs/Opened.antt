@@ -5,15 +5,15 @@ use Rattle.b67_codefile.specs.declared.file.Codefile.{Codefile}
 use Rattle.b67_codefile.specs.Meaning.{program_of}
 use Rattle.b67_model_text.specs.declared.deck.Deck.{Deck}
 use Rattle.b67_model.specs.Common.{Session, RunLine, StepResult, after, after_from, next, lines, IsInOrder, IsInOrderButPlaces}
-use Rattle.b67_law_order.specs.Runs.{RunsAdmitted}
-use Rattle.b67_law_order.proofs.RunSessions.{runs_stay_in_order, sessions_stay_in_order}
-use Rattle.b67_law_sessions.proofs.Makers.{runs_make_their_words, sessions_keep_or_make_their_words}
+use Rattle.b67_law.specs.Runs.{RunsAdmitted}
+use Rattle.b67_law.proofs.RunSessions.{runs_stay_in_order, sessions_stay_in_order}
+use Rattle.b67_law.proofs.Makers.{runs_make_their_words, sessions_keep_or_make_their_words}
 use Rattle.b67_layout_storage.specs.Machine.{content_after}
 use Rattle.b67_task_tables.specs.Tables.{switch_of}
 use Rattle.b67_session_open.specs.Decks.{openings_of, session_of, DeckInRange, IsLoaded}
 use Rattle.b67_session_open.proofs.Decks.{deck_within}
 use Rattle.b67_session.proofs.FoundLeast.{stays_ordered}
-use Rattle.b67_law_sessions.proofs.ApartLemmas.{jobs_apart, states_apart}
+use Rattle.b67_law.proofs.ApartLemmas.{jobs_apart, states_apart}
 use Rattle.b67_job.specs.States.{StatesInOrder, StatesFollow, JobsRunApart}
 
 -- every state of the run is in order, and its words were made by operators or by the loader

@@ -13,13 +13,13 @@ use Rattle.b67_lemmas.proofs.Members.{all_in, keyed_has}
 use Rattle.b67_model.specs.Common.{Task, SessionJob, need, run_text, Session, IsInOrderButPlaces, IsSegment, JobInOrder, RunLine, StepResult, lines, after, number_of}
 use Rattle.b67_session.specs.Stops.{Stop}
 use Rattle.b67_session.specs.Stops as stops
-use Rattle.b67_law_sessions.specs.Turns.{IsNext}
-use Rattle.b67_law_sessions.proofs.Limits.{no_last}
-use Rattle.b67_law_sessions.proofs.TurnRuns.{Came}
+use Rattle.b67_law.specs.Turns.{IsNext}
+use Rattle.b67_law.proofs.Limits.{no_last}
+use Rattle.b67_law.proofs.TurnRuns.{Came}
 use Rattle.b67_task_tables.specs.declared.tables.Machine.{Machine}
 use Rattle.b67_session.specs.declared.slices.Progress.{Progress}
 use Rattle.b67_session.specs.declared.slices.Progress.TheVariants as progress
-use Rattle.b67_law_order.proofs.FewMade.{made_few}
+use Rattle.b67_law.proofs.FewMade.{made_few}
 use Rattle.b67_session.specs.Slices.{StandsAt, IsLimited, StepsReach, Prints, SliceMeets, StopsBefore}
 use Rattle.b67_session.proofs.Texts.{run_text-append}
 use Rattle.b67_session.proofs.Tells.{tells_weaker}

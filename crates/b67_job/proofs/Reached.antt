@@ -1,8 +1,8 @@
 -- How far the steps of a slice came: whole steps, or all but the line of LIMIT.
 use Rattle.std.proofs.Common.{◌≡◌, ◌≢◌, ℕ, ◌+◌, ◌<◌, List, ◌++◌, length, refl, sym, ap, ◌∙◌, subst, arith, append_assoc, Option, Some, None}
 use Rattle.b67_model.specs.Common.{run_text, Session, IsInOrderButPlaces, RunLine, StepResult, lines, after}
-use Rattle.b67_law_sessions.proofs.Limits.{no_last}
-use Rattle.b67_law_sessions.proofs.TurnRuns.{Came, came-more}
+use Rattle.b67_law.proofs.Limits.{no_last}
+use Rattle.b67_law.proofs.TurnRuns.{Came, came-more}
 use Rattle.b67_session.specs.Slices.{StepsReach, in_whole_steps, but_limit}
 use Rattle.b67_session.proofs.Texts.{run_text-append}
 use Rattle.b67_session_lines.specs.Moments.{first_part, last_part, due}

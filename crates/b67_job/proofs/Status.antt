@@ -12,7 +12,7 @@ use Rattle.b67_model_text.specs.Deck.{Refusal}
 use Rattle.b67_task_tables.specs.declared.tables.Machine.{Machine}
 use Rattle.b67_job_admit.specs.Admitting.{Prepared}
 use Rattle.b67_model.specs.Common.{need, need_of_job, need_by, need_next, Task, SessionJob, Session}
-use Rattle.b67_law_sessions.specs.Turns.{IsNext}
+use Rattle.b67_law.specs.Turns.{IsNext}
 use Rattle.b67_session.specs.Passed.{TakesSectors}
 use Rattle.b67_session.proofs.Tells.{takes_of}
 use Rattle.b67_session_lines.specs.Stops.{Run, run_status, halted_line}

@@ -6,7 +6,7 @@ use Rattle.b67_io.specs.Causes.{Rose}
 use Rattle.b67_model.specs.Common.{Task, SessionJob, need, run_text, IsInOrderButPlaces, Session, RunLine, StepResult, lines, after}
 pub use Rattle.b67_model.specs.Common.{IsBeforeHalt, IsWithinHalt}
 use Rattle.b67_exec_cells.specs.Running.{code_area}
-use Rattle.b67_law_sessions.specs.Turns.{IsNext}
+use Rattle.b67_law.specs.Turns.{IsNext}
 use Rattle.b67_session.specs.Passed.{IsLacking, IsShortAt, CodeFits}
 pub use Rattle.b67_session.specs.Attempts.{TellsSectors, for_want, for_task, for_length}
 use Rattle.b67_job_admit.specs.Admitting.{Prepared}

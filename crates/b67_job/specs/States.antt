@@ -4,9 +4,9 @@ use Rattle.b67_lemmas.specs.Lists.{Has}
 use Rattle.std.specs.List.{AllByRecursion}
 use Rattle.b67_model.specs.Common.{alone_lines, lines_of_job, makers_from, tasks_of_job, Frame, Task, SessionJob, Session, IsInOrder, IsInOrderButPlaces, RunLine, number_of, after, next}
 use Rattle.b67_model.specs.Keyed.{keyed}
-use Rattle.b67_law_sessions.specs.JobsApart.{alone_after}
-use Rattle.b67_law_order.specs.Runs.{RunsAdmitted}
-use Rattle.b67_law_sessions.specs.RunMade.{FrameMadeInRun, FrameKeptOrMade}
+use Rattle.b67_law.specs.JobsApart.{alone_after}
+use Rattle.b67_law.specs.Runs.{RunsAdmitted}
+use Rattle.b67_law.specs.RunMade.{FrameMadeInRun, FrameKeptOrMade}
 
 -- After so many steps each word, mark and return of a live frame was made by the operator of an earlier step of its job, but
 -- for the mark of the outer block's frame, which the loader made.

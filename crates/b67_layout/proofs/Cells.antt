@@ -6,9 +6,9 @@ use Rattle.b67_lemmas.specs.Lists.{Has, Falls, how_many}
 use Rattle.b67_lemmas.proofs.Members.{all_in, length_change}
 use Rattle.b67_model.specs.Common.{Word, Frame, Array, Task, Job, SessionJob, top, with_top_cells, height, with_task, Session, Starts, IsSegment, Known, known_of, known_numbers, from_frame, outer_of, identities, is_original_of, originals_in, originals_of, frames_named, FramesInOrder, StackInOrder, CellsInOrder, ConditionInOrder, TaskInOrder, TasksInOrder}
 use Rattle.b67_layout.specs.Common.{JobInOrderButCounts, IsInOrderButCounts, Placement, IsRunning, with_job}
-use Rattle.b67_law_order.proofs.Reaches.{Alike, alike_same}
-use Rattle.b67_law_order.proofs.Replaced.{replaced}
-use Rattle.b67_law_order.proofs.Looks.{some_cells}
+use Rattle.b67_law.proofs.Reaches.{Alike, alike_same}
+use Rattle.b67_law.proofs.Replaced.{replaced}
+use Rattle.b67_law.proofs.Looks.{some_cells}
 use Rattle.b67_layout.proofs.Whole.{task_with}
 use Rattle.b67_layout.proofs.Fresh.{running_in_order}
 use Rattle.b67_layout.proofs.Members.{member_kept}

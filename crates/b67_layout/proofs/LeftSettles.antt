@@ -12,8 +12,8 @@ use Rattle.b67_lemmas.proofs.Members.{all_in, falls_same, has_map, has_reverse, 
 use Rattle.b67_model.specs.Common.{Original, Frame, Array, Task, Job, JobProgress, SessionJob, number_of, Session, Known, known_of, OwnsArray, EntryInOrder, frames_named, IsSegment, NumberedFrom}
 use Rattle.b67_model.specs.Keyed.{keyed}
 use Rattle.b67_layout.specs.Common.{JobInOrderButCounts, IsInOrderButCounts, Slotted, Placement, slot_of, spot_in, outer_spots, shape, head, activations, stack_of_task, slot_with, slot_in, slot_by, slot_at, machine_view, RowsFit, DictionariesFollow, IsRunning, SessionHolds}
-use Rattle.b67_law_order.proofs.Replaced.{has_counts}
-use Rattle.b67_law_order.proofs.Numbered.{keyed_member}
+use Rattle.b67_law.proofs.Replaced.{has_counts}
+use Rattle.b67_law.proofs.Numbered.{keyed_member}
 use Rattle.b67_stack.specs.Shapes as Shapes
 use Rattle.b67_stack.specs.Common.{Fits, LieDownward, StackPlace, Head, Activation, stack_words, headed, words, Slot, Running, Waiting, stack_of, slot_base, RunsOn, Storage}
 use Rattle.b67_stack.specs.Stacks as Stacks

@@ -8,7 +8,7 @@ use Rattle.b67_layout.specs.Common.{IsInOrderButCounts, Slotted, Placement, slot
 use Rattle.b67_layout.proofs.Rows.{task_row}
 use Rattle.b67_layout.proofs.Counting.{not_more, slots_of, slots_length}
 use Rattle.b67_layout.proofs.Fresh.{job_in_order}
-use Rattle.b67_law_order.proofs.Numbered.{numbered_low}
+use Rattle.b67_law.proofs.Numbered.{numbered_low}
 
 -- two lists of numbers that differ, without one in both
 differ_append : (xs ys : List ℕ) → Differ xs → Differ ys → ((n : ℕ) → Has xs n → Has ys n → ⊥) → Differ (xs ++ ys)

@@ -6,7 +6,7 @@ use Rattle.b67_lemmas.proofs.Members.{all_in, keyed_falls}
 use Rattle.b67_model.specs.Common.{Task, SessionJob, Session, IsSegment, NumberedFrom}
 use Rattle.b67_model.specs.Keyed.{keyed}
 use Rattle.b67_layout.specs.Common.{JobInOrderButCounts, IsInOrderButCounts, Placement, JobRow, JobShows, JobsShow}
-use Rattle.b67_law_order.proofs.Numbered.{numbered_low}
+use Rattle.b67_law.proofs.Numbered.{numbered_low}
 
 pub live_in_order : (s : Session) (m : SessionJob) (t : Task) → IsInOrderButCounts s → Has s.jobs m → Has m.progress.job.tasks t → keyed (λ (u : Task). u.number) t.number m.progress.job.tasks ≡ Some t
 live_in_order s m t o inm int = grind (arith, all_in, keyed_falls)

@@ -6,7 +6,7 @@ use Rattle.b67_lemmas.proofs.Keyed.{all_change, change_is}
 use Rattle.b67_lemmas.proofs.Sums.{sum_total}
 use Rattle.b67_model.specs.Common.{Job, SessionJob, number_of, Session, IsSegment}
 use Rattle.b67_layout.specs.Common.{JobInOrderButCounts, IsInOrderButCounts, with_job}
-use Rattle.b67_law_order.proofs.Numbered.{numbered_change, tasks_of}
+use Rattle.b67_law.proofs.Numbered.{numbered_change, tasks_of}
 
 -- with another job of the member
 pub member_kept : (s : Session) (m : SessionJob) (job : Job) → IsInOrderButCounts s → keyed number_of m.constants.number s.jobs ≡ Some m

@@ -5,7 +5,7 @@ use Rattle.b67_lemmas.specs.Lists.{Has}
 use Rattle.b67_lemmas.proofs.Members.{keyed_has, total_change, total_has}
 use Rattle.b67_model.specs.Common.{Frame, Task, JobConstants, Job, frames_named, IsSegment, TasksInOrder}
 use Rattle.b67_model.specs.Keyed.{keyed, change_keyed}
-use Rattle.b67_law_order.proofs.Looks.{above_one}
+use Rattle.b67_law.proofs.Looks.{above_one}
 use Rattle.b67_layout.proofs.Sessions.{change-kept}
 
 -- the top frame of a live task

@@ -12,7 +12,7 @@ use Rattle.b67_layout.proofs.Sessions.{running_only}
 use Rattle.b67_layout.proofs.Steps.{IsFree, GoesOn, seen-with, SessionHolds-cells}
 use Rattle.b67_layout.proofs.Displays.{Shows-same}
 use Rattle.b67_lemmas.proofs.Members.{keyed_has}
-use Rattle.b67_law_order.proofs.Looks.{known_cells}
+use Rattle.b67_law.proofs.Looks.{known_cells}
 
 pub spots-with : (k : ℕ) (outer : ℕ → StackPlace) (fs : List Frame) (cells : List Word) (id : ℕ) → spot_in k outer (with_top_cells fs cells) id ≡ spot_in k outer fs id
 spots-with k outer fs cells id = grind arith

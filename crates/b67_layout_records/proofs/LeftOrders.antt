@@ -6,11 +6,11 @@ use Rattle.b67_word.specs.declared.couples.Place.{Place}
 use Rattle.b67_lemmas.specs.Lists.{Has}
 use Rattle.b67_lemmas.proofs.Members.{all_from, all_in, falls_filter, falls_low, has_filter, has_filter_in, none_pass}
 use Rattle.b67_model.specs.Common.{Frame, Array, Ready, Task, JobConstants, Job, OperatorContext, height, with_task, level_of_frame, running, without_arrays_of, Starts, known_of, known_numbers, from_frame, outer_of, WordInOrder, TaskInOrder, ArrayInOrder, is_original_of, originals_in, originals_of, frames_named, TasksInOrder, IsSegment}
-use Rattle.b67_law_order.proofs.Reaches.{Alike, alike_same, Stays}
-use Rattle.b67_law_order.proofs.Replaced.{Replaced, replaced, outer_kept}
-use Rattle.b67_law_order.proofs.Changes.{Change, change_drop, change_arrays}
-use Rattle.b67_law_order.proofs.Entries.{none_original}
-use Rattle.b67_law_order.proofs.RowSteps.{originals}
+use Rattle.b67_law.proofs.Reaches.{Alike, alike_same, Stays}
+use Rattle.b67_law.proofs.Replaced.{Replaced, replaced, outer_kept}
+use Rattle.b67_law.proofs.Changes.{Change, change_drop, change_arrays}
+use Rattle.b67_law.proofs.Entries.{none_original}
+use Rattle.b67_law.proofs.RowSteps.{originals}
 use Rattle.b67_layout.proofs.Common.{others, high, live}
 use Rattle.b67_layout_records.proofs.Nowhere.{MayLeave, uncritical}
 use Rattle.b67_layout_records.proofs.Leaves.{task_at}

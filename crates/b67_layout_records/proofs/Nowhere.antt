@@ -9,7 +9,7 @@ use Rattle.b67_lemmas.proofs.Members.{any_none, falls_filter, has_append_cases, 
 use Rattle.b67_model.specs.Words as Words
 use Rattle.b67_model.specs.Common.{Word, Operand, Name, Ref, Row, Element, Original, Proc, Intrinsic, Frame, Array, Task, JobConstants, Job, array, no_array, is_critical, Starts, Known, known_of, from_frame, frames_of_task, critical_of, outer_reach, known_numbers, NamesArray, WordInOrder, FramesInOrder, frames_named}
 use Rattle.b67_model.specs.Keyed.{keyed}
-use Rattle.b67_law_order.proofs.Replaced.{numbers_append, has_counts, from_counts}
+use Rattle.b67_law.proofs.Replaced.{numbers_append, has_counts, from_counts}
 use Rattle.b67_stack.specs.Common.{Shape, StackPlace, Activation}
 use Rattle.b67_layout.specs.Common.{Placement, spot_in, shape, head, activations}
 use Rattle.b67_layout.proofs.Common.{others, IsOnTop, high, elsewhere}

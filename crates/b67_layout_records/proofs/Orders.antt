@@ -8,9 +8,9 @@ use Rattle.b67_lemmas.specs.Lists.{Has, Falls}
 use Rattle.b67_lemmas.proofs.Members.{all_in, falls_low, keyed_has, total_append}
 use Rattle.b67_model.specs.Words as Words
 use Rattle.b67_model.specs.Common.{Word, Frame, Standing, Marked, Entered, Return, Array, Ready, Task, JobConstants, Job, OperatorContext, top, below_top, height, with_task, level_of_frame, running, Starts, Known, WordInOrder, NoCopyUnder, CopiesAbove, is_original_of, known_numbers, known_of, from_frame, outer_of, EnvironmentInOrder, StandsInOrder, ReturnsInOrder, CellsInOrder, TaskInOrder, originals_in, TasksInOrder}
-use Rattle.b67_law_order.proofs.Reaches.{alike_same, known_number}
-use Rattle.b67_law_order.proofs.Replaced.{replaced}
-use Rattle.b67_law_order.proofs.Changes.{Change, fresh_frame, change_cells, change_enter, change_replaces}
+use Rattle.b67_law.proofs.Reaches.{alike_same, known_number}
+use Rattle.b67_law.proofs.Replaced.{replaced}
+use Rattle.b67_law.proofs.Changes.{Change, fresh_frame, change_cells, change_enter, change_replaces}
 use Rattle.b67_layout.proofs.Fresh.{critical-below}
 use Rattle.b67_layout.proofs.Tops.{task_on}
 

@@ -15,7 +15,7 @@ use Rattle.b67_layout.proofs.Common.{with_course, member-same, RowOf, change-has
 use Rattle.b67_layout.proofs.Objects.{objects-after}
 use Rattle.b67_layout_records.proofs.Slots.{OthersSame, slots-after}
 use Rattle.b67_layout.proofs.LeftSettles.{under}
-use Rattle.b67_law_order.proofs.Numbered.{keyed_member}
+use Rattle.b67_law.proofs.Numbered.{keyed_member}
 
 module _ (x : Storage) (core : List Tagged) (r : Regs) (marks : List ℕ) (plan : Placement) (s : Session) (m : SessionJob) (t : Task) (f : Frame) (below : List Frame)
     (o : IsInOrderButCounts s) (h : SessionHolds x core r marks plan s) (runs : IsRunning plan s.jobs m t) (frames : t.frames ≡ f ∷ below)

@@ -5,7 +5,7 @@ use Rattle.std.specs.List.{slice_get}
 use Rattle.b67_word.specs.Tagged.{Tagged, word}
 use Rattle.b67_lemmas.specs.Lists.{Has}
 use Rattle.b67_lemmas.proofs.Members.{all_in, falls_low, keyed_has, keyed_falls, has_map, has_get}
-use Rattle.b67_law_order.proofs.Numbered.{keyed_member}
+use Rattle.b67_law.proofs.Numbered.{keyed_member}
 use Rattle.b67_model.specs.Keyed.{keyed}
 use Rattle.b67_model.specs.Common.{Word, Frame, Task, Job, SessionJob, Condition, Ready, Awaits, WaitsAt, height, number_of, Session, IsSegment, TaskInOrder, TasksInOrder, NumberedFrom, BirthInOrder, ConditionInOrder, Known, known_of, known_numbers, identities, reach_of, frames_of_task, critical_of, from_frame, IsInOrderButPlaces, JobInOrder}
 use Rattle.b67_stack.specs.declared.Cpu.{Cpu}

@@ -10,7 +10,7 @@ use Rattle.b67_ctl.specs.declared.registers.Regs.{Regs}
 use Rattle.b67_ctl.specs.Layout.{toscw_word}
 use Rattle.b67_lemmas.specs.Lists.{Has, Falls}
 use Rattle.b67_lemmas.proofs.Members.{all_in, keyed_falls, keyed_has, falls_short, find_none, has_map}
-use Rattle.b67_law_order.proofs.Numbered.{keyed_member}
+use Rattle.b67_law.proofs.Numbered.{keyed_member}
 use Rattle.b67_model.specs.Keyed.{keyed}
 use Rattle.b67_model.specs.Common.{Frame, Task, SessionJob, Array, Condition, Ready, Awaits, WaitsAt, height, Session, IsSegment, TaskInOrder, BirthInOrder, ConditionInOrder, NamesEntered, identities, frames_of_task, reach_of, outer_of}
 use Rattle.b67_stack.specs.declared.Cpu.{Cpu}

@@ -4,7 +4,7 @@ use Rattle.std.specs.Prelude.{if◌then◌else◌}
 use Rattle.b67_lemmas.specs.Lists.{Has, total, Falls}
 use Rattle.b67_lemmas.proofs.Members.{falls_low, all_in, total_has}
 use Rattle.b67_model.specs.Common.{Frame, JobConstants, Task, Job, height, Starts, Known, known_of, known_numbers, identities, frames_named, TasksInOrder}
-use Rattle.b67_law_order.proofs.Replaced.{numbers_append, has_counts}
+use Rattle.b67_law.proofs.Replaced.{numbers_append, has_counts}
 use Rattle.b67_layout_shown.specs.Places.{named, or_else, name_under, name_among}
 use Rattle.b67_layout_shown.proofs.Frames.{Named}
 

@@ -5,7 +5,7 @@ use Rattle.std.proofs.lemmas.Bool.{ne_eqb}
 use Rattle.b67_lemmas.specs.Lists.{Has, Falls}
 use Rattle.b67_lemmas.proofs.Members.{falls_above, all_in, keyed_has, has_append_right, has_map, none_pass}
 use Rattle.b67_model.specs.Common.{Frame, JobConstants, Task, Job, Array, height, Starts, IsSegment, Known, known_of, known_numbers, base, from_frame, frames_of_task, critical_of, outer_reach, outer_of, identities, frames_named, NamesEntered, TaskInOrder, TasksInOrder, BirthInOrder}
-use Rattle.b67_law_order.proofs.Replaced.{numbers_append}
+use Rattle.b67_law.proofs.Replaced.{numbers_append}
 use Rattle.b67_stack.specs.Stacks.{StackPlace}
 use Rattle.b67_layout.specs.Placement.{Placement, slot_of, spot_in, base_spot, outer_spots}
 use Rattle.b67_layout_shown.specs.Places.{named, name_among}

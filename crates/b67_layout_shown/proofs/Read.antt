@@ -9,7 +9,7 @@ use Rattle.b67_model.specs.Common.{Word, Original, Frame, Task, SessionJob, Arra
 use Rattle.b67_stack.specs.declared.Cpu.{Cpu}
 use Rattle.b67_stack.specs.Common.{Fits, LieDownward, mark_place, stack_words, words, stack_of, Storage}
 use Rattle.b67_layout.specs.Common.{Placement, slot_of, outer_spots, activations, stack_of_task, machine_view, slot_at, TaskRow, JobRow, JobCounts, JobShows, TablesShow, JobInOrderButCounts, IsInOrderButCounts, RepresentsSession}
-use Rattle.b67_law_order.proofs.Numbered.{keyed_member}
+use Rattle.b67_law.proofs.Numbered.{keyed_member}
 use Rattle.b67_layout.proofs.Common.{task_row, stack_in_slot, original_of, entry_number}
 use Rattle.b67_layout_shown.specs.Reading.{stack_seen}
 use Rattle.b67_layout_shown.specs.Places.{name_among, array_among, frame_by}

@@ -5,7 +5,7 @@ use Rattle.b67_lemmas.specs.Lists.{Has, how_many}
 use Rattle.b67_lemmas.proofs.Members.{all_in, has_append_cases, has_append_left, has_append_right, has_map, has_map_back, keyed_left, keyed_right, total_flat, total_zero}
 use Rattle.b67_model.specs.Keyed.{keyed}
 use Rattle.b67_model.specs.Common.{Standing, Marked, Entered, Frame, Task, Job, JobConstants, OperatorContext, mcp, no_frame, frame, environment_of, level_of_frame, running, outward, frame_at, Starts, IsSegment, Known, known_of, known_numbers, base, reach_of, outer_of, frames_named, StandsInOrder, FramesInOrder, SettingInOrder, TaskInOrder, TasksInOrder}
-use Rattle.b67_law_order.proofs.Looks.{IsFrame, Line, line_of, found_frame}
+use Rattle.b67_law.proofs.Looks.{IsFrame, Line, line_of, found_frame}
 use Rattle.b67_layout_shown.specs.Places.{name_among, standing_by, frame_by, task_by}
 use Rattle.b67_layout_shown.proofs.Outer.{name_low, none_low}
 use Rattle.b67_layout_shown.proofs.Reach.{known_by}

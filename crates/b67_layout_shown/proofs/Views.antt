@@ -6,7 +6,7 @@ use Rattle.std.proofs.lemmas.Bool.Decides.{eqb_tells}
 use Rattle.std.proofs.lemmas.Option.{none-some}
 use Rattle.b67_lemmas.specs.Lists.{Has}
 use Rattle.b67_lemmas.proofs.Members.{all_in, falls_low, keyed_falls, keyed_has, has_map, has_map_back, has_flat, has_flat_back, has_append_left, has_append_right, has_append_cases, find_none}
-use Rattle.b67_law_order.proofs.Numbered.{keyed_member}
+use Rattle.b67_law.proofs.Numbered.{keyed_member}
 use Rattle.b67_model.specs.Keyed.{keyed}
 use Rattle.b67_model.specs.Common.{Array, Task, Job, SessionJob, number_of, Session, IsSegment, IsInOrderButPlaces, ArrayInOrder, JobInOrder, array}
 use Rattle.b67_stack.specs.declared.Cpu.{Cpu}

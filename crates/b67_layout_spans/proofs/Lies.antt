@@ -9,8 +9,8 @@ use Rattle.b67_lemmas.specs.Lists.{Has, how_many}
 use Rattle.b67_lemmas.proofs.Members.{any_some, falls_low, falls_same, has_append_cases, has_append_left, has_map, has_map_back, has_reverse, keyed_falls}
 use Rattle.b67_model.specs.Words as Words
 use Rattle.b67_model.specs.Common.{Word, Operand, Name, Ref, Row, Element, Original, Proc, Intrinsic, Frame, Task, Job, SessionJob, Session, IsSegment, Known, known_of, outer_of, identities, NamesArray, WordInOrder, CopiesAbove, NoCopyUnder, is_copy_of, FramesInOrder, TasksInOrder}
-use Rattle.b67_law_order.proofs.Looks.{above_one}
-use Rattle.b67_law_order.proofs.Numbered.{keyed_member}
+use Rattle.b67_law.proofs.Looks.{above_one}
+use Rattle.b67_law.proofs.Numbered.{keyed_member}
 use Rattle.b67_stack.specs.Shapes as Shapes
 use Rattle.b67_stack.specs.Common.{Shape, Fits, LieDownward, StackPlace, Head, Activation, stack_words, headed, words, MachineView, stack_of, slot_base, Storage, Represents}
 use Rattle.b67_stack.proofs.Bases.{base-apart}
@@ -23,7 +23,7 @@ use Rattle.b67_overlay.specs.declared.spans.Span.{Span}
 use Rattle.b67_overlay.specs.Spans.{Families, holds, span_of, up_from, whole_stack, InSpan, ShapeInSpan, CopiesInSpans}
 use Rattle.b67_overlay.proofs.Families.{is_held, not_held_under, not_held_over, span_in_job, span_in_own, span_in_parent}
 use Rattle.b67_layout_spans.proofs.Residents.{kin_of, families, kin_there, parents_fall, task_order, job_found, lives_or}
-use Rattle.b67_law_order.proofs.Lines.{outer_owned, one_task, frame_is, frame_named}
+use Rattle.b67_law.proofs.Lines.{outer_owned, one_task, frame_is, frame_named}
 
 dictionary_under : (plan : Placement) (at : ℕ) (ms : List SessionJob) (y : SessionJob) → DictionariesFollow plan at ms → Has ms y → plan.dictionary y.constants.number + (2 + length y.constants.dictionary.cells) ≤ plan.stacks
 dictionary_under plan at [] y d h = absurd h

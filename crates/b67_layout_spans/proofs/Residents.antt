@@ -10,7 +10,7 @@ use Rattle.b67_lemmas.specs.Lists.{Has, Falls}
 use Rattle.b67_lemmas.proofs.Members.{all_in, falls_short, has_map, keyed_falls, keyed_has}
 use Rattle.b67_model.specs.Keyed.{keyed}
 use Rattle.b67_model.specs.Common.{Task, SessionJob, number_of, Session, IsSegment, NumberedFrom, BirthInOrder, TaskInOrder, TasksInOrder}
-use Rattle.b67_law_order.proofs.Numbered.{keyed_member}
+use Rattle.b67_law.proofs.Numbered.{keyed_member}
 use Rattle.b67_layout.specs.Common.{JobInOrderButCounts, IsInOrderButCounts, Slotted, Placement, slot_of, machine_view, RowsFit, DictionariesFollow, PlanFits, RepresentsDictionary, RepresentsVector, vector_word}
 use Rattle.b67_layout.proofs.Common.{job_in_order, task_row, slot_below, finds, dictionary_above}
 use Rattle.b67_overlay.specs.Spans.{Resident, Families, kin_word, LineStands, ResidentFits, DictionariesLie, ShowsFamilies, job_at}

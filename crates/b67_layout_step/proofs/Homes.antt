@@ -16,7 +16,7 @@ use Rattle.b67_stack.proofs.Bases.{base-apart}
 use Rattle.b67_stack.proofs.Heights.{words-length}
 use Rattle.b67_stack.proofs.Lies.{Lie-under}
 use Rattle.b67_layout.proofs.Common.{job_in_order, task_row, slot_below, dictionary_above, follow-up, lies_at, lies_over, original_word, InFrame, original_of, entry_number, stack_in_slot}
-use Rattle.b67_law_order.proofs.Numbered.{keyed_member}
+use Rattle.b67_law.proofs.Numbered.{keyed_member}
 
 -- two words of one address are one word
 module _ (x : Storage) (core : List Tagged) (plan : Placement) (j : ℕ) (job : Job) (k from : ℕ) (outer : ℕ → StackPlace) where

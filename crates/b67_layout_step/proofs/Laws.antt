@@ -7,8 +7,8 @@ use Rattle.b67_lemmas.proofs.Members.{all_in}
 use Rattle.b67_model.specs.Words as Words
 use Rattle.b67_model.specs.Common.{Frame, Array, Task, JobConstants, Job, SessionJob, OperatorContext, Reading, Line, Goes, row, reading_of, step_by, step, Starts, IsSegment, Known, FramesInOrder, TasksInOrder}
 use Rattle.b67_layout.specs.Orders.{JobInOrderButCounts}
-use Rattle.b67_law_order.proofs.Posts.{Post, post_err, post_at}
-use Rattle.b67_law_order.proofs.Kept.{here}
+use Rattle.b67_law.proofs.Posts.{Post, post_err, post_at}
+use Rattle.b67_law.proofs.Kept.{here}
 use Rattle.b67_layout_step.specs.Keeping.{RowsKeepArrays, StepsTouchArrays}
 use Rattle.b67_layout_step.proofs.Words.{FramesName, Holds}
 use Rattle.b67_layout_step.proofs.Rows.{Stands, stands_in, Keeps, Source, row_good}

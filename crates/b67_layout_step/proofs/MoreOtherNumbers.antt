@@ -2,8 +2,8 @@
 use Rattle.std.proofs.Common.{◌≡◌, ℕ, List, [], ◌∷◌, Option, Some, None, refl, sym, ◌∙◌, ap, subst, arith}
 use Rattle.b67_model.specs.Common.{Task, SessionJob, number_of}
 use Rattle.b67_model.specs.Keyed.{keyed}
-use Rattle.b67_law_order.specs.Weaker.{OtherNumbers, AllOtherNumbers}
-use Rattle.b67_law_order.proofs.Sessions.{recoded_count}
+use Rattle.b67_law.specs.Weaker.{OtherNumbers, AllOtherNumbers}
+use Rattle.b67_law.proofs.Sessions.{recoded_count}
 use Rattle.b67_layout.specs.Common.{Placement, slot_of, IsRunning}
 use Rattle.b67_layout.proofs.Alike.{Alike, AllAlike}
 

@@ -15,7 +15,7 @@ use Rattle.b67_stack.specs.Common.{PagedObject, Storage, Represents, TakesPlace}
 use Rattle.b67_layout.proofs.Common.{job_in_order, with_course, member-same, change-has, change-kept, numbered_course, code_kind}
 use Rattle.b67_layout_step.proofs.Arrays.{Renumbers}
 use Rattle.b67_layout_step.proofs.Homes.{one_home}
-use Rattle.b67_law_order.proofs.Numbered.{keyed_member}
+use Rattle.b67_law.proofs.Numbered.{keyed_member}
 
 pub identities_kept : (id : ℕ) (f : Array → Array) → Renumbers f → (xs : List Array) → map (λ (a : Array). a.identity) (change_keyed (λ (a : Array). a.identity) id f xs) ≡ map (λ (a : Array). a.identity) xs
 identities_kept id f keeps [] = refl

@@ -2,8 +2,8 @@
 use Rattle.std.proofs.Common.{List, [], ◌∷◌, sym, subst, arith}
 use Rattle.std.specs.List.{AllByRecursion}
 use Rattle.b67_model.specs.Common.{SessionJob, Session, IsSegment}
-use Rattle.b67_law_order.specs.Weaker.{AllOtherNumbers}
-use Rattle.b67_law_order.proofs.Sessions.{setting_up, tasks_up, numbered_up, sizes_up, count_up, sum_up}
+use Rattle.b67_law.specs.Weaker.{AllOtherNumbers}
+use Rattle.b67_law.proofs.Sessions.{setting_up, tasks_up, numbered_up, sizes_up, count_up, sum_up}
 use Rattle.b67_layout.specs.Orders.{JobInOrderButCounts, IsInOrderButCounts}
 
 abbrev Good : SessionJob → Type 0

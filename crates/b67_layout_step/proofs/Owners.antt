@@ -5,7 +5,7 @@ use Rattle.b67_lemmas.specs.Lists.{Has, Falls, total}
 use Rattle.b67_lemmas.proofs.Members.{all_in, falls_low, has_append_cases, has_append_right, has_map, keyed_has, total_has}
 use Rattle.b67_model.specs.Keyed.{keyed}
 use Rattle.b67_model.specs.Common.{Frame, Standing, Task, Job, JobConstants, height, IsSegment, Known, known_of, known_numbers, identities, from_frame, frames_of_task, critical_of, base, outer_reach, outer_of, reach_of, NamesEntered, ParentInOrder, BirthInOrder, TaskInOrder, TasksInOrder, frames_named}
-use Rattle.b67_law_order.proofs.Replaced.{numbers_append}
+use Rattle.b67_law.proofs.Replaced.{numbers_append}
 use Rattle.b67_stack.specs.Stacks.{StackPlace}
 use Rattle.b67_layout.specs.Placement.{Placement, slot_of, spot_in, outer_spots, spots}
 use Rattle.b67_layout.proofs.Fresh.{has-number}

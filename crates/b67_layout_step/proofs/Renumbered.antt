@@ -8,7 +8,7 @@ use Rattle.b67_lemmas.specs.Lists.{Has}
 use Rattle.b67_lemmas.proofs.Members.{has_append_left, has_append_right, keyed_has}
 use Rattle.b67_model.specs.Common.{Session, IsSegment, SegmentInOrder, ArrayInOrder, Word, Frame, Array, Task, Segment, JobConstants, Job, SessionJob, array, no_array, number_of}
 use Rattle.b67_layout.specs.Common.{JobInOrderButCounts, IsInOrderButCounts, Slotted, Placement, spot_in, shape, head, activations, slot_with, slot_in, slot_by, array_object, code_objects, objects_of, machine_view}
-use Rattle.b67_law_order.specs.Weaker.{Renumbers, Recoded, RefilledArray, Refilled, AllOtherNumbers}
+use Rattle.b67_law.specs.Weaker.{Renumbers, Recoded, RefilledArray, Refilled, AllOtherNumbers}
 use Rattle.b67_layout_step.proofs.OtherNumbers.{others_in_order}
 use Rattle.b67_model.specs.Words as Words
 use Rattle.b67_model.specs.Keyed.{keyed}

@@ -14,7 +14,7 @@ use Rattle.b67_lemmas.specs.Lists.{Has}
 use Rattle.b67_lemmas.proofs.Members.{any_some, has_reverse_back}
 use Rattle.b67_model.specs.Words as Words
 use Rattle.b67_model.specs.Words.{whole}
-use Rattle.b67_law_order.proofs.Posts.{Post, post_ok, post_err, post_bind, post_any, post_then, post_if}
+use Rattle.b67_law.proofs.Posts.{Post, post_ok, post_err, post_bind, post_any, post_then, post_if}
 use Rattle.b67_layout_step.specs.Keeping.{is_leaving}
 use Rattle.b67_layout_step.proofs.Words as W
 

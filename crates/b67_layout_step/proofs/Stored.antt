@@ -14,8 +14,8 @@ use Rattle.b67_lemmas.proofs.Members.{all_in, has_map_back, keyed_has, keyed_lef
 use Rattle.b67_model.specs.Keyed.{keyed}
 use Rattle.b67_model.specs.Common.{Word, Operand, Frame, Task, JobProgress, SessionJob, mcp, no_frame, frame, height, cell_of, number_of, Session, Known, identities, IsEntered, IsSegment, EntryInOrder}
 use Rattle.b67_layout.specs.Common.{IsInOrderButCounts, Placement, slot_of, outer_spots, spots, address_of, activations, stack_of_task, slot_with, machine_view, RepresentsDictionary, RowHomes, PlanFits, vector_word, critical_mark, RepresentsTask, IsRunning, frame_address, ShowsDisplay, SessionHolds, RepresentsSession, here}
-use Rattle.b67_law_order.proofs.Chases.{cell_has}
-use Rattle.b67_law_order.proofs.Looks.{IsFrame, found_frame}
+use Rattle.b67_law.proofs.Chases.{cell_has}
+use Rattle.b67_law.proofs.Looks.{IsFrame, found_frame}
 use Rattle.b67_stack.specs.declared.Cpu.{Cpu}
 use Rattle.b67_stack.specs.Common.{Shape, Is, StackPlace, Activation, stack_words, PagedObject, MachineView, Running, Waiting, NoOriginalAboveTop, with_slot, slot_base, Storage, Represents}
 use Rattle.b67_stack.proofs.Homes.{not_home}

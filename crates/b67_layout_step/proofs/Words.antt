@@ -5,8 +5,8 @@ use Rattle.b67_model.specs.Keyed.{keyed, change_keyed}
 use Rattle.b67_lemmas.specs.Lists.{Has}
 use Rattle.b67_lemmas.proofs.Members.{all_in, has_append_cases, keyed_has, has_flat_back}
 use Rattle.b67_model.specs.Words as Words
-use Rattle.b67_law_order.proofs.Posts.{Post, post_ok, post_err, post_bind, post_any, post_if}
-use Rattle.b67_law_order.proofs.Chases.{cell_has}
+use Rattle.b67_law.proofs.Posts.{Post, post_ok, post_err, post_bind, post_any, post_if}
+use Rattle.b67_law.proofs.Chases.{cell_has}
 use Rattle.b67_model.specs.declared.limits.TheConstants.{MOST_LINKS}
 
 -- a task put in the place of another

@@ -2,7 +2,7 @@
 use Rattle.std.proofs.Common.{◌≡◌, ℕ, ◌<◌, ◌≤◌, ◌⊎◌, ⊎_elim, List, arith, cond}
 use Rattle.std.specs.Prelude.{◌==◌}
 use Rattle.b67_model.specs.Common.{Answer, Word, OperatorContext, Done, arraydec, print, printrow, read, wait, deallocate, resize, intrinsic}
-use Rattle.b67_law_order.proofs.Posts.{Post, post_if}
+use Rattle.b67_law.proofs.Posts.{Post, post_if}
 
 -- not from 12 to 16
 abbrev pub IsApart : ℕ → Type 0

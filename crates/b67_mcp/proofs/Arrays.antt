@@ -21,7 +21,7 @@ use Rattle.b67_mcp.proofs.Answering.{task_cut, member_cut, runs_cut, higher}
 use Rattle.b67_mcp.proofs.Avoiding.{FramesAvoid, JobAvoids, job_avoids, row_avoids}
 use Rattle.b67_mcp.proofs.Replanned.{stands-there}
 use Rattle.b67_mcp.proofs.Declaring.{Declares, stands_declared}
-use Rattle.b67_law_order.proofs.Numbered.{keyed_member}
+use Rattle.b67_law.proofs.Numbered.{keyed_member}
 
 home_here : (plan : Placement) (j n at : ℕ) → (with_home plan j n at).home j n ≡ at
 home_here plan j n at = rw (eq-eqb j j refl, eq-eqb n n refl) refl

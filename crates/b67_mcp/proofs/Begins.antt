@@ -11,10 +11,10 @@ use Rattle.b67_lemmas.proofs.Keyed.{change_is, all_change}
 use Rattle.b67_lemmas.proofs.Sums.{sum_total}
 use Rattle.b67_model.specs.Keyed.{change_keyed}
 use Rattle.b67_model.specs.Common.{Word, Operand, Proc, Frame, Standing, Task, Job, SessionJob, top, below_top, is_critical, number_of, live_tasks, Starts, IsSegment, Known, known_of, outer_of, reach_of, known_numbers, IsEntered, EnvironmentInOrder, NumberedFrom, is_original, Session}
-use Rattle.b67_law_order.proofs.Looks.{below_marked}
-use Rattle.b67_law_order.proofs.Reaches.{Wider}
-use Rattle.b67_law_order.proofs.Cells.{plain_word}
-use Rattle.b67_law_order.proofs.Children.{word_any}
+use Rattle.b67_law.proofs.Looks.{below_marked}
+use Rattle.b67_law.proofs.Reaches.{Wider}
+use Rattle.b67_law.proofs.Cells.{plain_word}
+use Rattle.b67_law.proofs.Children.{word_any}
 use Rattle.b67_layout.specs.Common.{JobInOrderButCounts, IsInOrderButCounts, Placement, IsRunning, with_job, cells, peak_with, session_moved}
 use Rattle.b67_stack.specs.Represents.{Storage}
 use Rattle.b67_layout.proofs.Common.{running_in_order, member-same, with_job-twice, numbered_course}

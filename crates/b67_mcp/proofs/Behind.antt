@@ -9,7 +9,7 @@ use Rattle.b67_model.specs.declared.operators.Op.TheVariants.{Plain}
 use Rattle.b67_model.specs.declared.operators.Code.{Code}
 use Rattle.b67_model.specs.declared.operators.Undecodable.TheVariants.{BadPlace}
 use Rattle.b67_model.specs.Common.{Reading, Form, Alone, OneMore, TwoMore, Literal, operators, form_in, form_of, syllable, place_at, count_at, ends_at, reads, operator_at, reading_of, Task, JobConstants, SettingInOrder}
-use Rattle.b67_law_order.proofs.Segments.{reading_fits}
+use Rattle.b67_law.proofs.Segments.{reading_fits}
 
 pub behind_fits : (constants : JobConstants) (t : Task) (op : Op) (next : Place) → SettingInOrder constants → ◌≡◌ {A = Reading} (Ok (op, next)) (reading_of constants t) → IsPlace next
 behind_fits constants t op next g is = grind (arith, reading_fits)

@@ -12,7 +12,7 @@ use Rattle.b67_layout.specs.Common.{IsInOrderButCounts, Placement, slot_of, spot
 use Rattle.b67_stack.specs.Stacks.{StackPlace}
 use Rattle.b67_layout.proofs.Common.{running_in_order, member-same, change-has, change-kept, IsDependedOn, Replaces, task-same, task-other, live_in_order}
 use Rattle.b67_layout.proofs.Replaces.{outer_spots-after}
-use Rattle.b67_law_order.proofs.Numbered.{keyed_member}
+use Rattle.b67_law.proofs.Numbered.{keyed_member}
 
 -- a frame stands among those from it down where it stands among all
 from-same : (k c : ℕ) (o : ℕ → StackPlace) (fs : List Frame) → spot_in k o (from_frame c fs) c ≡ spot_in k o fs c

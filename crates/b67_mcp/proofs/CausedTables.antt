@@ -6,7 +6,7 @@ use Rattle.std.proofs.lemmas.Bool.{cases_eq, eq-eqb, ne_eqb}
 use Rattle.std.proofs.lemmas.Option.{same_Some}
 use Rattle.b67_lemmas.specs.Lists.{Has}
 use Rattle.b67_lemmas.proofs.Members.{all_in, has_map, has_map_back, keyed_has}
-use Rattle.b67_law_order.proofs.Numbered.{keyed_member}
+use Rattle.b67_law.proofs.Numbered.{keyed_member}
 use Rattle.b67_model.specs.Keyed.{keyed}
 use Rattle.b67_model.specs.Common.{Word, Condition, Task, Job, SessionJob, woken_at, number_of, Session, IsSegment, frames_of_task, reach_of, NamesEntered, ConditionInOrder, TaskInOrder}
 use Rattle.b67_model.specs.State as State

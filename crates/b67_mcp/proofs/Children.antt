@@ -5,9 +5,9 @@ use Rattle.b67_model.specs.Keyed.{keyed}
 use Rattle.b67_lemmas.specs.Lists.{Has, Falls}
 use Rattle.b67_lemmas.proofs.Members.{all_from, all_in, falls_low, falls_more, has_map, keyed_has, none_pass}
 use Rattle.b67_model.specs.Common.{Word, Frame, Entered, Array, Ready, Task, JobConstants, Job, Starts, Known, known_of, from_frame, outer_reach, outer_of, known_numbers, identities, WordInOrder, EnvironmentInOrder, CopiesAbove, FramesInOrder, BirthInOrder, TaskInOrder, is_original_of, originals_in, originals_of, TasksInOrder}
-use Rattle.b67_law_order.proofs.Reaches.{Alike, alike_has, alike_same, alike_under, alike_numbers, Follows, Births, outer_alike, word_wider}
-use Rattle.b67_law_order.proofs.Replaced.{task_kept, job_fresh}
-use Rattle.b67_law_order.proofs.RowSteps.{originals, plain_above}
+use Rattle.b67_law.proofs.Reaches.{Alike, alike_has, alike_same, alike_under, alike_numbers, Follows, Births, outer_alike, word_wider}
+use Rattle.b67_law.proofs.Replaced.{task_kept, job_fresh}
+use Rattle.b67_law.proofs.RowSteps.{originals, plain_above}
 use Rattle.b67_task_start.specs.Starts.{with_child}
 
 -- what a task may name below its call

@@ -10,7 +10,7 @@ use Rattle.b67_lemmas.proofs.Places.{drop-get, get_within}
 use Rattle.b67_lemmas.proofs.Members.{has_flat, has_flat_back, has_map, has_map_back}
 use Rattle.b67_model.specs.Common.{Task, SessionJob, number_of, Session}
 use Rattle.b67_model.specs.Keyed.{keyed}
-use Rattle.b67_law_order.proofs.Numbered.{keyed_member}
+use Rattle.b67_law.proofs.Numbered.{keyed_member}
 use Rattle.b67_layout.specs.Common.{IsInOrderButCounts, Placement, slot_of, Differ, RowsFit}
 use Rattle.b67_layout.specs.Rows as rows
 use Rattle.b67_layout.proofs.Common.{not_more, slots_of, jobs_differ}

@@ -14,8 +14,8 @@ use Rattle.b67_stack.specs.Common.{StackPlace, Activation, stack_words, mark_pla
 use Rattle.b67_stack.proofs.Pushes.{Represents-cut}
 use Rattle.b67_layout.proofs.Common.{fresh, running_in_order, no_objects_gone, slot_is, runs_here, Shows-condition, others}
 use Rattle.b67_layout.proofs.NamedFirst.{under as once_only}
-use Rattle.b67_law_order.proofs.Chases.{running_in}
-use Rattle.b67_law_order.proofs.Replaced.{has_counts}
+use Rattle.b67_law.proofs.Chases.{running_in}
+use Rattle.b67_law.proofs.Replaced.{has_counts}
 use Rattle.b67_refer.specs.RunningContext.{RunningContext}
 use Rattle.b67_refer.proofs.Scenes.{member_in_order, scene}
 use Rattle.b67_refer.proofs.Chains.{level_low}

@@ -8,7 +8,7 @@ use Rattle.b67_stack.specs.Represents.{Storage}
 use Rattle.b67_layout.specs.Common.{IsInOrderButCounts, Placement, IsRunning, RepresentsSession, here, with_job}
 use Rattle.b67_layout.proofs.Awaits.{with_job-twice}
 use Rattle.b67_layout_step.proofs.Arrays.{Renumbers}
-use Rattle.b67_law_order.proofs.Calls.{length_replicate, zeros_low}
+use Rattle.b67_law.proofs.Calls.{length_replicate, zeros_low}
 use Rattle.b67_mcp.specs.Printed.{MayCut, CutSome, job_cut}
 use Rattle.b67_task_tables.specs.declared.tables.Machine.{Machine}
 use Rattle.b67_task_tables.specs.Tables.{MachineRepresents}

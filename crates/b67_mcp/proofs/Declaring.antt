@@ -29,7 +29,7 @@ use Rattle.b67_mcp.proofs.Avoiding.{Avoids, FramesAvoid, JobAvoids}
 use Rattle.b67_mcp.proofs.Unheld.{Represents-unheld}
 use Rattle.b67_mcp.proofs.Added.{Fresh, Added, each, Represents-added}
 use Rattle.b67_mcp.proofs.OriginalsOnTop.{next_apart, Represents-original}
-use Rattle.b67_law_order.proofs.Looks.{known_cells}
+use Rattle.b67_law.proofs.Looks.{known_cells}
 
 -- the task with the original of an array on top
 abbrev pub task_with : Task → ℕ → Task

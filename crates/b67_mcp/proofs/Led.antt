@@ -16,7 +16,7 @@ use Rattle.b67_layout.proofs.Fresh.{running_in_order}
 use Rattle.b67_refer.specs.declared.ends.End.{End}
 use Rattle.b67_refer.specs.declared.ends.End.TheVariants as end
 use Rattle.b67_refer.specs.Ends.{IsReference, IsProcAt, EndMeets}
-use Rattle.b67_law_order.proofs.Follows.{follow_same}
+use Rattle.b67_law.proofs.Follows.{follow_same}
 use Rattle.b67_entry.specs.Procedures.{ReachesProc}
 use Rattle.b67_entry.proofs.Firsts.{refers, refers_not}
 use Rattle.b67_entry.proofs.Leads.{ProcFound, proc_found, fault_found}

@@ -9,7 +9,7 @@ use Rattle.b67_layout.specs.Common.{IsInOrderButCounts, Placement, IsRunning, he
 use Rattle.b67_layout.proofs.Fresh.{running_in_order}
 use Rattle.b67_exec_cells.specs.Called.{called_in}
 use Rattle.b67_mcp.proofs.Callings.{calling}
-use Rattle.b67_law_order.proofs.Chases.{cell_has}
+use Rattle.b67_law.proofs.Chases.{cell_has}
 use Rattle.b67_model.specs.declared.limits.TheConstants.{MOST_LINKS}
 
 abbrev IsLow : Word → Type 0

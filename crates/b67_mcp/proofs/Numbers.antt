@@ -15,7 +15,7 @@ use Rattle.b67_task_tables.specs.declared.tables.Tasks.{Tasks}
 use Rattle.b67_task_tables.specs.Tables.{task_row, job_row, counts_of, TasksShow, job_given}
 use Rattle.b67_layout.proofs.LiveTasks.{job_at}
 use Rattle.b67_mcp.proofs.Passed.{jobs_put, tables_after, replaces_answered, waits_answered}
-use Rattle.b67_law_order.proofs.Numbered.{numbered_low}
+use Rattle.b67_law.proofs.Numbered.{numbered_low}
 
 -- the row of a job
 pub record JobIn (tasks : Tasks) (plan : Placement) (m : SessionJob) : Type 0 where

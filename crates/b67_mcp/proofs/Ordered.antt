@@ -6,10 +6,10 @@ use Rattle.b67_lemmas.proofs.Keyed.{change_is, all_change}
 use Rattle.b67_lemmas.proofs.Sums.{sum_total}
 use Rattle.b67_model.specs.Keyed.{keyed, change_keyed}
 use Rattle.b67_model.specs.Common.{Array, SessionJob, with_array, number_of, Session, Starts, IsSegment, Known, NamesArray, OwnsArray, ArrayInOrder, EntryInOrder, TaskInOrder, TasksInOrder, NumberedFrom, originals_of}
-use Rattle.b67_law_order.proofs.Reaches.{Stays}
-use Rattle.b67_law_order.proofs.Replaced.{entry_kept}
-use Rattle.b67_law_order.proofs.Stores.{change_has, arrays_changed, names_changed, by_names}
-use Rattle.b67_law_order.proofs.ItemMaps.{task_up}
+use Rattle.b67_law.proofs.Reaches.{Stays}
+use Rattle.b67_law.proofs.Replaced.{entry_kept}
+use Rattle.b67_law.proofs.Stores.{change_has, arrays_changed, names_changed, by_names}
+use Rattle.b67_law.proofs.ItemMaps.{task_up}
 use Rattle.b67_layout.specs.Common.{JobInOrderButCounts, IsInOrderButCounts, with_job}
 use Rattle.b67_layout.proofs.LeftSettles.{numbered_course}
 use Rattle.b67_layout_step.proofs.Arrays.{Renumbers}

@@ -9,8 +9,8 @@ use Rattle.b67_lemmas.proofs.Keyed.{change_is, all_change}
 use Rattle.b67_lemmas.proofs.Sums.{sum_total}
 use Rattle.b67_model.specs.Common.{Answer, Word, Operand, Frame, Condition, Ready, Task, Job, SessionJob, mcp, no_frame, frame, cell, with_cell, woken_at, number_of, Session, IsSegment, TasksInOrder, NumberedFrom}
 use Rattle.b67_model.specs.Keyed.{keyed, change_keyed}
-use Rattle.b67_law_order.proofs.Looks.{found_frame}
-use Rattle.b67_law_order.proofs.Maps.{HoldsOperand, cell_stored, map_good, frames_refl}
+use Rattle.b67_law.proofs.Looks.{found_frame}
+use Rattle.b67_law.proofs.Maps.{HoldsOperand, cell_stored, map_good, frames_refl}
 use Rattle.b67_layout.specs.Common.{JobInOrderButCounts, IsInOrderButCounts, here, with_job}
 use Rattle.b67_layout.proofs.LeftSettles.{numbered_course}
 use Rattle.b67_mcp.proofs.Waking.{wake_job}

@@ -2,7 +2,7 @@
 use Rattle.std.proofs.Common.{◌≡◌, ℕ, ◌+◌, ◌-◌, ◌≤◌, List, [], ◌∷◌, replicate, length, Option, None, Ok, refl, sym, ◌∙◌, ap, arith, subst, true, Some}
 use Rattle.b67_model.specs.Common.{Answer, Word, Operand, Original, Array, Task, Job, SessionJob, OperatorContext, top, below_top, array, with_array, all_zero, resized, Line, Value, Values, Done, Goes, Leaves, Waits, answers, array_length, arraydec, print, numbers_of, row_copy, printrow, read_from, read, needs_writable, deallocate, resize, intrinsic, started_by, step, live_tasks, Session}
 use Rattle.b67_model.specs.Words.{whole}
-use Rattle.b67_law_order.proofs.Posts.{Post, post_err, post_any, post_then, post_at}
+use Rattle.b67_law.proofs.Posts.{Post, post_err, post_any, post_then, post_at}
 use Rattle.b67_layout.specs.Common.{Placement, here, with_job, session_moved}
 use Rattle.b67_stack.specs.Represents.{Storage}
 use Rattle.b67_task_tables.specs.declared.tables.Machine.{Machine}

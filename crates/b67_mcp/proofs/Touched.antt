@@ -4,7 +4,7 @@ use Rattle.b67_word.specs.declared.faults.Fault.TheVariants.{StackOverflow, Crit
 use Rattle.b67_model.specs.Common.{Answer, ◌>>=◌, ◌>>◌, needs, array, follow_reference, numbers_of, answers, printrow, touched_of, touched_before_fault, reading_of, step, Task, Job, SessionJob, OperatorContext, all_frames, Line, Values, Done, Goes, Word, Operand, Name, Ref, Row, Element, Original, Proc, Intrinsic}
 use Rattle.b67_model.specs.Words as Words
 use Rattle.b67_layout.specs.Meets.{here}
-use Rattle.b67_law_order.proofs.Follows.{follow_same}
+use Rattle.b67_law.proofs.Follows.{follow_same}
 use Rattle.b67_mcp.proofs.Callings.{Calling}
 
 pub reference_same : (h k : OperatorContext) → all_frames h ≡ all_frames k → h.task.frames ≡ k.task.frames → h.job.arrays ≡ k.job.arrays → (w : Word) → follow_reference h w ≡ follow_reference k w

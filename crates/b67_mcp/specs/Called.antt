@@ -10,7 +10,7 @@ use Rattle.b67_layout_storage.specs.Machine.{Says, content_after, HasHole}
 use Rattle.b67_layout.specs.Common.{Placement, with_job, area_held, cells, IsInStack, shown, session_moved}
 use Rattle.b67_exec_cells.specs.Running.{code_area}
 use Rattle.b67_exec_cells.specs.Called.{called_in}
-use Rattle.b67_law_sessions.specs.Turns.{task_lines}
+use Rattle.b67_law.specs.Turns.{task_lines}
 use Rattle.b67_session_lines.specs.Parts.{TookRest, TookMore}
 use Rattle.b67_task_tables.specs.declared.tables.TaskState.{TaskState}
 use Rattle.b67_task_tables.specs.declared.tables.Machine.{Machine}

@@ -6,8 +6,8 @@ use Rattle.std.proofs.lemmas.List.Sums.{sum_by-cons}
 use Rattle.b67_lemmas.specs.Lists.{Has}
 use Rattle.b67_model.specs.Common.{Array, Segment, Condition, Task, SessionJob, Session, sectors_for, sectors, IsSegment, SegmentInOrder, ArrayInOrder}
 use Rattle.b67_layout.specs.Common.{JobInOrderButCounts, IsInOrderButCounts, Placement, TaskRow, JobRow, shown, critical_disp, TaskShows, JobShows, JobsShow}
-use Rattle.b67_law_order.specs.Weaker.{Renumbers, Recoded, Refilled, OtherNumbers, AllOtherNumbers}
-use Rattle.b67_law_order.proofs.Sessions.{recoded_count}
+use Rattle.b67_law.specs.Weaker.{Renumbers, Recoded, Refilled, OtherNumbers, AllOtherNumbers}
+use Rattle.b67_law.proofs.Sessions.{recoded_count}
 use Rattle.b67_task_tables.specs.declared.tables.Tasks.{Tasks}
 use Rattle.b67_task_tables.specs.Tables.{job_row, TasksShow}
 

@@ -8,7 +8,7 @@ use Rattle.b67_lemmas.specs.Lists.{Has}
 use Rattle.b67_lemmas.proofs.Members.{has_append_cases, has_map_back}
 use Rattle.b67_model.specs.Common.{Array, Segment, SessionJob, Session, IsSegment, SegmentInOrder, ArrayInOrder}
 use Rattle.b67_layout.specs.Common.{JobInOrderButCounts, IsInOrderButCounts, Placement, array_object, code_objects, objects_of, machine_view}
-use Rattle.b67_law_order.specs.Weaker.{AllOtherNumbers}
+use Rattle.b67_law.specs.Weaker.{AllOtherNumbers}
 use Rattle.b67_layout_step.proofs.OtherNumbers.{others_in_order}
 use Rattle.b67_stack.specs.Common.{PagedObject, MachineView, NoOriginalAboveTop, Storage, Represents, renumbered}
 use Rattle.b67_layout_storage.specs.Machine.{AreBits}

@@ -7,7 +7,7 @@ use Rattle.b67_stack.specs.declared.What.{What}
 use Rattle.b67_stack.specs.declared.What.TheVariants as what
 use Rattle.b67_stack.specs.Represents.{Storage}
 use Rattle.b67_exec_cells.specs.Running.{code_area}
-use Rattle.b67_law_order.specs.Weaker.{AllOtherNumbers}
+use Rattle.b67_law.specs.Weaker.{AllOtherNumbers}
 use Rattle.b67_task_tables.specs.declared.tables.Machine.{Machine}
 use Rattle.b67_task_tables.specs.Tables.{MachineRepresents}
 pub use Rattle.b67_task_tables.specs.Shortage.{IsShortOf}

@@ -10,18 +10,18 @@ use Rattle.b67_model.specs.Keyed.{keyed}
 use Rattle.b67_model.specs.Common.{Answer, Task, JobConstants, Job, JobProgress, SessionJob, Session, Choice, choice, StepResult, with_task, called, Line, Done, Goes, Leaves, Waits, Reading, reading_of, step_by, step, Settled, among, ends_all, ends_task, ends_each_if, unsettled, settles, stepped, step_of, number_of, of_job, with_moment, moment_by, moment_for, next, after, listing, operator_at, origin, Ready, IsStart, IsSegment, TaskInOrder, JobInOrder, IsInOrder}
 use Rattle.b67_lemmas.specs.Lists.{Has}
 use Rattle.b67_lemmas.proofs.Members.{all_in, has_filter, has_map_back, has_get, keyed_has}
-use Rattle.b67_law_order.specs.Opening.{Opening, opened_from}
-use Rattle.b67_law_order.proofs.Kept.{here}
-use Rattle.b67_law_order.proofs.Looks.{Run}
-use Rattle.b67_law_order.proofs.Readings.{ReadFits}
-use Rattle.b67_law_order.proofs.Segments.{reading_fits}
-use Rattle.b67_law_order.proofs.Admitted.{entered}
-use Rattle.b67_law_order.proofs.Sessions.{starts_are_segments}
-use Rattle.b67_law_sessions.specs.RunMade.{MakesOperator, context, EarlierStep}
-use Rattle.b67_law_sessions.proofs.Keeping.{has_changed, StepRow}
-use Rattle.b67_law_sessions.proofs.Choices.{chosen_tasks_are_ready}
-use Rattle.b67_law_sessions.proofs.Makers.{after_more}
-use Rattle.b67_law_sessions.proofs.Steps as S
+use Rattle.b67_law.specs.Opening.{Opening, opened_from}
+use Rattle.b67_law.proofs.Kept.{here}
+use Rattle.b67_law.proofs.Looks.{Run}
+use Rattle.b67_law.proofs.Readings.{ReadFits}
+use Rattle.b67_law.proofs.Segments.{reading_fits}
+use Rattle.b67_law.proofs.Admitted.{entered}
+use Rattle.b67_law.proofs.Sessions.{starts_are_segments}
+use Rattle.b67_law.specs.RunMade.{MakesOperator, context, EarlierStep}
+use Rattle.b67_law.proofs.WordsKept.{has_changed, StepRow}
+use Rattle.b67_law.proofs.Choices.{chosen_tasks_are_ready}
+use Rattle.b67_law.proofs.Makers.{after_more}
+use Rattle.b67_law.proofs.WordSteps as S
 use Rattle.b67_promises.specs.Switches.{NamesNoProcess}
 use Rattle.b67_promises.proofs.NoProcess.{IsFree, AnyMark, free_operands, TasksFree, FramesFree, row_free, calls_none}
 

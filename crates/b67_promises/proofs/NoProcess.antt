@@ -13,13 +13,13 @@ use Rattle.b67_model.specs.Words as Words
 use Rattle.b67_model.specs.Common.{Answer, Word, Operand, Name, Ref, Row, Element, Original, Proc, Intrinsic, Frame, Standing, Marked, Entered, Task, Job, Line, OperatorContext, mcp, no_frame, frame, all_frames, level_of_standing, level_of_frame, environment_of, running, running_level, outward, cell_of, cell, named, place_of, End, AtIntrinsic, array, Link, Stops, Leads, element_end, link_at, link_in, link_from, link, chase_on, follow_reference, called, called_at, called_by, called_on, top_of, cells_of, stff_word, stff, row, Goes, Starts, known_of, outer_reach, outer_of, from_frame, frames_of_task, critical_of, IsEntered, EntryInOrder}
 use Rattle.b67_lemmas.specs.Lists.{Has}
 use Rattle.b67_lemmas.proofs.Members.{all_in, has_append_cases, has_append_right, has_flat_back, has_reverse_back, keyed_has}
-use Rattle.b67_law_order.proofs.Posts.{Post, post_ok, post_err, post_bind, post_any, post_if_is, post_at}
-use Rattle.b67_law_order.proofs.Readings.{OpBits}
-use Rattle.b67_law_order.proofs.Looks.{Run, Seen, reach, see, closed}
-use Rattle.b67_law_order.proofs.Chases.{running_known, some_ok, cell_has}
-use Rattle.b67_law_sessions.specs.Made.{OperatorMakes, StandsIn}
-use Rattle.b67_law_sessions.proofs.Steps as S
-use Rattle.b67_law_sessions.proofs.Rows.{each_row_makes_its_words}
+use Rattle.b67_law.proofs.Posts.{Post, post_ok, post_err, post_bind, post_any, post_if_is, post_at}
+use Rattle.b67_law.proofs.Readings.{OpBits}
+use Rattle.b67_law.proofs.Looks.{Run, Seen, reach, see, closed}
+use Rattle.b67_law.proofs.Chases.{running_known, some_ok, cell_has}
+use Rattle.b67_law.specs.Made.{OperatorMakes, StandsIn}
+use Rattle.b67_law.proofs.WordSteps as S
+use Rattle.b67_law.proofs.MadeRows.{each_row_makes_its_words}
 use Rattle.b67_model.specs.declared.limits.TheConstants.{MOST_LINKS}
 
 -- ---- words that don't name the MCP's cell 12

@@ -9,8 +9,8 @@ use Rattle.b67_lemmas.proofs.Members.{all_in}
 use Rattle.b67_model.specs.declared.operators.Op.{Op}
 use Rattle.b67_model.specs.Keyed.{change_keyed}
 use Rattle.b67_model.specs.Common.{Frame, Standing, Marked, Entered, Task, SessionJob, Session, Choice, StepResult, called, moment_by, next, after, after_from, live_tasks, number_of, ready, Starts, IsStart, StackInOrder, ReturnsInOrder, frames_named, IsInOrder}
-use Rattle.b67_law_sessions.specs.Made.{MakesMark, by_process}
-use Rattle.b67_law_sessions.specs.RunMade.{EarlierStep, FrameMadeInRun, context}
+use Rattle.b67_law.specs.Made.{MakesMark, by_process}
+use Rattle.b67_law.specs.RunMade.{EarlierStep, FrameMadeInRun, context}
 use Rattle.b67_session_lines.specs.Stops.{live_after}
 use Rattle.b67_job.specs.Device.{Device}
 use Rattle.b67_job.specs.States.{IsMadeByOperators}

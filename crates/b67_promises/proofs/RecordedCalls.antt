@@ -110,8 +110,11 @@ module _ {D F R W : Type 0} {g : Ghosts F} (core sectors : ℕ) (files files' : 
         out = x.2.0;
         took = took_bytes old new x.2.0 x.2.1;
         so = subst (λ (n : ℕ). IsAnsweredSo None core n s.text status x.2.0) (have x.0.inner) x.2.2;
-        opened = inl (whole.1, same_Some files'.opened.texts (s.ready.opened.texts ++ paths_of (backing_path words)) (s.serves.opened_so.told s.ready.opened.texts refl)
-            ∙ ap (λ (ts : List (List ℕ)). ts ++ paths_of (backing_path words)) s.same.opened ∙ ap (λ (o : Option (List ℕ)). files.opened.texts ++ paths_of o) (run_path core words w));
+        opened = inl (
+          whole.1,
+          same_Some files'.opened.texts (s.ready.opened.texts ++ paths_of (backing_path words)) (s.serves.opened_so.told s.ready.opened.texts refl)
+              ∙ ap (λ (ts : List (List ℕ)). ts ++ paths_of (backing_path words)) s.same.opened ∙ ap (λ (o : Option (List ℕ)). files.opened.texts ++ paths_of o) (run_path core words w),
+        );
       }
 
   text_served : (words : List (Bor (List ℕ))) (w : IsRunCommand core words) → FilesHave files sectors → IsTextServed words files files' input input' old new status → PrintsAsDescribed core sectors w.path files files' input input' old new status

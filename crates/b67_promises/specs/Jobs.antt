@@ -8,7 +8,7 @@ use Rattle.b67_model.specs.Keyed.{keyed}
 use Rattle.b67_model.specs.Common.{opened, SessionJob, Session, start, number_of, lines, after}
 use Rattle.b67_model.specs.Apart.{lines_of_job}
 use Rattle.b67_session_lines.specs.Stops.{live_after}
-use Rattle.b67_law_order.specs.Opening.{Opening, opening}
+use Rattle.b67_law.specs.Opening.{Opening, opening}
 
 -- ---- texts
 

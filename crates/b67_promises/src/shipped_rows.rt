@@ -105,7 +105,11 @@ fn serves_a_recorded_process(rt: HostRuntime) {
     same(&rt, lines.lines.as_slice(), LINES.as_bytes());
 }
 
-fn serve_two(alloc: Global, lines: &mut ByBytes, other_lines: &mut ByBytes) -> (ExitCode, ExitCode) {
+fn serve_two(
+    alloc: Global,
+    lines: &mut ByBytes,
+    other_lines: &mut ByBytes,
+) -> (ExitCode, ExitCode) {
     let mut process = RecordedProcess::new(alloc, process_in("630"));
     let mut input = RecordedSource::new(TWO.as_bytes());
     let mut printer = RecordedSink::new(lines);

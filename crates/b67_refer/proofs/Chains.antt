@@ -22,7 +22,7 @@ use Rattle.b67_refer.proofs.Slots.{whole, registers}
 use Rattle.b67_refer.proofs.Seats.{has_task, order_of}
 use Rattle.b67_refer.proofs.Bases.{dictionary_is, of_slot}
 use Rattle.b67_refer.proofs.Marks.{MarkOf, mark, frame_known, high_frames, high_level, low_is, view_low, dictionary_address}
-use Rattle.b67_law_order.proofs.Chases.{running_in}
+use Rattle.b67_law.proofs.Chases.{running_in}
 
 -- the last link of a chain
 outward_last : (h : OperatorContext) (links : ℕ) (f : Frame) → outward h (suc links) f ≡ frame h (environment_of (outward h links f).standing)

@@ -13,7 +13,7 @@ use Rattle.b67_lemmas.proofs.Members.{has_append_cases, has_append_right, has_ma
 use Rattle.b67_model.specs.Keyed.{keyed}
 use Rattle.b67_model.specs.Common.{Frame, Standing, Marked, Entered, Task, OperatorContext, height, mcp, no_frame, frame, level_of_standing, environment_of, Known, known_of, known_numbers, from_frame, frames_of_task, critical_of, base as base_known, reach_of, IsEntered, ParentInOrder, BirthInOrder, StandsInOrder, EnvironmentInOrder, IsSegment, frames_named}
 use Rattle.b67_stack.specs.Stacks.{StackPlace}
-use Rattle.b67_law_order.proofs.Looks.{Line, line_of, above_one, found_frame, from_has}
+use Rattle.b67_law.proofs.Looks.{Line, line_of, above_one, found_frame, from_has}
 use Rattle.b67_layout.specs.Common.{slot_of, spot_in, base_spot, outer_spots, spots, address_of, frame_address, here, head}
 use Rattle.b67_word.specs.declared.couples.Place.{Place}
 use Rattle.b67_stack.specs.Stacks as Stacks

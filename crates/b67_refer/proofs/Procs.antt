@@ -12,7 +12,7 @@ use Rattle.b67_ctl.specs.Layout.{intrinsic_word, IsIntrinsicPcw}
 use Rattle.b67_lemmas.proofs.Members.{all_in}
 use Rattle.b67_model.specs.Words as Words
 use Rattle.b67_model.specs.Common.{Word, Operand, Name, Ref, Row, Element, Original, Proc, Intrinsic, Frame, mcp, frame, cell_of, EntryInOrder, link_at}
-use Rattle.b67_law_order.proofs.Chases.{cell_has}
+use Rattle.b67_law.proofs.Chases.{cell_has}
 use Rattle.b67_layout.specs.Meets.{here}
 use Rattle.b67_layout.proofs.Sessions.{words_enough}
 use Rattle.b67_refer.specs.declared.ends.End.TheVariants as end

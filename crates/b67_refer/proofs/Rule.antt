@@ -17,7 +17,7 @@ use Rattle.b67_lemmas.proofs.Places.{same_test}
 use Rattle.b67_model.specs.Common.{Answer, Word, Operand, Name, Ref, Row, Element, Original, Proc, Intrinsic, Frame, Standing, Array, Job, height, first_offset, cell_of, cell, Starts, Known, known_of, known_numbers, reach_of, IsEntered, IsSegment, WordInOrder}
 use Rattle.b67_model.specs.Words as Words
 use Rattle.b67_model.specs.State as State
-use Rattle.b67_law_order.proofs.Reaches.{Wider, word_wider}
+use Rattle.b67_law.proofs.Reaches.{Wider, word_wider}
 use Rattle.b67_stack.specs.Common.{Locations, Shape, Is, Fits, LieDownward, StackPlace, stack_words, headed, words}
 use Rattle.b67_stack.proofs.Lies.{Lie-under}
 use Rattle.b67_stack.proofs.Heights.{words-length}

@@ -8,8 +8,8 @@ use Rattle.b67_lemmas.proofs.Members.{all_in, falls_low, has_append_cases, has_a
 use Rattle.b67_model.specs.Keyed.{keyed}
 use Rattle.b67_model.specs.Common.{Frame, Standing, Task, height, Known, known_of, known_numbers, from_frame, frames_of_task, critical_of, base as base_known, outer_reach, outer_of, reach_of, FramesInOrder, ParentInOrder, BirthInOrder, TaskInOrder, IsSegment}
 use Rattle.b67_stack.specs.Stacks.{StackPlace}
-use Rattle.b67_law_order.proofs.Looks.{IsFrame, from_has}
-use Rattle.b67_law_order.proofs.Replaced.{numbers_append}
+use Rattle.b67_law.proofs.Looks.{IsFrame, from_has}
+use Rattle.b67_law.proofs.Replaced.{numbers_append}
 use Rattle.b67_layout.specs.Placement.{slot_of, spot_in, outer_spots, spots}
 use Rattle.b67_refer.specs.RunningContext.{LiveContext}
 use Rattle.b67_refer.specs.LiveCells.{IsTop}

@@ -4,9 +4,9 @@ use Rattle.std.proofs.lemmas.Option.{none-some}
 use Rattle.b67_word.specs.declared.faults.Failed.{Failed}
 use Rattle.b67_model.specs.Common.{IsInOrderButPlaces, StepResult, Session, Ready, Task, Job, SessionJob, Line, Goes, step, next}
 use Rattle.b67_model.specs.Run.{after_from}
-use Rattle.b67_law_sessions.specs.Orders.{IsInOrderButLimit}
-use Rattle.b67_law_sessions.specs.Turns.{IsNext}
-use Rattle.b67_law_sessions.proofs.Halves.{first_by}
+use Rattle.b67_law.specs.Orders.{IsInOrderButLimit}
+use Rattle.b67_law.specs.Turns.{IsNext}
+use Rattle.b67_law.proofs.Halves.{first_by}
 use Rattle.b67_session_lines.specs.Moments.{first_part, last_part, joined}
 use Rattle.b67_session_lines.proofs.Joins.{steps-have-parts}
 use Rattle.b67_stack.specs.Represents.{Storage}

@@ -8,9 +8,9 @@ use Rattle.b67_session_lines.specs.Moments.{first_part, last_part, text_of, join
 use Rattle.b67_session_lines.proofs.Joins.{steps-have-parts}
 use Rattle.b67_stack.specs.Represents.{Storage}
 use Rattle.b67_layout.specs.Placement.{Placement}
-use Rattle.b67_law_sessions.specs.Orders.{IsInOrderButLimit}
-use Rattle.b67_law_sessions.specs.Turns.{OrderAfter}
-use Rattle.b67_law_sessions.proofs.Limits.{last_parts_restore_order}
+use Rattle.b67_law.specs.Orders.{IsInOrderButLimit}
+use Rattle.b67_law.specs.Turns.{OrderAfter}
+use Rattle.b67_law.proofs.Limits.{last_parts_restore_order}
 use Rattle.b67_task_tables.specs.declared.tables.Tasks.{Tasks}
 use Rattle.b67_task_tables.specs.declared.tables.Machine.{Machine}
 use Rattle.b67_task_tables.specs.Tables.{MachineRepresents}

@@ -5,7 +5,7 @@ use Rattle.std.proofs.lemmas.List.{length-map}
 use Rattle.b67_lemmas.proofs.Members.{length_change}
 use Rattle.b67_model.specs.Common.{Word, Operand, Task, Job, SessionJob, OperatorContext, with_task, End, AtCell, AtElement, AtArray, AtProc, AtIntrinsic, Line, Done, Goes, Leaves, Waits, answered, answers, child_of, starts, process, is_live, awaits, await, status_of, status, waits_at, wait, causes, cause, Call, call_in, calls, intrinsic, step}
 use Rattle.b67_model.specs.Words.{whole}
-use Rattle.b67_law_order.proofs.Posts.{Post, post_ok, post_err, post_any, post_then, post_if, post_if_is, post_more}
+use Rattle.b67_law.proofs.Posts.{Post, post_ok, post_err, post_any, post_then, post_if, post_if_is, post_more}
 use Rattle.b67_mcp.proofs.Callings.{Calling}
 use Rattle.b67_mcp.proofs.Still.{Still, call_still}
 

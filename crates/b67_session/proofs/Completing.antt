@@ -3,8 +3,8 @@ use Rattle.std.proofs.Common.{◌≡◌, ◌≢◌, ℕ, ◌+◌, ◌≤◌, Lis
 use Rattle.std.specs.Result.{IsOk}
 use Rattle.b67_io.specs.Causes.{Stayed}
 use Rattle.b67_model.specs.Common.{need, need_next, StepResult, after, Session}
-use Rattle.b67_law_sessions.specs.Turns.{IsNext}
-use Rattle.b67_law_sessions.proofs.Limits.{no_last}
+use Rattle.b67_law.specs.Turns.{IsNext}
+use Rattle.b67_law.proofs.Limits.{no_last}
 use Rattle.b67_task_tables.specs.declared.tables.Machine.{Machine}
 use Rattle.b67_session.specs.Attempts.{TakesSectors}
 use Rattle.b67_session.specs.AttemptPassed.{CallCauses}

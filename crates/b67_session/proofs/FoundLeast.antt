@@ -4,8 +4,8 @@ use Rattle.std.proofs.Common.{length, ◌≡◌, ◌≢◌, ◌≤◌, ◌<◌, 
 use Rattle.std.specs.Prelude.{option_map}
 use Rattle.std.proofs.lemmas.Bool.{cases_lt}
 use Rattle.b67_model.specs.Common.{SessionJob, Task, Session, StepResult, next, after, after_from, live_tasks, live_after, height, IsInOrderButPlaces}
-use Rattle.b67_law_order.proofs.RunSessions.{sessions_stay_in_order_but_places}
-use Rattle.b67_law_sessions.specs.Turns.{IsNext}
+use Rattle.b67_law.proofs.RunSessions.{sessions_stay_in_order_but_places}
+use Rattle.b67_law.specs.Turns.{IsNext}
 use Rattle.b67_session_lines.proofs.Statuses.{over-stays}
 use Rattle.b67_layout_storage.specs.Machine.{Says, DeviceAfterCalls}
 use Rattle.b67_task_tables.specs.declared.tables.TaskRow.{TaskRow}

@@ -5,14 +5,14 @@ use Rattle.std.proofs.lemmas.List.Sums.{sum_by-cons}
 use Rattle.b67_lemmas.specs.Lists.{Has}
 use Rattle.b67_lemmas.proofs.Members.{all_in, has_flat}
 use Rattle.b67_model.specs.Common.{is_ready, IsSegment, JobInOrder, IsInOrderButPlaces, Task, SessionJob, RunLine, next, after, lines, live_tasks, Session, Choice, choice, ready_of, ready, Who}
-use Rattle.b67_law_sessions.specs.Turns.{IsNext}
-use Rattle.b67_law_sessions.proofs.Choices.{chosen_tasks_are_ready}
+use Rattle.b67_law.specs.Turns.{IsNext}
+use Rattle.b67_law.proofs.Choices.{chosen_tasks_are_ready}
 use Rattle.b67_task_switch.proofs.Rooms.{none_ready}
 use Rattle.b67_task_switch.proofs.ReadyTasks.{of_tasks}
 use Rattle.b67_session_lines.specs.Moments.{first_part, due}
 use Rattle.b67_session_lines.proofs.Statuses.{after-add}
 use Rattle.b67_layout_storage.specs.Machine.{Says}
-use Rattle.b67_law_sessions.proofs.TurnRuns.{Came, came-none, came-more}
+use Rattle.b67_law.proofs.TurnRuns.{Came, came-none, came-more}
 use Rattle.b67_task_tables.specs.declared.tables.TaskRow.{TaskRow}
 use Rattle.b67_task_tables.specs.declared.tables.Machine.{Machine}
 use Rattle.b67_task_tables.specs.Tables.{task_row}

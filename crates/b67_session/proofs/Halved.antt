@@ -7,14 +7,14 @@ use Rattle.b67_lemmas.proofs.Members.{all_in}
 use Rattle.b67_lemmas.proofs.Keyed.{change_is, changed_there}
 use Rattle.b67_model.specs.Common.{Ready, Task, Job, SessionJob, Stepped, ends_with, IsSegment, JobInOrder, NumberedFrom, IsInOrderButPlaces, run_text, need, Reading, reading_of, step, step_by, StepResult, number_of, of_job, Session, Choice, Line, Goes, Leaves, Waits}
 use Rattle.b67_model.specs.Keyed.{keyed}
-use Rattle.b67_law_order.proofs.Numbered.{numbered_change}
-use Rattle.b67_law_sessions.specs.Orders.{IsInOrderButLimit, SettlesInOrder}
-use Rattle.b67_law_sessions.specs.Turns.{IsNext, part_of}
-use Rattle.b67_law_sessions.proofs.Choices.{next_is_ready}
-use Rattle.b67_law_sessions.proofs.Halves.{first_by}
-use Rattle.b67_law_sessions.proofs.Limits.{no_last}
-use Rattle.b67_law_sessions.proofs.Parts.{first_parts_keep_order}
-use Rattle.b67_law_sessions.proofs.Settled.{ends_settle}
+use Rattle.b67_law.proofs.Numbered.{numbered_change}
+use Rattle.b67_law.specs.Orders.{IsInOrderButLimit, SettlesInOrder}
+use Rattle.b67_law.specs.Turns.{IsNext, part_of}
+use Rattle.b67_law.proofs.Choices.{next_is_ready}
+use Rattle.b67_law.proofs.Halves.{first_by}
+use Rattle.b67_law.proofs.Limits.{no_last}
+use Rattle.b67_law.proofs.Parts.{first_parts_keep_order}
+use Rattle.b67_law.proofs.Settled.{ends_settle}
 use Rattle.b67_session_lines.specs.Moments.{first_part, text_of, due}
 use Rattle.b67_session_lines.specs.Parts.{TookRest}
 use Rattle.b67_layout.specs.Common.{Placement, with_job, session_moved}
@@ -24,7 +24,7 @@ use Rattle.b67_task_tables.specs.declared.tables.Tasks.{Tasks}
 use Rattle.b67_task_tables.specs.declared.tables.Machine.{Machine}
 use Rattle.b67_task_switch.specs.declared.counting.Chosen.{Chosen}
 use Rattle.b67_task_switch.specs.Counted.{choice_of, CountsHaveRoom}
-use Rattle.b67_law_order.proofs.FewMade.{made_few, all_few}
+use Rattle.b67_law.proofs.FewMade.{made_few, all_few}
 use Rattle.b67_session.specs.AttemptPassed.{IsCalled, WaitsSo, printed_text}
 use Rattle.b67_session.specs.Tries.{EndsSo}
 use Rattle.b67_session.specs.Attempts.{StillStands}

@@ -11,7 +11,7 @@ use Rattle.b67_layout.proofs.Rows.{slot_below}
 use Rattle.b67_layout.proofs.Starts.{runs_here}
 use Rattle.b67_task_switch.specs.Turns.{WaitsOn, WaitsInOne}
 use Rattle.b67_task_switch.proofs.Replans.{slot_here}
-use Rattle.b67_law_sessions.specs.Turns.{IsNext}
+use Rattle.b67_law.specs.Turns.{IsNext}
 use Rattle.b67_session.specs.Search.{mark_height}
 use Rattle.b67_session.proofs.Next.{in_session, in_job, found, task_found}
 

@@ -3,7 +3,7 @@ use Rattle.std.proofs.Common.{◌≡◌, ◌≢◌, ℕ, List, [], ◌∷◌, Bo
 use Rattle.b67_word.specs.declared.couples.Place.{Place}
 use Rattle.b67_model.specs.Common.{Answer, Word, Operand, Name, Ref, Row, Element, Original, Proc, Intrinsic, Array, Frame, Standing, Marked, Entered, Return, Task, Job, SessionJob, OperatorContext, top, End, follow, Line, Done, Goes, Leaves, Waits, top_of, leaves_cells, without_arrays_of, evaluates, leaves, exit, returnable, returned, retn_word, retn}
 use Rattle.b67_model.specs.Words as Words
-use Rattle.b67_law_order.proofs.Posts.{Post, post_ok, post_err, post_any, post_then}
+use Rattle.b67_law.proofs.Posts.{Post, post_ok, post_err, post_any, post_then}
 use Rattle.b67_layout.specs.Meets.{here}
 use Rattle.b67_layout.proofs.Objects.{others}
 

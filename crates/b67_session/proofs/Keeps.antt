@@ -10,8 +10,8 @@ use Rattle.b67_model.specs.declared.operators.Code.{Code}
 use Rattle.b67_model.specs.declared.operators.Code.TheVariants as codes
 use Rattle.b67_model.specs.Common.{Answer, ◌>>=◌, add, subt, mult, idiv, rdiv, less, greq, grtr, lseq, equl, neql, land, lor, leqv, same, chsn, lnot, bset, brst, isol, insr, Word, Operand, Name, operand, Frame, Standing, Marked, Entered, Return, Task, Job, SessionJob, OperatorContext, with_task, below_top, top, with_top_cells, End, AtCell, AtElement, AtArray, AtProc, AtIntrinsic, chase, follow, follow_reference, with_element, Line, Done, Goes, Leaves, Waits, top_of, cells_of, result, with_cells, leaves_cells, pushes, is_critical, without_arrays_of, accident, needs_level, back_to, evaluates, enters, left, leaves, returnable, returned, retn_word, CellRow, on_one, on_two, dlet, exch, dupl, on_cells, branches, branch_if, stff, load_at, load, indx, nxlv, store_at, store, entr_at, entr_with, entr, plain, row, from_frame, called_at, called_by, called_on, called}
 use Rattle.b67_model.specs.Keyed.{keyed, change_keyed}
-use Rattle.b67_law_order.proofs.Posts.{Post, post_ok, post_err, post_any, post_then, post_needs, post_at}
-use Rattle.b67_law_order.specs.Profiles.{Profile, profile}
+use Rattle.b67_law.proofs.Posts.{Post, post_ok, post_err, post_any, post_then, post_needs, post_at}
+use Rattle.b67_law.specs.Profiles.{Profile, profile}
 use Rattle.b67_layout.specs.Meets.{here}
 use Rattle.b67_session.proofs.Places.{places, top_from, drop_from, enter_from, Same, AllSame, all_same, put, store_same}
 

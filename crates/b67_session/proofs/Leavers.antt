@@ -5,7 +5,7 @@ use Rattle.b67_model.specs.declared.operators.Op.{Op}
 use Rattle.b67_model.specs.declared.operators.Op.TheVariants.{Plain}
 use Rattle.b67_model.specs.declared.operators.Code.TheVariants.{Exit, Retn}
 use Rattle.b67_model.specs.Common.{Task, Job, SessionJob, OperatorContext, Line, Goes, Done, may_be_last, Answer, Reading, reading_of, row, step, Session, IsSegment, called}
-use Rattle.b67_law_order.specs.Parameters.{ParametersFit}
+use Rattle.b67_law.specs.Parameters.{ParametersFit}
 use Rattle.b67_stack.specs.declared.Cpu.{Cpu}
 use Rattle.b67_stack.specs.declared.Step.TheVariants as answers
 use Rattle.b67_stack.specs.Represents.{Storage}

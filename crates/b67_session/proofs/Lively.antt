@@ -16,10 +16,10 @@ use Rattle.b67_model.specs.declared.operators.Code.TheVariants.{Entr}
 use Rattle.b67_model.specs.Common.{Answer, ◌>>=◌, needs, needs_level, Word, Operand, Original, Array, Ready, Standing, Marked, Entered, Task, Job, SessionJob, OperatorContext, with_task, top, below_top, with_cell, with_cell_of, array, with_array, all_zero, resized, End, AtCell, AtElement, AtArray, AtProc, AtIntrinsic, follow_reference, Line, Value, Values, Done, Goes, Leaves, Waits, top_of, cells_of, answered, answers, array_length, arraydec, print, numbers_of, row_copy, printrow, read_from, read, is_original, child_of, starts, process, awaits, await, status_of, status, waits_at, wait, woken_at, wakes, causes, cause, needs_writable, deallocate, resize, intrinsic, entr_at, entr_with, entr, row, called_at, called_by, called_on, called}
 use Rattle.b67_model.specs.Words.{whole}
 use Rattle.b67_model.specs.Keyed.{keyed, change_keyed}
-use Rattle.b67_law_order.proofs.Posts.{Post, post_ok, post_err, post_any, post_then, post_if, post_at}
-use Rattle.b67_law_order.specs.Profiles.{Profile, profile, profiles, IsKnown}
-use Rattle.b67_law_order.proofs.Identities as Identities
-use Rattle.b67_law_order.proofs.Lemmas.{rows_keep}
+use Rattle.b67_law.proofs.Posts.{Post, post_ok, post_err, post_any, post_then, post_if, post_at}
+use Rattle.b67_law.specs.Profiles.{Profile, profile, profiles, IsKnown}
+use Rattle.b67_law.proofs.Identities as Identities
+use Rattle.b67_law.proofs.Lemmas.{rows_keep}
 use Rattle.b67_layout.specs.Meets.{here}
 
 -- no fewer tasks live, and one is ready

@@ -6,14 +6,14 @@ use Rattle.b67_lemmas.proofs.Sums.{sum_total}
 use Rattle.b67_model.specs.Common.{JobMoment, moment_with, Settled, Stepped, deadlocked, unsettled, IsSegment, JobInOrder, TasksInOrder, IsInOrderButPlaces, step, StepResult, number_of, of_job, live_tasks, with_moment, Session, Choice, Ready, Task, Job, SessionJob, Line, Goes}
 use Rattle.b67_model.specs.Endings.{goes_on}
 use Rattle.b67_model.specs.Keyed.{keyed}
-use Rattle.b67_law_order.specs.Ends.{StepsFrom}
-use Rattle.b67_law_order.proofs.Numbered.{tasks_of}
-use Rattle.b67_law_order.proofs.Segments.{rows_keep_order_but_places}
-use Rattle.b67_law_sessions.specs.Orders.{IsInOrderButLimit}
-use Rattle.b67_law_sessions.specs.Turns.{IsNext, part_of}
-use Rattle.b67_law_sessions.proofs.Parts.{first_parts_keep_order}
-use Rattle.b67_law_sessions.proofs.Settled.{made_settles}
-use Rattle.b67_law_sessions.proofs.Halves.{open_lines}
+use Rattle.b67_law.specs.Ends.{StepsFrom}
+use Rattle.b67_law.proofs.Numbered.{tasks_of}
+use Rattle.b67_law.proofs.Segments.{rows_keep_order_but_places}
+use Rattle.b67_law.specs.Orders.{IsInOrderButLimit}
+use Rattle.b67_law.specs.Turns.{IsNext, part_of}
+use Rattle.b67_law.proofs.Parts.{first_parts_keep_order}
+use Rattle.b67_law.proofs.Settled.{made_settles}
+use Rattle.b67_law.proofs.Halves.{open_lines}
 use Rattle.b67_stack.specs.Represents.{Storage}
 use Rattle.b67_layout.specs.Placement.{Placement}
 use Rattle.b67_layout.specs.Moved.{session_moved}

@@ -8,10 +8,10 @@ use Rattle.b67_lemmas.proofs.Members.{all_in, has_get, keyed_has, keyed_falls}
 use Rattle.b67_lemmas.proofs.Places.{at_mapped}
 use Rattle.b67_model.specs.Keyed.{keyed}
 use Rattle.b67_model.specs.Common.{IsSegment, JobInOrder, IsInOrderButPlaces, need, need_of_job, need_by, need_next, number_of, Who, Session, Choice, Task, SessionJob}
-use Rattle.b67_law_order.proofs.Numbered.{keyed_member}
-use Rattle.b67_law_order.specs.Weaker.{OtherNumbers, AllOtherNumbers}
-use Rattle.b67_law_sessions.specs.Turns.{IsNext}
-use Rattle.b67_law_sessions.proofs.Choices.{choice_ignores_numbers}
+use Rattle.b67_law.proofs.Numbered.{keyed_member}
+use Rattle.b67_law.specs.Weaker.{OtherNumbers, AllOtherNumbers}
+use Rattle.b67_law.specs.Turns.{IsNext}
+use Rattle.b67_law.proofs.Choices.{choice_ignores_numbers}
 use Rattle.b67_layout.specs.Common.{Placement, slot_of, TaskShows, RowsFit, IsRunning}
 use Rattle.b67_layout.proofs.Sessions.{running_only}
 use Rattle.b67_layout.proofs.Alike.{rows_alike}

@@ -4,8 +4,8 @@ use Rattle.std.specs.Prelude.{option_map}
 use Rattle.std.proofs.lemmas.Bool.{cases_lt}
 use Rattle.std.proofs.lemmas.Option.{none-some}
 use Rattle.b67_model.specs.Common.{SessionJob, Task, Session, choice, after, height, IsInOrderButPlaces}
-use Rattle.b67_law_sessions.specs.Turns.{IsNext}
-use Rattle.b67_law_sessions.proofs.Choices.{chosen_tasks_are_ready}
+use Rattle.b67_law.specs.Turns.{IsNext}
+use Rattle.b67_law.proofs.Choices.{chosen_tasks_are_ready}
 use Rattle.b67_task_tables.specs.declared.tables.Machine.{Machine}
 use Rattle.b67_layout.specs.Session.{IsRunning}
 use Rattle.b67_task_switch.specs.Lasting.{TurnLasts}

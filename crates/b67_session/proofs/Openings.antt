@@ -5,8 +5,8 @@ use Rattle.b67_codefile.specs.declared.file.Codefile.{Codefile}
 use Rattle.b67_codefile.specs.Meaning.{program_of}
 use Rattle.b67_model_text.specs.declared.deck.Deck.{Deck}
 use Rattle.b67_model.specs.Common.{Session, IsInOrderButPlaces}
-use Rattle.b67_law_order.proofs.Opens.{opens_in_order}
-use Rattle.b67_law_order.proofs.Sessions.{starts_are_segments}
+use Rattle.b67_law.proofs.Opens.{opens_in_order}
+use Rattle.b67_law.proofs.Sessions.{starts_are_segments}
 use Rattle.b67_layout_storage.specs.Machine.{content_after, Says}
 use Rattle.b67_task_tables.specs.declared.tables.TaskRow.{TaskRow}
 use Rattle.b67_task_tables.specs.declared.tables.Machine.{Machine}

@@ -7,9 +7,9 @@ use Rattle.b67_model.specs.Common.{Ready, Task, Job, SessionJob, Line, Goes, may
 use Rattle.b67_lemmas.specs.Lists.{Has}
 use Rattle.b67_lemmas.proofs.Members.{all_in}
 use Rattle.b67_layout.specs.Common.{IsInOrderButCounts, Placement, IsRunning, here, with_job}
-use Rattle.b67_law_order.specs.Ends.{StepsFrom}
-use Rattle.b67_law_order.specs.Parameters.{ParametersFit}
-use Rattle.b67_law_order.proofs.Kept.{each_row_keeps_order}
+use Rattle.b67_law.specs.Ends.{StepsFrom}
+use Rattle.b67_law.specs.Parameters.{ParametersFit}
+use Rattle.b67_law.proofs.Kept.{each_row_keeps_order}
 use Rattle.b67_layout.proofs.Common.{job_in_order, running_in_order, change-has}
 
 module _ (plan : Placement) (s : Session) (m : SessionJob) (t : Task) (o : IsInOrderButCounts s) (runs : IsRunning plan s.jobs m t) (ready : t.condition ≡ Ready) where

@@ -6,7 +6,7 @@ use Rattle.std.proofs.lemmas.List.{length-reverse}
 use Rattle.std.proofs.Math.ListN.{length-set}
 use Rattle.b67_model.specs.Common.{Word, Standing, Frame, Task, height, words_of, with_top_cells, below_top, top, with_cell_of, from_frame}
 use Rattle.b67_model.specs.Keyed.{keyed, change_keyed}
-use Rattle.b67_law_order.specs.Profiles.{profile}
+use Rattle.b67_law.specs.Profiles.{profile}
 
 -- the identity of each frame, and how high its mark stands
 abbrev pub At : Type 0

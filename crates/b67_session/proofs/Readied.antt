@@ -5,8 +5,8 @@ use Rattle.b67_lemmas.proofs.Members.{all_in, length_change, change_found}
 use Rattle.b67_lemmas.proofs.Keyed.{change_same}
 use Rattle.b67_model.specs.Common.{Array, Ready, Task, Job, SessionJob, with_task, Session, IsSegment, known_of, from_frame, originals_of}
 use Rattle.b67_layout.specs.Common.{JobInOrderButCounts, IsInOrderButCounts, Placement, IsRunning, RepresentsSession, with_job}
-use Rattle.b67_law_order.proofs.Reaches.{alike_same}
-use Rattle.b67_law_order.proofs.Replaced.{Replaced, replaced}
+use Rattle.b67_law.proofs.Reaches.{alike_same}
+use Rattle.b67_law.proofs.Replaced.{Replaced, replaced}
 use Rattle.b67_layout.proofs.Common.{member_kept, running_in_order, fresh, member-same, IsFree, RepresentsSession-condition}
 use Rattle.b67_stack.specs.declared.Cpu.{Cpu}
 use Rattle.b67_stack.specs.Represents.{Storage}

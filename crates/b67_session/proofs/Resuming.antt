@@ -7,8 +7,8 @@ use Rattle.b67_lemmas.specs.Lists.{Has}
 use Rattle.b67_lemmas.proofs.Members.{keyed_has}
 use Rattle.b67_model.specs.Common.{Task, SessionJob, run_text, StepResult, number_of, Session, NumberedFrom, IsInOrderButPlaces}
 use Rattle.b67_session_lines.specs.Moments.{first_part, last_part, text_of, due}
-use Rattle.b67_law_sessions.specs.Turns.{IsNext, OrderAfter}
-use Rattle.b67_law_sessions.proofs.Limits.{limit_of, no_last, last_parts_restore_order}
+use Rattle.b67_law.specs.Turns.{IsNext, OrderAfter}
+use Rattle.b67_law.proofs.Limits.{limit_of, no_last, last_parts_restore_order}
 use Rattle.b67_layout.specs.Placement.{Placement}
 use Rattle.b67_session.specs.AttemptStops as stops
 use Rattle.b67_task_tables.specs.declared.tables.Tasks.{Tasks}

@@ -6,7 +6,7 @@ use Rattle.b67_lemmas.specs.Lists.{Has}
 use Rattle.b67_lemmas.proofs.Members.{has_get, has_map, keyed_has}
 use Rattle.b67_lemmas.proofs.Places.{mapped_at}
 use Rattle.b67_model.specs.Common.{Task, SessionJob, Session, number_of, IsSegment, JobInOrder, NumberedFrom, IsInOrderButPlaces}
-use Rattle.b67_law_order.proofs.Numbered.{keyed_member, numbered_low}
+use Rattle.b67_law.proofs.Numbered.{keyed_member, numbered_low}
 use Rattle.b67_stack.specs.declared.Cpu.{Cpu}
 use Rattle.b67_stack.specs.Represents.{Storage}
 use Rattle.b67_layout.specs.Common.{Placement, IsInOrderButCounts, RunningRow, TaskShows, JobsShow, IsRunning, RepresentsSession}

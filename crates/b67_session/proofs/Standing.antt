@@ -6,7 +6,7 @@ use Rattle.b67_lemmas.specs.Lists.{Has}
 use Rattle.b67_lemmas.proofs.Places.{at_mapped}
 use Rattle.b67_word.specs.declared.couples.Place.{Place}
 use Rattle.b67_model.specs.Common.{Task, SessionJob, Session, Who, Choice, choice}
-use Rattle.b67_law_sessions.specs.Turns.{IsNext}
+use Rattle.b67_law.specs.Turns.{IsNext}
 use Rattle.b67_layout.specs.Common.{Placement, slot_of, TaskShows, RunningRow, IsRunning}
 use Rattle.b67_stack.specs.Common.{Activation, stack_words, mark_place, MachineView, Storage, Represents}
 use Rattle.b67_layout.specs.Rows as rows

@@ -5,11 +5,11 @@ use Rattle.b67_word.specs.declared.faults.Fault.TheVariants.{StackOverflow}
 use Rattle.b67_model.specs.declared.operators.Op.{Op}
 use Rattle.b67_model.specs.Common.{Answer, needs, Word, Operand, Reading, Standing, Task, JobConstants, Job, SessionJob, OperatorContext, End, AtCell, AtElement, AtArray, AtProc, AtIntrinsic, Line, Done, Goes, Leaves, Waits, result, needs_level, answered, answers, arraydec, print, printrow, read, child_of, starts, process, await, status, wait, cause, deallocate, resize, intrinsic, touched_of, started_by, entr_at, entr_with, entr, row, reading_of, step_by, step, called}
 use Rattle.b67_model.specs.Keyed.{keyed}
-use Rattle.b67_law_order.proofs.Posts.{Post, post_ok, post_err, post_then, post_if, post_more, post_is}
+use Rattle.b67_law.proofs.Posts.{Post, post_ok, post_err, post_then, post_if, post_more, post_is}
 use Rattle.b67_layout.specs.Placement.{Placement}
 use Rattle.b67_layout.specs.Session.{IsRunning}
-use Rattle.b67_law_order.specs.Profiles.{Profile, profile, profiles, IsKnown}
-use Rattle.b67_law_order.proofs.Lemmas.{rows_keep}
+use Rattle.b67_law.specs.Profiles.{Profile, profile, profiles, IsKnown}
+use Rattle.b67_law.proofs.Lemmas.{rows_keep}
 use Rattle.b67_lemmas.proofs.Members.{length_change}
 
 -- where an array is touched there are as many tasks

@@ -4,9 +4,9 @@ use Rattle.std.proofs.lemmas.Option.{none-some}
 use Rattle.b67_word.specs.declared.faults.Failed.{Failed}
 use Rattle.b67_lemmas.specs.Lists.{Has}
 use Rattle.b67_model.specs.Common.{IsInOrderButPlaces, StepResult, Session, Task, SessionJob, Stepped, after}
-use Rattle.b67_law_sessions.specs.Orders.{IsInOrderButLimit, SettlesInOrder}
-use Rattle.b67_law_sessions.specs.Turns.{IsNext, part_of}
-use Rattle.b67_law_sessions.proofs.Parts.{first_parts_keep_order}
+use Rattle.b67_law.specs.Orders.{IsInOrderButLimit, SettlesInOrder}
+use Rattle.b67_law.specs.Turns.{IsNext, part_of}
+use Rattle.b67_law.proofs.Parts.{first_parts_keep_order}
 use Rattle.b67_session_lines.specs.Moments.{first_part, last_part, joined}
 use Rattle.b67_session_lines.proofs.Joins.{steps-have-parts}
 use Rattle.b67_model.specs.Schedule.{Choice}

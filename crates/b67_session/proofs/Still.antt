@@ -4,9 +4,9 @@ use Rattle.std.proofs.lemmas.List.{length-map}
 use Rattle.b67_model.specs.declared.operators.Op.{Op}
 use Rattle.b67_model.specs.Common.{Reading, Task, Job, SessionJob, OperatorContext, Line, Done, Goes, Leaves, Waits, started_by, row, reading_of, step_by, step, called}
 use Rattle.b67_model.specs.Keyed.{keyed}
-use Rattle.b67_law_order.proofs.Posts.{Post, post_err, post_more, post_is, post_at}
-use Rattle.b67_law_order.specs.Profiles.{profile, IsKnown}
-use Rattle.b67_law_order.proofs.Lemmas.{rows_keep}
+use Rattle.b67_law.proofs.Posts.{Post, post_err, post_more, post_is, post_at}
+use Rattle.b67_law.specs.Profiles.{profile, IsKnown}
+use Rattle.b67_law.proofs.Lemmas.{rows_keep}
 use Rattle.b67_exec_cells.specs.Called as operators
 use Rattle.b67_exec_cells.specs.Called.{called_in}
 use Rattle.b67_layout.specs.Meets.{here}

@@ -4,8 +4,8 @@ use Rattle.std.proofs.lemmas.List.{map-append}
 use Rattle.b67_word.specs.declared.faults.Ending.{Ending}
 use Rattle.b67_model.specs.Common.{Task, Job, SessionJob, Stepped, Line, Ends, Goes, run_text, need, step, RunLine, StepResult, of_job, Session}
 use Rattle.b67_model.specs.Endings.{goes_on}
-use Rattle.b67_law_sessions.specs.Turns.{task_lines, IsNext, part_of}
-use Rattle.b67_law_sessions.proofs.Halves.{first_by}
+use Rattle.b67_law.specs.Turns.{task_lines, IsNext, part_of}
+use Rattle.b67_law.proofs.Halves.{first_by}
 use Rattle.b67_session_lines.specs.Parts.{TookMore}
 use Rattle.b67_session_lines.specs.Moments.{first_part, due}
 use Rattle.b67_task_tables.specs.declared.tables.Tasks.{Tasks}

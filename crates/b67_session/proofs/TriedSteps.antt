@@ -3,7 +3,7 @@ use Rattle.std.proofs.Common.{◌≡◌, ◌≢◌, ℕ, ◌+◌, List, length, 
 use Rattle.b67_word.specs.declared.faults.Ending.{Ending}
 use Rattle.b67_word.specs.declared.faults.Failed.{Failed}
 use Rattle.b67_model.specs.Common.{Stepped, ends_with, StepResult, Condition, Task, Job, SessionJob, Session, Choice, Waits, IsInOrderButPlaces}
-use Rattle.b67_law_sessions.specs.Turns.{IsNext, part_of}
+use Rattle.b67_law.specs.Turns.{IsNext, part_of}
 use Rattle.b67_stack.specs.declared.What.{What}
 use Rattle.b67_stack.specs.Represents.{Storage}
 use Rattle.b67_layout_storage.specs.Machine.{Says, content_after}
@@ -33,8 +33,8 @@ use Rattle.b67_session.proofs.Between.{IsHalfMade, finished}
 use Rattle.b67_session.proofs.Halved.{ClosesSo, made_room, made_half, close_room, chosen_stands, close_half, ends_so, waits, wait_made, waits_so, holds_so, between_of, job_ordered, ends_first}
 use Rattle.b67_session.proofs.Rooms.{running_row}
 use Rattle.b67_session_ends.proofs.Waits.{waits_settle}
-use Rattle.b67_law_sessions.proofs.Settled.{ends_settle}
-use Rattle.b67_law_sessions.proofs.Halves.{first_by}
+use Rattle.b67_law.proofs.Settled.{ends_settle}
+use Rattle.b67_law.proofs.Halves.{first_by}
 use Rattle.b67_layout.proofs.Weaker.{but_counts}
 use Rattle.b67_session_lines.specs.Moments.{first_part}
 use Rattle.b67_session.specs.AttemptPassed.{WaitsSo}

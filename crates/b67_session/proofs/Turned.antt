@@ -5,9 +5,9 @@ use Rattle.std.proofs.lemmas.Option.{slice_get_within}
 use Rattle.b67_lemmas.proofs.Places.{at_mapped}
 use Rattle.b67_model.specs.Common.{Ready, Task, SessionJob, number_of, Session, Choice, choice, IsInOrderButPlaces}
 use Rattle.b67_model.specs.Keyed.{keyed}
-use Rattle.b67_law_order.proofs.Sessions.{other_numbers_keep_order}
-use Rattle.b67_law_sessions.specs.Turns.{IsNext}
-use Rattle.b67_law_sessions.proofs.Choices.{chosen_tasks_are_ready}
+use Rattle.b67_law.proofs.Sessions.{other_numbers_keep_order}
+use Rattle.b67_law.specs.Turns.{IsNext}
+use Rattle.b67_law.proofs.Choices.{chosen_tasks_are_ready}
 use Rattle.b67_stack.specs.Represents.{Storage}
 use Rattle.b67_layout_storage.specs.Machine.{Says, content_after}
 use Rattle.b67_layout.specs.Common.{IsInOrderButCounts, Placement, RunningRow, IsRunning}

@@ -15,14 +15,14 @@ use Rattle.b67_model.specs.Keyed.{keyed, change_keyed}
 use Rattle.b67_session_lines.specs.Moments.{last_part, joined}
 use Rattle.b67_session_lines.proofs.Joins.{steps-have-parts}
 use Rattle.b67_session_lines.proofs.Statuses.{after-add}
-use Rattle.b67_law_order.proofs.Numbered.{numbered_low, tasks_of}
-use Rattle.b67_law_order.specs.Profiles.{Profile, profile, profiles}
-use Rattle.b67_law_order.proofs.Lemmas.{rows_keep}
-use Rattle.b67_law_sessions.specs.Orders.{IsInOrderButLimit}
-use Rattle.b67_law_sessions.specs.Turns.{IsNext, OrderAfter}
-use Rattle.b67_law_sessions.proofs.Halves.{first_by}
-use Rattle.b67_law_sessions.proofs.Limits.{last_parts_restore_order}
-use Rattle.b67_law_sessions.proofs.TurnRuns.{Came, came-more}
+use Rattle.b67_law.proofs.Numbered.{numbered_low, tasks_of}
+use Rattle.b67_law.specs.Profiles.{Profile, profile, profiles}
+use Rattle.b67_law.proofs.Lemmas.{rows_keep}
+use Rattle.b67_law.specs.Orders.{IsInOrderButLimit}
+use Rattle.b67_law.specs.Turns.{IsNext, OrderAfter}
+use Rattle.b67_law.proofs.Halves.{first_by}
+use Rattle.b67_law.proofs.Limits.{last_parts_restore_order}
+use Rattle.b67_law.proofs.TurnRuns.{Came, came-more}
 use Rattle.b67_stack.specs.declared.Cpu.{Cpu}
 use Rattle.b67_stack.specs.declared.Step.TheVariants as answers
 use Rattle.b67_stack.specs.Common.{MachineView, NoOriginalAboveTop as Calm, Storage, Represents}
@@ -40,7 +40,7 @@ use Rattle.b67_task_switch.specs.declared.counting.Chosen.{Chosen}
 use Rattle.b67_task_switch.specs.Counted.{counted_more, counted_by, TurnHasRoom}
 use Rattle.b67_task_switch.specs.Lasting.{RulesLeave, Lasts, TurnLasts, BeforeHalt}
 use Rattle.b67_task_switch.proofs.Lasting.{lasts_choice}
-use Rattle.b67_law_order.proofs.FewMade.{all_few}
+use Rattle.b67_law.proofs.FewMade.{all_few}
 use Rattle.b67_session.specs.Fits.{IsArrayOfJob}
 use Rattle.b67_session.proofs.AttemptFits.{was_operator, made_touches}
 use Rattle.b67_session.proofs.FittingMade.{made_fit}

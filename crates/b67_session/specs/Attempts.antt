@@ -14,7 +14,7 @@ use Rattle.b67_layout.specs.Common.{IsInOrderButCounts, Placement, IsRunning, ar
 use Rattle.b67_exec_cells.specs.Called.{called_in}
 use Rattle.b67_task_release.specs.Released.{HasHome}
 use Rattle.b67_stack.specs.Represents.{Storage}
-use Rattle.b67_law_order.specs.Weaker.{AllOtherNumbers}
+use Rattle.b67_law.specs.Weaker.{AllOtherNumbers}
 use Rattle.b67_presence.specs.Bringing.{StandsOver}
 use Rattle.b67_exec_cells.specs.Running.{code_area}
 use Rattle.b67_task_tables.specs.declared.tables.Machine.{Machine}

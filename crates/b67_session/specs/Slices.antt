@@ -15,7 +15,7 @@ use Rattle.b67_exec_cells.specs.Called.{called_in}
 use Rattle.b67_exec_cells.specs.Running.{code_area}
 use Rattle.b67_task_release.specs.Released.{HasHome}
 use Rattle.b67_mcp.specs.Called.{HoldsOther}
-use Rattle.b67_law_sessions.specs.Turns.{IsNext}
+use Rattle.b67_law.specs.Turns.{IsNext}
 use Rattle.b67_task_tables.specs.declared.tables.Tasks.{Tasks}
 use Rattle.b67_task_tables.specs.declared.tables.Machine.{Machine}
 use Rattle.b67_task_tables.specs.Tables.{MachineRepresents}

@@ -10,7 +10,7 @@ ghost use Rattle.b67_stack.specs.Represents.{Storage, Represents};
 ghost use Rattle.b67_stack.specs.Stacks.{Activation, stack_words, mark_place};
 ghost use Rattle.b67_layout.specs.Placement.{Placement};
 ghost use Rattle.b67_layout.specs.Session.{IsRunning};
-ghost use Rattle.b67_law_sessions.specs.Turns.{IsNext};
+ghost use Rattle.b67_law.specs.Turns.{IsNext};
 ghost use Rattle.b67_task_switch.specs.Counted.{choice_of};
 ghost use Rattle.b67_task_switch.specs.Chosen.{IsReadyAt};
 ghost use Rattle.b67_task_switch.specs.Turns.{WaitsOn, WaitsInOne};

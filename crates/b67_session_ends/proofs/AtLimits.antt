@@ -9,7 +9,7 @@ use Rattle.b67_lemmas.proofs.Members.{has_map, has_map_back, keyed_has, any_has,
 use Rattle.b67_lemmas.proofs.Places.{mapped_at, at_mapped}
 use Rattle.b67_model.specs.Common.{Task, SessionJob, number_of, Session, NumberedFrom}
 use Rattle.b67_model.specs.Keyed.{keyed}
-use Rattle.b67_law_order.proofs.Numbered.{numbered_low, keyed_member}
+use Rattle.b67_law.proofs.Numbered.{numbered_low, keyed_member}
 use Rattle.b67_session_lines.specs.Moments.{has_tasks, is_at_limit, last_part, last_part_by, last_part_if}
 use Rattle.b67_layout.specs.Common.{Placement, JobShows, JobsShow}
 use Rattle.b67_layout.specs.Rows as rows

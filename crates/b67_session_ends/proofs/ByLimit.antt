@@ -13,8 +13,8 @@ use Rattle.b67_model.specs.Keyed.{keyed, change_keyed}
 use Rattle.b67_session_lines.specs.Moments.{last_part}
 use Rattle.b67_stack.specs.Represents.{Storage}
 use Rattle.b67_layout.specs.Common.{with_job, JobInOrderButCounts, IsInOrderButCounts, Placement}
-use Rattle.b67_law_sessions.specs.Orders.{JobInOrderButLimit, IsInOrderButLimit}
-use Rattle.b67_law_sessions.proofs.Limits.{LimitOf, limit_of}
+use Rattle.b67_law.specs.Orders.{JobInOrderButLimit, IsInOrderButLimit}
+use Rattle.b67_law.proofs.Limits.{LimitOf, limit_of}
 use Rattle.b67_task_tables.specs.declared.tables.Machine.{Machine}
 use Rattle.b67_task_tables.specs.Tables.{MachineRepresents}
 use Rattle.b67_task_end.specs.Family.{TablesHold, HasSomeHead}

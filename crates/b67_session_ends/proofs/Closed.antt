@@ -9,10 +9,10 @@ use Rattle.b67_lemmas.proofs.Keyed.{change_is, all_change, changed_there}
 use Rattle.b67_lemmas.proofs.Sums.{sum_total}
 use Rattle.b67_model.specs.Common.{JobMoment, moment_with, Task, Job, SessionJob, Settled, Stepped, is_ready, deadlocked, ends_each_if, ends_task, ends_with, unsettled, IsSegment, TasksInOrder, run_text, number_of, Session, Choice}
 use Rattle.b67_model.specs.Keyed.{keyed, change_keyed}
-use Rattle.b67_law_order.proofs.Numbered.{numbered_change}
-use Rattle.b67_law_order.proofs.Deaths.{ends_task_good}
-use Rattle.b67_law_sessions.specs.Turns.{part_of}
-use Rattle.b67_law_sessions.proofs.Settled.{ends_fewer}
+use Rattle.b67_law.proofs.Numbered.{numbered_change}
+use Rattle.b67_law.proofs.Deaths.{ends_task_good}
+use Rattle.b67_law.specs.Turns.{part_of}
+use Rattle.b67_law.proofs.Settled.{ends_fewer}
 use Rattle.b67_stack.specs.Represents.{Storage}
 use Rattle.b67_layout.specs.Common.{with_job, JobInOrderButCounts, IsInOrderButCounts, Placement}
 use Rattle.b67_layout.proofs.Sessions.{course_twice}

@@ -10,9 +10,9 @@ use Rattle.b67_lemmas.specs.Lists.{Has}
 use Rattle.b67_lemmas.proofs.Members.{all_in}
 use Rattle.b67_lemmas.proofs.Keyed.{change_same}
 use Rattle.b67_model.specs.Common.{Condition, Array, Task, Job, SessionJob, Settled, all_with, among, released, is_ready, is_owned_by, deadlocked, deepest_first, ends_each_if, ends_task, unsettled, IsSegment, TasksInOrder, number_of, Session}
-use Rattle.b67_law_order.proofs.Numbered.{keyed_member}
-use Rattle.b67_law_sessions.proofs.Deepest.{others, with_stuck, is_stuck, first_endings}
-use Rattle.b67_law_sessions.proofs.First.{emptied, each_emptied}
+use Rattle.b67_law.proofs.Numbered.{keyed_member}
+use Rattle.b67_law.proofs.Deepest.{others, with_stuck, is_stuck, first_endings}
+use Rattle.b67_law.proofs.FirstTasks.{emptied, each_emptied}
 use Rattle.b67_stack.specs.Represents.{Storage}
 use Rattle.b67_layout.specs.Common.{with_job, JobInOrderButCounts, IsInOrderButCounts, Placement}
 use Rattle.b67_task_tables.specs.declared.tables.TaskRow.{TaskRow}

@@ -10,8 +10,8 @@ use Rattle.std.specs.List.{slice_get}
 use Rattle.std.proofs.lemmas.Option.{same_Some, get_or_from_slice_get, slice_get-get_or, slice_get_within}
 use Rattle.b67_model.specs.Common.{Task, Job, SessionJob, ends_each_if, ends_task, unsettled, IsSegment, TasksInOrder, number_of, Session}
 use Rattle.b67_model.specs.Keyed.{keyed}
-use Rattle.b67_law_order.proofs.Numbered.{keyed_member}
-use Rattle.b67_law_sessions.proofs.First.{first_lives, first_emptied, each_emptied}
+use Rattle.b67_law.proofs.Numbered.{keyed_member}
+use Rattle.b67_law.proofs.FirstTasks.{first_lives, first_emptied, each_emptied}
 use Rattle.b67_stack.specs.Represents.{Storage}
 use Rattle.b67_layout.specs.Common.{with_job, JobInOrderButCounts, IsInOrderButCounts, Placement, TaskShows}
 use Rattle.b67_layout.specs.Rows as rows

@@ -12,7 +12,7 @@ use Rattle.b67_lemmas.proofs.Members.{change_found, keyed_has}
 use Rattle.b67_lemmas.proofs.Places.{at_mapped, map-slice_set, set-back}
 use Rattle.b67_model.specs.Common.{JobMoment, moment_with, Stepped, deadlocked, unsettled, run_text, StepResult, number_of, Session, Choice, Condition, Task, Job, SessionJob, with_task}
 use Rattle.b67_model.specs.Keyed.{keyed}
-use Rattle.b67_law_sessions.specs.Turns.{part_of}
+use Rattle.b67_law.specs.Turns.{part_of}
 use Rattle.b67_session_lines.specs.Parts.{TookRest, TookMore}
 use Rattle.b67_stack.specs.MachineView.{PagedObject}
 use Rattle.b67_stack.specs.Represents.{Storage}

@@ -10,7 +10,7 @@ use Rattle.b67_lemmas.proofs.Members.{change_found, change_other, has_change, ha
 use Rattle.b67_lemmas.proofs.Places.{has_at, same_mapped}
 use Rattle.b67_model.specs.Common.{Condition, Ready, Awaits, WaitsAt, Task, Job, SessionJob, frames_of_task, number_of, Session}
 use Rattle.b67_model.specs.Keyed.{keyed, change_keyed}
-use Rattle.b67_law_order.proofs.Numbered.{keyed_member}
+use Rattle.b67_law.proofs.Numbered.{keyed_member}
 use Rattle.b67_stack.specs.Stacks.{StackPlace}
 use Rattle.b67_layout.specs.Common.{with_job, IsInOrderButCounts, Placement, slot_of, spots, address_of, WaitsAtCell, TaskRow, JobRow, JobCounts, shown, critical_disp, TaskShows, JobsShow, RunningRow, Differ, TablesShow}
 use Rattle.b67_layout.proofs.Common.{job_in_order, change-kept, differ_at, live_in_order}

@@ -4,13 +4,13 @@ use Rattle.b67_lemmas.specs.Lists.{Has}
 use Rattle.b67_lemmas.proofs.Members.{all_in, keyed_has, length_change}
 use Rattle.b67_model.specs.Common.{IsSegment, reach_of, ConditionInOrder, TaskInOrder, TasksInOrder, JobInOrder, IsInOrderButPlaces, step, number_of, Session, Condition, Task, Job, SessionJob, Waits}
 use Rattle.b67_model.specs.Keyed.{keyed}
-use Rattle.b67_law_order.specs.Ends.{StepsFrom}
-use Rattle.b67_law_order.proofs.Segments.{rows_keep_order_but_places}
-use Rattle.b67_law_order.proofs.Settles.{condition_good}
-use Rattle.b67_law_sessions.specs.Orders.{SettlesInOrder}
-use Rattle.b67_law_sessions.specs.Turns.{IsNext}
-use Rattle.b67_law_sessions.proofs.Choices.{next_is_ready}
-use Rattle.b67_law_sessions.proofs.Settled.{made_settles}
+use Rattle.b67_law.specs.Ends.{StepsFrom}
+use Rattle.b67_law.proofs.Segments.{rows_keep_order_but_places}
+use Rattle.b67_law.proofs.Settles.{condition_good}
+use Rattle.b67_law.specs.Orders.{SettlesInOrder}
+use Rattle.b67_law.specs.Turns.{IsNext}
+use Rattle.b67_law.proofs.Choices.{next_is_ready}
+use Rattle.b67_law.proofs.Settled.{made_settles}
 use Rattle.b67_layout.specs.Meets.{with_job}
 use Rattle.b67_layout.specs.Orders.{IsInOrderButCounts}
 use Rattle.b67_layout.proofs.Weaker.{but_counts}

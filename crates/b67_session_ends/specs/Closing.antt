@@ -15,7 +15,7 @@ use Rattle.b67_lemmas.specs.Lists.{Has}
 use Rattle.b67_stack.specs.Represents.{Storage}
 use Rattle.b67_layout.specs.Orders.{IsInOrderButCounts}
 use Rattle.b67_layout.specs.Placement.{Placement}
-use Rattle.b67_law_sessions.specs.Turns.{IsNext}
+use Rattle.b67_law.specs.Turns.{IsNext}
 use Rattle.b67_task_tables.specs.RowOf.{IsRowOf}
 use Rattle.b67_task_switch.specs.declared.counting.Chosen.{Chosen}
 use Rattle.b67_task_switch.specs.Counted.{choice_of}

@@ -13,7 +13,7 @@ use Rattle.b67_task_tables.specs.declared.tables.Machine.{Machine}
 use Rattle.b67_task_tables.specs.Tables.{MachineRepresents}
 pub use Rattle.b67_task_end_tables.specs.Deaths.{LeavesInPlace}
 pub use Rattle.b67_task_end_tables.specs.Families.{StandsForSession, StandsInPlace, IsFamilyOf, EndsFamily}
-use Rattle.b67_law_sessions.specs.Orders.{IsInOrderButLimit}
+use Rattle.b67_law.specs.Orders.{IsInOrderButLimit}
 
 -- the row of a job's first task
 pub record IsFirstRow (rows : List TaskRow) (job at : ℕ) : Type 0 where

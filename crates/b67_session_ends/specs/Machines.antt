@@ -6,7 +6,7 @@ use Rattle.b67_stack.specs.Represents.{Storage}
 use Rattle.b67_layout.specs.Placement.{Placement}
 use Rattle.b67_task_tables.specs.declared.tables.Machine.{Machine}
 use Rattle.b67_task_tables.specs.Tables.{MachineRepresents}
-use Rattle.b67_law_sessions.specs.Orders.{IsInOrderButLimit}
+use Rattle.b67_law.specs.Orders.{IsInOrderButLimit}
 
 -- the machine represents a session in order, and this is known of what the device's sectors hold
 pub record StandsAt (told : Option (List (List ℕ))) (k : Machine) (s : Session) : Type 0 where

@@ -11,7 +11,7 @@ ghost use Rattle.b67_stack.specs.Represents.{Storage};
 ghost use Rattle.b67_layout.specs.Meets.{with_job};
 ghost use Rattle.b67_layout.specs.Orders.{IsInOrderButCounts};
 ghost use Rattle.b67_layout.specs.Placement.{Placement};
-ghost use Rattle.b67_law_sessions.specs.Turns.{part_of};
+ghost use Rattle.b67_law.specs.Turns.{part_of};
 ghost use Rattle.b67_task_tables.specs.Tables.{MachineRepresents};
 ghost use Rattle.b67_task_switch.specs.Counted.{choice_of, CountsHaveRoom};
 ghost use Rattle.b67_task_tables.specs.Runs.{Keeps};

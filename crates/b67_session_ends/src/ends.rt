@@ -9,7 +9,7 @@ ghost use Rattle.b67_stack.specs.Represents.{Storage};
 ghost use Rattle.b67_layout.specs.Placement.{Placement};
 ghost use Rattle.b67_task_tables.specs.Runs.{Keeps};
 ghost use Rattle.b67_task_tables.specs.Tables.{MachineRepresents};
-ghost use Rattle.b67_law_sessions.specs.Orders.{IsInOrderButLimit};
+ghost use Rattle.b67_law.specs.Orders.{IsInOrderButLimit};
 ghost use Rattle.b67_session_ends.specs.Ends.{StandsBetween, HasLimited, LimitEnds, Finishes};
 
 use crate::deaths::{all_ended, end_job};

@@ -6,7 +6,7 @@ ghost use Rattle.b67_model.specs.Schedule.{Session};
 ghost use Rattle.b67_model.specs.State.{Condition, Task, SessionJob};
 ghost use Rattle.b67_stack.specs.Represents.{Storage};
 ghost use Rattle.b67_layout.specs.Placement.{Placement};
-ghost use Rattle.b67_law_sessions.specs.Turns.{part_of};
+ghost use Rattle.b67_law.specs.Turns.{part_of};
 ghost use Rattle.b67_task_switch.specs.Counted.{choice_of, CountsHaveRoom};
 ghost use Rattle.b67_task_tables.specs.Runs.{Keeps};
 ghost use Rattle.b67_session_ends.specs.Closing.{StandsChosen, Closes};

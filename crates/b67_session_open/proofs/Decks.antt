@@ -14,7 +14,7 @@ use Rattle.b67_lemmas.specs.Lists.{Has}
 use Rattle.b67_lemmas.proofs.Places.{get_within}
 use Rattle.b67_model.specs.Program.{Program}
 use Rattle.b67_model.specs.InOrder.{SegmentInOrder}
-use Rattle.b67_law_order.specs.Opening.{RowWithin, OpeningWithin, DeckWithin}
+use Rattle.b67_law.specs.Opening.{RowWithin, OpeningWithin, DeckWithin}
 use Rattle.b67_layout.specs.Rows.{JobRow, TaskRow, TablesShow}
 use Rattle.b67_session_open.specs.Opened.{opening_plan, programs_of}
 use Rattle.b67_session_open.specs.Tables.{first_row, first_rows, opening_rows, opening_counts}

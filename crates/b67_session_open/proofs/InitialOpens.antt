@@ -10,7 +10,7 @@ use Rattle.b67_backing.specs.Shelf.{Shelf, IsShelf}
 use Rattle.b67_lemmas.specs.Lists.{Has}
 use Rattle.b67_model.specs.Program.{Program}
 use Rattle.b67_model.specs.Schedule.{Switch}
-use Rattle.b67_law_order.specs.Opening.{Opening, DeckWithin, opening}
+use Rattle.b67_law.specs.Opening.{Opening, DeckWithin, opening}
 use Rattle.b67_stack.specs.declared.Cpu.{Cpu}
 use Rattle.b67_layout.specs.Session.{RepresentsMcp, RepresentsSession}
 use Rattle.b67_load.specs.StoredObjects.{stocked}

@@ -5,8 +5,8 @@ use Rattle.std.proofs.lemmas.Option.{none-some, slice_get_past, slice_get_within
 use Rattle.b67_lemmas.specs.Lists.{Has}
 use Rattle.b67_lemmas.proofs.Places.{at_mapped, mapped_at}
 use Rattle.b67_model.specs.Common.{Task, SessionJob, Program, Switch}
-use Rattle.b67_law_order.specs.Opening.{Opening, opened_from, opening}
-use Rattle.b67_law_order.proofs.OpenedRows.{entries_count}
+use Rattle.b67_law.specs.Opening.{Opening, opened_from, opening}
+use Rattle.b67_law.proofs.OpenedRows.{entries_count}
 use Rattle.b67_layout.specs.Common.{Placement, TaskRow, TaskShows, JobsShow, RunningRow, Differ, TablesShow}
 use Rattle.b67_session_open.specs.Opened.{dictionary_words, dictionaries, opening_plan, programs_of}
 use Rattle.b67_session_open.specs.Tables.{first_row, first_rows, opening_rows, opening_counts}

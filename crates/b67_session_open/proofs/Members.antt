@@ -6,7 +6,7 @@ use Rattle.std.proofs.lemmas.Option.{none-some}
 use Rattle.b67_lemmas.specs.Lists.{Has}
 use Rattle.b67_model.specs.Keyed.{keyed}
 use Rattle.b67_model.specs.Common.{SessionJob, Program, opened, number_of}
-use Rattle.b67_law_order.specs.Opening.{Opening, opened_from}
+use Rattle.b67_law.specs.Opening.{Opening, opened_from}
 use Rattle.b67_layout.specs.Placement.{Slotted, is_row_of}
 use Rattle.b67_session_open.specs.Opened.{slots_from}
 

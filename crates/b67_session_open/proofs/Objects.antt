@@ -9,7 +9,7 @@ use Rattle.b67_lemmas.proofs.Members.{has_append_cases, has_append_left, has_app
 use Rattle.b67_lemmas.proofs.Places.{at_mapped, mapped_at}
 use Rattle.b67_lemmas.proofs.Sums.{total_before, total_within}
 use Rattle.b67_model.specs.Common.{Segment, SessionJob, Program, row_arrays, SegmentInOrder}
-use Rattle.b67_law_order.specs.Opening.{Opening, RowWithin, OpeningWithin, opened_from}
+use Rattle.b67_law.specs.Opening.{Opening, RowWithin, OpeningWithin, opened_from}
 use Rattle.b67_stack.specs.MachineView.{PagedObject}
 use Rattle.b67_layout.specs.Common.{Placement, array_object, code_objects, objects_of}
 use Rattle.b67_load.specs.Objects.{code_from, rows_from, program_objects as objects_at}

@@ -6,9 +6,9 @@ use Rattle.std.proofs.lemmas.List.{length-map}
 use Rattle.b67_lemmas.specs.Lists.{Has}
 use Rattle.b67_lemmas.proofs.Places.{at_mapped, mapped_at}
 use Rattle.b67_model.specs.Common.{Entered, Ready, Task, SessionJob, Program, Switch}
-use Rattle.b67_law_order.specs.Opening.{Opening, opened_from, opening}
-use Rattle.b67_law_order.proofs.OpenedRows.{entries_count}
-use Rattle.b67_law_order.proofs.Opens.{jobs_count}
+use Rattle.b67_law.specs.Opening.{Opening, opened_from, opening}
+use Rattle.b67_law.proofs.OpenedRows.{entries_count}
+use Rattle.b67_law.proofs.Opens.{jobs_count}
 use Rattle.b67_layout.specs.Common.{Slotted, Placement, RowsFit, DictionariesFollow, RowHomes, PlanFits}
 use Rattle.b67_session_open.specs.Opened.{dictionary_words, dictionaries, opening_plan, programs_of}
 use Rattle.b67_session_open.proofs.Members.{member, for_members, has_member, slotted, for_slots, has_slot}

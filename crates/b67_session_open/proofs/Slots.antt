@@ -4,7 +4,7 @@ use Rattle.std.specs.List.{slice_get}
 use Rattle.std.specs.Prelude.{option_map, unwrap_or}
 use Rattle.std.proofs.lemmas.Bool.{ne_eqb}
 use Rattle.b67_word.specs.Tagged.{Tagged}
-use Rattle.b67_law_order.specs.Opening.{Opening, opened_from}
+use Rattle.b67_law.specs.Opening.{Opening, opened_from}
 use Rattle.b67_ctl.specs.declared.registers.Regs.{Regs}
 use Rattle.b67_stack.specs.Common.{Locations, Fits, LieDownward, words, Waiting, MachineView, slot_base, SlotFits, RepresentsSlot}
 use Rattle.b67_layout.specs.Common.{Slotted, slot_of, slot_in, slot_by, slot_at}

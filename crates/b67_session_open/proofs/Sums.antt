@@ -5,9 +5,9 @@ use Rattle.b67_lemmas.specs.Lists.{total}
 use Rattle.b67_lemmas.proofs.Members.{total_reverse}
 use Rattle.b67_lemmas.proofs.Sums.{sum_total}
 use Rattle.b67_model.specs.Common.{Array, SessionJob, Program, row_arrays, need_at_opening, sectors_of, sectors}
-use Rattle.b67_law_order.specs.Opening.{Opening, opened_from}
-use Rattle.b67_law_order.proofs.OpenedRows.{entries_count}
-use Rattle.b67_law_order.proofs.Opens.{jobs_count}
+use Rattle.b67_law.specs.Opening.{Opening, opened_from}
+use Rattle.b67_law.proofs.OpenedRows.{entries_count}
+use Rattle.b67_law.proofs.Opens.{jobs_count}
 use Rattle.b67_load.specs.Objects.{sectors_of_program}
 use Rattle.b67_session_open.specs.Opened.{dictionaries, programs_of}
 use Rattle.b67_session_open.proofs.Plans.{count_is}

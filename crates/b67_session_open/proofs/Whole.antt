@@ -9,8 +9,8 @@ use Rattle.b67_lemmas.specs.Lists.{Has}
 use Rattle.b67_lemmas.proofs.Members.{keyed_has}
 use Rattle.b67_lemmas.proofs.Places.{at_mapped, get_within}
 use Rattle.b67_model.specs.Common.{Task, SessionJob, Program, Switch, number_of}
-use Rattle.b67_law_order.specs.Opening.{Opening, opened_from, opening, DeckWithin}
-use Rattle.b67_law_order.proofs.OpenedRows.{entries_count}
+use Rattle.b67_law.specs.Opening.{Opening, opened_from, opening, DeckWithin}
+use Rattle.b67_law.proofs.OpenedRows.{entries_count}
 use Rattle.b67_stack.specs.declared.Cpu.{Cpu}
 use Rattle.b67_stack.specs.Common.{Fits, LieDownward, words, PagedObject, Slot, Waiting, stack_of, MachineView, slot_base, SlotFits, IsLaidOut, NoOriginalAboveTop, Storage, RepresentsSlot, RepresentsObject, Owned, Represents}
 use Rattle.b67_layout.specs.Common.{Placement, slot_of, machine_view, RepresentsDictionary, RepresentsMcp, vector_word, RepresentsVector, RepresentsCritical, critical_mark, IsRunning, RepresentsSession}

@@ -4,7 +4,7 @@ use Rattle.b67_area.specs.declared.Areas.{Areas}
 use Rattle.b67_backing.specs.Shelf.{Table}
 use Rattle.b67_model.specs.Program.{Program}
 use Rattle.b67_model.specs.Schedule.{Switch}
-use Rattle.b67_law_order.specs.Opening.{Opening, DeckWithin, opening}
+use Rattle.b67_law.specs.Opening.{Opening, DeckWithin, opening}
 use Rattle.b67_stack.specs.declared.Cpu.{Cpu}
 use Rattle.b67_stack.specs.Represents.{Storage}
 use Rattle.b67_layout.specs.Session.{RepresentsSession, RepresentsStorage}

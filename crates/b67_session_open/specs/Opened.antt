@@ -5,7 +5,7 @@ use Rattle.b67_ctl.specs.declared.registers.TheConstants.{NO_SLOT}
 use Rattle.b67_ctl.specs.declared.map.TheConstants.{DICTIONARY_STACKS, FIRST_DICTIONARY}
 use Rattle.b67_lemmas.specs.Lists.{total}
 use Rattle.b67_model.specs.Program.{Program}
-use Rattle.b67_law_order.specs.Opening.{Opening}
+use Rattle.b67_law.specs.Opening.{Opening}
 use Rattle.b67_stack.specs.Common.{Entered, Activation, PagedObject}
 use Rattle.b67_layout.specs.Placement.{Slotted, Placement}
 use Rattle.b67_load.specs.Objects.{entries_of, program_objects}

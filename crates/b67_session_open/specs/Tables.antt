@@ -3,7 +3,7 @@ use Rattle.std.specs.Prelude.{ℕ, ◌+◌, List, [], ◌∷◌, length}
 use Rattle.b67_task_tables.specs.declared.tables.TheConstants.{NO_PARENT, NO_ROW}
 use Rattle.b67_model.specs.Program.{Program}
 use Rattle.b67_model.specs.Schedule.{Switch}
-use Rattle.b67_law_order.specs.Opening.{Opening}
+use Rattle.b67_law.specs.Opening.{Opening}
 use Rattle.b67_layout.specs.Rows.{IsReady, TaskRow, JobRow, JobCounts}
 use Rattle.b67_session_open.specs.Opened.{dictionary_words}
 

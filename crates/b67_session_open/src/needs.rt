@@ -10,7 +10,7 @@ ghost use Rattle.b67_lemmas.specs.Lists.{total};
 ghost use Rattle.b67_model.specs.State.{Segment as ModelSegment};
 ghost use Rattle.b67_model.specs.Need.{need_at_opening};
 ghost use Rattle.b67_model.specs.Sectors.{sectors};
-ghost use Rattle.b67_law_order.specs.Opening.{Opening, opened_from};
+ghost use Rattle.b67_law.specs.Opening.{Opening, opened_from};
 ghost use Rattle.b67_load.specs.Objects.{sectors_of_program};
 ghost use Rattle.b67_session_open.specs.Opened.{dictionaries, programs_of};
 ghost use Rattle.b67_model.specs.declared.limits.TheConstants.{MOST_PARTS};

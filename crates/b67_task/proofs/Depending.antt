@@ -6,7 +6,7 @@ use Rattle.std.proofs.lemmas.Bool.{cases_Bool, cases_eq, eq-eqb, ne_eqb, eqb-tru
 use Rattle.b67_lemmas.specs.Lists.{Has}
 use Rattle.b67_lemmas.proofs.Members.{any_has, any_some, has_map, has_map_back, total_has}
 use Rattle.b67_model.specs.Common.{Standing, Frame, Task, SessionJob, head_words, height, is_critical, Session, IsSegment, TasksInOrder, identities, frames_named}
-use Rattle.b67_law_order.proofs.Looks.{above_one}
+use Rattle.b67_law.proofs.Looks.{above_one}
 use Rattle.b67_stack.specs.Stacks.{StackPlace}
 use Rattle.b67_stack.specs.Represents.{Storage}
 use Rattle.b67_layout.specs.Common.{IsInOrderButCounts, Placement, slot_of, spot_in, base_spot}

@@ -7,7 +7,7 @@ use Rattle.std.proofs.lemmas.Option.{same_Some, slice_get-get_or, slice_get_with
 use Rattle.b67_lemmas.specs.Lists.{Has}
 use Rattle.b67_lemmas.proofs.Members.{any_has, any_some, find_none, has_get, has_map}
 use Rattle.b67_lemmas.proofs.Places.{has_at, mapped_at}
-use Rattle.b67_law_order.proofs.Numbered.{keyed_member, numbered_low}
+use Rattle.b67_law.proofs.Numbered.{keyed_member, numbered_low}
 use Rattle.b67_model.specs.Common.{is_live, names_task, status_in, status_of, number_of, Session, Condition, Task, Job, SessionJob}
 use Rattle.b67_model.specs.Keyed.{keyed}
 use Rattle.b67_layout.specs.Common.{Placement, TaskShows, shown}

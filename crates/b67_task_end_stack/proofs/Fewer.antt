@@ -19,7 +19,7 @@ use Rattle.b67_task_start_stack.proofs.AlikePlans.{NamesOnly, FramesName, like_s
 use Rattle.b67_task_end_stack.specs.Leaves.{Lost, Stays, NotTheirs, IsKeptArray, EndingLeaves}
 use Rattle.b67_task_end_stack.proofs.Owners.{NamesForeign, words_foreign}
 use Rattle.b67_task_end_stack.proofs.Slotwise.{In, frames_in_order, order_of, found_member, not_there, owned_lies}
-use Rattle.b67_law_order.proofs.Numbered.{keyed_member}
+use Rattle.b67_law.proofs.Numbered.{keyed_member}
 use Rattle.b67_task_end_stack.proofs.Turns.{SomeDied, pic}
 
 -- a slot is that of one of some tasks or not

@@ -5,9 +5,9 @@ use Rattle.b67_lemmas.specs.Lists.{Has}
 use Rattle.b67_model.specs.Words as Words
 use Rattle.b67_model.specs.Common.{Word, Operand, Name, Ref, Row, Element, Original, Proc, Intrinsic, Frame, Standing, Array, Task, JobConstants, Job, Starts, Known, known_of, outer_of, reach_of, identities, WordInOrder, FramesInOrder, TaskInOrder, TasksInOrder}
 use Rattle.b67_lemmas.proofs.Members.{has_append_cases, has_map, has_map_back, all_in}
-use Rattle.b67_law_order.proofs.Looks.{above_one}
-use Rattle.b67_law_order.proofs.Lines.{Above, outer_owned, one_task}
-pub use Rattle.b67_law_order.proofs.Lines.{counted, total_two}
+use Rattle.b67_law.proofs.Looks.{above_one}
+use Rattle.b67_law.proofs.Lines.{Above, outer_owned, one_task}
+pub use Rattle.b67_law.proofs.Lines.{counted, total_two}
 
 -- a word names only arrays that no frame of a task owns
 abbrev pub Foreign : List Array → Task → ℕ → Type 0

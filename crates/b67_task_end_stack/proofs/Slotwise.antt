@@ -11,7 +11,7 @@ use Rattle.b67_ctl.specs.declared.registers.Regs.{Regs}
 use Rattle.b67_lemmas.specs.Lists.{Has}
 use Rattle.b67_model.specs.Common.{Word, Original, Frame, Array, Task, Job, SessionJob, number_of, Session, Starts, IsSegment, Known, identities, frames_named, OwnsArray, EntryInOrder, WordInOrder, FramesInOrder, outer_of}
 use Rattle.b67_model.specs.Keyed.{keyed}
-use Rattle.b67_law_order.proofs.Looks.{above_one}
+use Rattle.b67_law.proofs.Looks.{above_one}
 use Rattle.b67_lemmas.proofs.Members.{has_reverse, has_map, has_map_back, keyed_has, keyed_falls, falls_same, all_in}
 use Rattle.b67_stack.specs.Shapes as Shapes
 use Rattle.b67_stack.specs.Common.{Shape, Copy, Copied, Fits, LieDownward, IsOriginal, StackPlace, Activation, stack_words, words, Running, Waiting, stack_of, MachineView, slot_base, Storage}
@@ -22,7 +22,7 @@ use Rattle.b67_layout.proofs.Common.{task_row, slot_below, lies_at, original_wor
 use Rattle.b67_task_release.proofs.Copies.{words_descriptor, cell_word, frame_words}
 use Rattle.b67_task_release.proofs.Leavings.{here_lies, original_shape, original_named}
 use Rattle.b67_task_end_stack.proofs.Owners.{NamesForeign, words_foreign, total_two, counted}
-use Rattle.b67_law_order.proofs.Numbered.{keyed_member}
+use Rattle.b67_law.proofs.Numbered.{keyed_member}
 use Rattle.b67_task_end_stack.proofs.Vacates.{slot_room}
 
 follow_up : (plan : Placement) (at : ℕ) (jobs : List SessionJob) → DictionariesFollow plan at jobs → at ≤ plan.stacks

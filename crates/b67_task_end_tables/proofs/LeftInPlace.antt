@@ -7,7 +7,7 @@ use Rattle.b67_ctl.specs.declared.registers.Regs.{Regs}
 use Rattle.b67_lemmas.specs.Lists.{Has}
 use Rattle.b67_lemmas.proofs.Members.{any_some, has_append_cases, has_append_left, has_append_right, has_filter_in, has_flat, has_flat_back, has_map, has_map_back}
 use Rattle.b67_model.specs.Common.{Array, Segment, Task, SessionJob, Session, among}
-use Rattle.b67_law_order.proofs.Deaths.{IsClosed}
+use Rattle.b67_law.proofs.Deaths.{IsClosed}
 use Rattle.b67_stack.specs.MachineView.{PagedObject, MachineView, slot_base}
 use Rattle.b67_stack.specs.Represents.{Storage}
 use Rattle.b67_layout.specs.Common.{Placement, slot_of, code_objects, array_object, objects_of, machine_view, SessionHolds, IsInOrderButCounts}

@@ -10,7 +10,7 @@ use Rattle.b67_backing.specs.Shelf.{Table}
 use Rattle.b67_lemmas.specs.Lists.{Has}
 use Rattle.b67_lemmas.proofs.Members.{any_some, has_filter, has_map, has_map_back, keyed_has}
 use Rattle.b67_model.specs.Common.{Task, JobProgress, SessionJob, among, unsettled, number_of, Session, IsSegment, NumberedFrom, TasksInOrder}
-use Rattle.b67_law_order.proofs.Deaths.{IsClosed, ends_good}
+use Rattle.b67_law.proofs.Deaths.{IsClosed, ends_good}
 use Rattle.b67_stack.specs.declared.Cpu.{Cpu}
 use Rattle.b67_stack.specs.MachineView.{MachineView}
 use Rattle.b67_stack.specs.Represents.{Storage}

@@ -11,7 +11,7 @@ use Rattle.b67_lemmas.specs.Lists.{Has}
 use Rattle.b67_lemmas.proofs.Members.{has_filter, has_filter_in, has_map, has_map_back}
 use Rattle.b67_model.specs.Common.{Condition, Ready, Awaits, WaitsAt, Frame, Task, Job, SessionJob, among, released, number_of, Session, frames_of_task}
 use Rattle.b67_model.specs.Keyed.{keyed}
-use Rattle.b67_law_order.proofs.Deaths.{IsClosed}
+use Rattle.b67_law.proofs.Deaths.{IsClosed}
 use Rattle.b67_stack.specs.Represents.{Storage}
 use Rattle.b67_stack.specs.Stacks.{StackPlace}
 use Rattle.b67_layout.specs.Common.{Placement, slot_of, spot_in, base_spot, spots, address_of, AwaitsTask, WaitsAtCell, JobRow, JobCounts, shown, parent_slot, critical_disp, TaskShows, JobsShow, RunningRow, Differ, TablesShow, RowsFit, SessionHolds, IsInOrderButCounts}

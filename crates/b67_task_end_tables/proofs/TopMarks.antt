@@ -6,8 +6,8 @@ use Rattle.b67_lemmas.specs.Lists.{Has}
 use Rattle.b67_lemmas.proofs.Members.{all_in, any_has, any_some, falls_same, has_map, has_map_back, keyed_has}
 use Rattle.b67_model.specs.Common.{Frame, Task, Job, SessionJob, height, is_critical, number_of, Session, IsSegment, NumberedFrom, BirthInOrder, ParentInOrder, TaskInOrder, TasksInOrder, identities, frames_named, frames_of_task}
 use Rattle.b67_model.specs.Keyed.{keyed}
-use Rattle.b67_law_order.proofs.Looks.{above_one}
-use Rattle.b67_law_order.proofs.Numbered.{keyed_member}
+use Rattle.b67_law.proofs.Looks.{above_one}
+use Rattle.b67_law.proofs.Numbered.{keyed_member}
 use Rattle.b67_stack.specs.Stacks.{StackPlace}
 use Rattle.b67_layout.specs.Common.{Placement, Slotted, slot_of, spot_in, base_spot, JobRow, JobCounts, parent_slot, critical_disp, TaskShows, TablesShow, RowsFit, RepresentsCritical, critical_mark}
 use Rattle.b67_layout.specs.Rows as rows

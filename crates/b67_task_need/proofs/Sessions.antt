@@ -25,7 +25,7 @@ use Rattle.b67_exec_cells.proofs.Codes.{code_object}
 use Rattle.b67_task_need.specs.Sums.{sectors_at, core_sectors_from, sectors_of_slot, sectors_of_slots}
 use Rattle.b67_task_need.proofs.Totals.{upto, slots_total, range_split, range_first, kept, kept_once, kept_original}
 use Rattle.b67_task_need.proofs.Words.{home_array, home_code, of_shape, lies_total, headed_total}
-use Rattle.b67_law_order.proofs.Numbered.{keyed_member}
+use Rattle.b67_law.proofs.Numbered.{keyed_member}
 
 -- the sectors of segments, and of arrays
 abbrev of_segments : List Segment → ℕ

@@ -9,7 +9,7 @@ use Rattle.b67_lemmas.specs.Lists.{Has, total}
 use Rattle.b67_lemmas.proofs.Members.{keyed_has}
 use Rattle.b67_lemmas.proofs.Sums.{sum_total, total_gap}
 use Rattle.b67_model.specs.Common.{Frame, Task, SessionJob, height, Proc, live_tasks, number_of, Session}
-use Rattle.b67_law_order.proofs.Numbered.{numbered_low}
+use Rattle.b67_law.proofs.Numbered.{numbered_low}
 use Rattle.b67_layout.specs.Common.{IsInOrderButCounts, Placement, spots, IsRunning, RepresentsSession, RepresentsStorage, stack_of_task, IsReady, peak_with, session_moved}
 use Rattle.b67_stack.specs.declared.Cpu.{Cpu}
 use Rattle.b67_stack.specs.Common.{mark_place, Storage}

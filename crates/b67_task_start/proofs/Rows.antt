@@ -6,7 +6,7 @@ use Rattle.std.proofs.lemmas.Option.{none-some}
 use Rattle.b67_lemmas.specs.Lists.{Has}
 use Rattle.b67_lemmas.proofs.Members.{has_get, keyed_has}
 use Rattle.b67_lemmas.proofs.Places.{map-slice_set, mapped_at, at_mapped}
-use Rattle.b67_law_order.proofs.Numbered.{keyed_member, numbered_low}
+use Rattle.b67_law.proofs.Numbered.{keyed_member, numbered_low}
 use Rattle.b67_model.specs.Common.{Task, Job, SessionJob, live_tasks, number_of, Session, NumberedFrom}
 use Rattle.b67_model.specs.Keyed.{keyed}
 use Rattle.b67_layout.specs.Common.{IsInOrderButCounts, Placement, JobsShow, RunningRow, TaskShows, IsRunning, RepresentsSession, peak_with, session_moved}

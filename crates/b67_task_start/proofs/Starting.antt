@@ -16,7 +16,7 @@ use Rattle.b67_model.specs.Keyed.{keyed}
 use Rattle.b67_model.specs.Words as Words
 use Rattle.b67_model.specs.State as State
 use Rattle.b67_layout.specs.Common.{IsInOrderButCounts, JobInOrderButCounts, Slotted, Placement, slot_of, spot_in, outer_spots, base_spot, spots, TaskRow, IsReady, critical_disp, TaskShows, IsRunning, RepresentsSession, frame_address, here}
-use Rattle.b67_law_order.proofs.Numbered.{keyed_member}
+use Rattle.b67_law.proofs.Numbered.{keyed_member}
 use Rattle.b67_stack.specs.declared.Cpu.{Cpu}
 use Rattle.b67_stack.specs.Stacks.{StackPlace}
 use Rattle.b67_stack.specs.Represents.{Storage}

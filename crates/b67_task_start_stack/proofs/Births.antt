@@ -13,7 +13,7 @@ use Rattle.b67_model.specs.Keyed.{keyed}
 use Rattle.b67_stack.specs.Common.{StackPlace, NoOriginalAboveTop, Storage, Represents}
 use Rattle.b67_layout.specs.Common.{Placement, Slotted, slot_of, spots, address_of, machine_view, RowsFit, DictionariesFollow, RowHomes, PlanFits, RepresentsDictionary, vector_word, critical_mark, RepresentsTask, IsRunning, ShowsDisplay, SessionHolds}
 use Rattle.b67_layout.proofs.Common.{with_course, member-same, task_row, slot_below, dictionary_below, running_only}
-use Rattle.b67_law_order.proofs.LowNames.{frame_at_same}
+use Rattle.b67_law.proofs.LowNames.{frame_at_same}
 use Rattle.b67_task_start_stack.specs.Born.{with_task_at}
 use Rattle.b67_task_start_stack.specs.Joining.{Joins}
 use Rattle.b67_lemmas.proofs.Members.{keyed_has}

@@ -21,7 +21,7 @@ use Rattle.b67_stack.proofs.Heights.{words-length}
 use Rattle.b67_stack.proofs.Bases.{base-apart}
 use Rattle.b67_stack.proofs.Slots.{running_slot, running_fits, running_lies}
 use Rattle.b67_layout.proofs.Common.{running_in_order, next_is_free, free-uncritical, job_in_order, height-is, with_course, running_only, runs_on}
-use Rattle.b67_law_order.proofs.LowNames.{frames_low}
+use Rattle.b67_law.proofs.LowNames.{frames_low}
 use Rattle.b67_task_start_stack.specs.Born.{with_task_at}
 use Rattle.b67_task_start_stack.specs.Slots.{SlotFilled}
 use Rattle.b67_task_start_stack.proofs.Apart.{frames_apart}

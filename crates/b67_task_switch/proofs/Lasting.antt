@@ -12,7 +12,7 @@ use Rattle.b67_model.specs.Keyed.{keyed}
 use Rattle.b67_model.specs.Common.{number_of, Condition, Ready, Task, Job, SessionJob, Who, Switch, Session, is_same, ready, ready_of, switched, choice, IsSegment, JobInOrder, SwitchesRise, IsInOrderButPlaces}
 use Rattle.b67_model.specs.Schedule.{goes_on}
 use Rattle.b67_model.specs.Endings as model
-use Rattle.b67_law_order.proofs.Numbered.{keyed_member, numbered_low}
+use Rattle.b67_law.proofs.Numbered.{keyed_member, numbered_low}
 use Rattle.b67_layout.specs.Common.{Placement, RunningRow, shown}
 use Rattle.b67_layout.specs.Rows as rows
 use Rattle.b67_layout.proofs.LiveTasks.{job_at}

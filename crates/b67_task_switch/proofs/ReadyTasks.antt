@@ -15,7 +15,7 @@ use Rattle.b67_task_tables.specs.declared.tables.TaskRow.{TaskRow}
 use Rattle.b67_task_tables.specs.Tables.{state_of, task_row}
 use Rattle.b67_task_switch.specs.Chosen.{is_ready_state, IsReadyAt}
 use Rattle.b67_task_switch.proofs.Orders.{before_job, before_task}
-use Rattle.b67_law_order.proofs.Numbered.{numbered_low}
+use Rattle.b67_law.proofs.Numbered.{numbered_low}
 
 -- tasks in order
 abbrev pub Rises : List Who → Type 0

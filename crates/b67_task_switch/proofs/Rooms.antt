@@ -17,8 +17,8 @@ use Rattle.b67_task_switch.specs.Chosen.{IsReadyAt, Chooses}
 use Rattle.b67_task_switch.proofs.ReadyTasks.{among_members, among_tasks, row_ready}
 use Rattle.b67_task_switch.proofs.Choices.{cyclic}
 use Rattle.b67_layout.proofs.LiveTasks.{job_at}
-use Rattle.b67_law_order.proofs.Numbered.{numbered_low}
-use Rattle.b67_law_order.proofs.FewMade.{made_few, all_few}
+use Rattle.b67_law.proofs.Numbered.{numbered_low}
+use Rattle.b67_law.proofs.FewMade.{made_few, all_few}
 
 -- a list in which none comes next is empty
 first_cons : (xs ys : List Who) (w : Who) → first (xs ++ (w ∷ ys)) ≡ None → ⊥

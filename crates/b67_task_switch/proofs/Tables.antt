@@ -14,7 +14,7 @@ use Rattle.b67_layout.specs.Common.{IsInOrderButCounts, Placement, slot_of, Task
 use Rattle.b67_stack.specs.Represents.{Storage}
 use Rattle.b67_layout.proofs.Common.{slot_below, differ_at, live_in_order}
 use Rattle.b67_task_switch.specs.Turns.{with_running}
-use Rattle.b67_law_order.proofs.Numbered.{keyed_member}
+use Rattle.b67_law.proofs.Numbered.{keyed_member}
 
 -- a row of a task, whatever registers are in use
 module _ (plan : Placement) (k : ℕ) where

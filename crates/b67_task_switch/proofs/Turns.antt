@@ -21,7 +21,7 @@ use Rattle.b67_layout.proofs.LiveTasks.{live_in_order, job_at}
 use Rattle.b67_task_switch.proofs.Tables.{paused, resumed, goes_on}
 use Rattle.b67_lemmas.proofs.Members.{all_in, has_get}
 use Rattle.b67_lemmas.proofs.Places.{at_mapped, map-slice_set, mapped_at, refill_whole, same_mapped}
-use Rattle.b67_law_order.proofs.Numbered.{keyed_member, numbered_low}
+use Rattle.b67_law.proofs.Numbered.{keyed_member, numbered_low}
 
 pub record TurnKnown (tasks : Tasks) (plan : Placement) (s : Session) (r : TaskRow) : Type 0 where
   pub member : SessionJob

@@ -4,7 +4,7 @@ use Rattle.b67_layout.specs.Meets.{RunsSome}
 use Rattle.b67_layout.proofs.Starts.{meets_runs}
 use Rattle.b67_entry.proofs.Retning.{room, operand_is}
 use Rattle.b67_entry.proofs.RetnContext.{is_pending, is_empty, top_word, is_refused, is_held, is_outermost, context, returning, regs_are, context_left, held_left, top_low}
-use Rattle.b67_law_order.proofs.Maps.{IsOperand}
+use Rattle.b67_law.proofs.Maps.{IsOperand}
 use Rattle.b67_entry.proofs.Putting.{room_left, put_above, put_done, evaluated}
 use Rattle.b67_entry.proofs.Stops.{not_done}
 use Rattle.b67_entry.proofs.returns.retn.Goals as goal

@@ -1,6 +1,6 @@
 use Rattle.std.proofs.Common.{◌+◌, sym, ◌∙◌, subst, arith}
 use Rattle.b67_model.specs.Common.{Session}
-use Rattle.b67_law_sessions.specs.Turns.{IsNext}
+use Rattle.b67_law.specs.Turns.{IsNext}
 use Rattle.b67_session.proofs.Standing.{chose_some, stands_chosen}
 use Rattle.b67_session.proofs.Turned.{who}
 use Rattle.b67_session.proofs.Noted.{place_other, switch_other, within_other, none_further, none_next, other_noted, idle_noted, one_noted}

@@ -3,7 +3,7 @@ use Rattle.b67_model.specs.Common.{Task, SessionJob, Session}
 use Rattle.b67_layout_storage.specs.Machine.{Says, content_after}
 use Rattle.b67_layout_storage.proofs.Devices.{Served-none, Served-then}
 use Rattle.b67_layout_storage.proofs.Retold.{retold-same}
-use Rattle.b67_law_sessions.specs.Turns.{IsNext}
+use Rattle.b67_law.specs.Turns.{IsNext}
 use Rattle.b67_session.specs.AttemptStops.{Stop, BackingFull}
 use Rattle.b67_session.specs.Attempts.{IsNotFull}
 use Rattle.b67_session.proofs.Composed.{not_full_ok, same_stop}

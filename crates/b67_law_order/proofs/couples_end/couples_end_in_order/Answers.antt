@@ -1,5 +1,0 @@
-use Rattle.b67_law_order.proofs.Couples.{couples_end_in_order}
-use Rattle.b67_law_order.proofs.couples_end.couples_end_in_order.Goals as goal
-
-pub returns : goal.returns
-returns c = couples_end_in_order

@@ -1,5 +1,0 @@
-use Rattle.b67_law_order.proofs.Opens.{opens_in_order}
-use Rattle.b67_law_order.proofs.opening.opening_is_in_order.Goals as goal
-
-pub returns : goal.returns
-returns c = opens_in_order

@@ -1,5 +1,0 @@
-use Rattle.b67_law_order.proofs.Lemmas.{rows_keep}
-use Rattle.b67_law_order.proofs.profiles.rows_keep_profiles.Goals as goal
-
-pub returns : goal.returns
-returns c = rows_keep

@@ -1,5 +1,0 @@
-use Rattle.b67_law_order.proofs.RunSessions.{runs_stay_in_order}
-use Rattle.b67_law_order.proofs.runs.runs_stay_in_order.Goals as goal
-
-pub returns : goal.returns
-returns c = runs_stay_in_order

@@ -1,6 +1,0 @@
--- By the law of all rows, and the rules of admission.
-use Rattle.b67_law_order.proofs.Places.{rows_keep_order}
-use Rattle.b67_law_order.proofs.steps.rows_keep_order.Goals as goal
-
-pub returns : goal.returns
-returns c = rows_keep_order

@@ -1,6 +1,0 @@
--- By the law of all rows.
-use Rattle.b67_law_order.proofs.Segments.{rows_keep_order_but_places}
-use Rattle.b67_law_order.proofs.steps.rows_keep_order_but_places.Goals as goal
-
-pub returns : goal.returns
-returns c = rows_keep_order_but_places

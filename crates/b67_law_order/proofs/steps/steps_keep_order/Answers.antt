@@ -1,5 +1,0 @@
-use Rattle.b67_law_order.proofs.Settles.{steps_keep_order}
-use Rattle.b67_law_order.proofs.steps.steps_keep_order.Goals as goal
-
-pub returns : goal.returns
-returns c = steps_keep_order

@@ -1,5 +1,0 @@
-use Rattle.b67_law_order.proofs.Sessions as S
-use Rattle.b67_law_order.proofs.weaker.starts_are_segments.Goals as goal
-
-pub returns : goal.returns
-returns c = S.starts_are_segments

@@ -1,5 +1,0 @@
-use Rattle.b67_law_sessions.proofs.Opened.{openings_are_made_by_the_loader}
-use Rattle.b67_law_sessions.proofs.runs.openings_are_made_by_the_loader.Goals as goal
-
-pub returns : goal.returns
-returns c = openings_are_made_by_the_loader

@@ -1,5 +1,0 @@
-use Rattle.b67_law_sessions.proofs.States.{runs_fault_exactly_at_nvld}
-use Rattle.b67_law_sessions.proofs.runs.runs_fault_exactly_at_nvld.Goals as goal
-
-pub returns : goal.returns
-returns c = runs_fault_exactly_at_nvld

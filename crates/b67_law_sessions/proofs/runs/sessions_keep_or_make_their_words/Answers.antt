@@ -1,5 +1,0 @@
-use Rattle.b67_law_sessions.proofs.Makers.{sessions_keep_or_make_their_words}
-use Rattle.b67_law_sessions.proofs.runs.sessions_keep_or_make_their_words.Goals as goal
-
-pub returns : goal.returns
-returns c = sessions_keep_or_make_their_words

@@ -1,5 +1,0 @@
-use Rattle.b67_law_sessions.proofs.Choices.{choice_ignores_numbers}
-use Rattle.b67_law_sessions.proofs.turns.choice_ignores_numbers.Goals as goal
-
-pub returns : goal.returns
-returns c = choice_ignores_numbers

@@ -1,5 +1,0 @@
-use Rattle.b67_law_sessions.proofs.Limits.{last_parts_restore_order}
-use Rattle.b67_law_sessions.proofs.turns.last_parts_restore_order.Goals as goal
-
-pub returns : goal.returns
-returns c = last_parts_restore_order

@@ -1,5 +1,0 @@
-use Rattle.b67_law_sessions.proofs.Rows.{each_row_makes_its_words}
-use Rattle.b67_law_sessions.proofs.words.each_row_makes_its_words.Goals as goal
-
-pub returns : goal.returns
-returns c = each_row_makes_its_words
