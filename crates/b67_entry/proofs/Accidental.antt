@@ -17,11 +17,11 @@ use Rattle.b67_stack.proofs.Tops.{level-small, top_size-high}
 use Rattle.b67_layout.specs.Common.{spot_in, outer_spots, spots, machine_view, stack_of_task, here, with_job, ShowsDisplay, with_objects, SessionHoldsBut}
 use Rattle.b67_layout.proofs.Fresh.{next_is_free}
 use Rattle.b67_refer.specs.RunningContext.{RunningContext}
-use Rattle.b67_layout_records.proofs.Heads.{entered_mark_fits}
-use Rattle.b67_layout_records.proofs.Orders.{start, push, ready_with}
-use Rattle.b67_layout_records.proofs.Rooms.{height_room}
-use Rattle.b67_layout_records.proofs.Accidents as Accidents
-use Rattle.b67_layout_records.proofs.Accidents.{new_frame, IsRunning-accident, SessionHolds-accident, RepresentsSession-accident}
+use Rattle.b67_layout.proofs.Heads.{entered_mark_fits}
+use Rattle.b67_layout.proofs.Orders.{start, push, ready_with}
+use Rattle.b67_layout.proofs.Rooms.{height_room}
+use Rattle.b67_layout.proofs.Accidents as Accidents
+use Rattle.b67_layout.proofs.Accidents.{new_frame, IsRunning-accident, SessionHolds-accident, RepresentsSession-accident}
 use Rattle.b67_stack.proofs.ClearHeads.{IsClear}
 use Rattle.b67_layout.proofs.Steps.{IsFree}
 use Rattle.b67_core.proofs.Writes.{slice_get-set_other}

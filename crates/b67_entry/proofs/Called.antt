@@ -14,7 +14,7 @@ use Rattle.b67_stack.specs.Shapes as Shapes
 use Rattle.b67_stack.specs.Stacks.{StackPlace, top_mark}
 use Rattle.b67_layout.specs.Common.{Placement, shape, stack_of_task, IsMade, here}
 use Rattle.b67_refer.specs.RunningContext.{RunningContext, IsShown}
-use Rattle.b67_layout_records.proofs.Enters.{IsMarkedWith}
+use Rattle.b67_layout.proofs.Enters.{IsMarkedWith}
 use Rattle.b67_refer.specs.declared.activation.Activation.{Activation}
 use Rattle.b67_refer.specs.Ends.{IsReference}
 use Rattle.b67_entry.specs.Procedures.{ReachesProc, CallsWith}

@@ -21,7 +21,7 @@ use Rattle.b67_refer.specs.Ends.{IsProcAt}
 use Rattle.b67_entry.specs.Procedures.{CanEnter, RecordEntered, EntersOrFaults}
 use Rattle.b67_layout.proofs.Objects.{objects-after}
 use Rattle.b67_entry.proofs.Returned.{clear_mark, clear_return}
-use Rattle.b67_layout_records.proofs.Leaves.{task_at}
+use Rattle.b67_layout.proofs.Leaves.{task_at}
 use Rattle.b67_entry.specs.Left.{Returns, here_left}
 use Rattle.b67_law.proofs.Follows.{frame_same}
 use Rattle.b67_entry.proofs.Leaving.{under, on_top, on_stack, may_return, regs_left, job_at, member_at, task_left}

@@ -21,11 +21,11 @@ use Rattle.b67_stack.proofs.Pushes.{Room, room_of}
 use Rattle.b67_layout.proofs.Common.{no_objects_gone, running_in_order, fresh}
 use Rattle.b67_refer.specs.RunningContext.{RunningContext}
 use Rattle.b67_refer.proofs.Scenes.{scene, member_in_order}
-use Rattle.b67_layout_records.proofs.Heads.{entered_mark_fits}
-use Rattle.b67_layout_records.proofs.Orders.{start, enter, ready_with, top_apart, cells_front, originals_entered, height_entered}
-use Rattle.b67_layout_records.proofs.Rooms.{written_twice}
-use Rattle.b67_layout_records.proofs.Enters as Enters
-use Rattle.b67_layout_records.proofs.Enters.{IsMarkedWith, entered_frames, marked_stack, IsRunning-entered, SessionHolds-entered, RepresentsSession-entered}
+use Rattle.b67_layout.proofs.Heads.{entered_mark_fits}
+use Rattle.b67_layout.proofs.Orders.{start, enter, ready_with, top_apart, cells_front, originals_entered, height_entered}
+use Rattle.b67_layout.proofs.Rooms.{written_twice}
+use Rattle.b67_layout.proofs.Enters as Enters
+use Rattle.b67_layout.proofs.Enters.{IsMarkedWith, entered_frames, marked_stack, IsRunning-entered, SessionHolds-entered, RepresentsSession-entered}
 use Rattle.b67_entry.proofs.Sites.{Site, site}
 use Rattle.b67_entry.proofs.Segments.{few_segments}
 use Rattle.b67_law.proofs.Looks.{below_marked, below_some}

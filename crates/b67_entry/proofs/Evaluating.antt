@@ -24,7 +24,7 @@ use Rattle.b67_refer.specs.Cells.{IsCellAt}
 use Rattle.b67_refer.specs.Ends.{IsElementOf, IsProcAt, EndMeets}
 use Rattle.b67_refer.proofs.Items.{array_is}
 use Rattle.b67_exec_cells.specs.Elements.{HasElement}
-use Rattle.b67_layout_records.proofs.Nowhere.{array_stays}
+use Rattle.b67_layout.proofs.Nowhere.{array_stays}
 use Rattle.b67_entry.specs.Left.{Returns, here_left}
 use Rattle.b67_entry.specs.Returned.{with_word, ReturnsWord}
 use Rattle.b67_law.proofs.Follows.{follow_same}

@@ -5,7 +5,7 @@ use Rattle.b67_word.specs.declared.faults.Fault.TheVariants.{MarkPending, Critic
 use Rattle.b67_model.specs.Common.{Answer, Standing, Return, Frame, Task, Job, OperatorContext, SessionJob, height, top, with_task, Done, Goes, Leaves, top_of, is_critical, without_arrays_of, leaves, exit}
 use Rattle.b67_model.specs.State as State
 use Rattle.b67_layout.specs.Meets.{here}
-use Rattle.b67_layout_records.proofs.Leaves.{task_at}
+use Rattle.b67_layout.proofs.Leaves.{task_at}
 use Rattle.b67_lemmas.proofs.Members.{change_twice}
 
 -- the job without the frame and its arrays

@@ -23,7 +23,7 @@ use Rattle.b67_stack.proofs.Cells.{cell_word}
 use Rattle.b67_layout.proofs.Common.{slot_is, runs_here, running_in_order}
 use Rattle.b67_refer.specs.RunningContext.{RunningContext}
 use Rattle.b67_refer.specs.Cells.{StandsFor}
-use Rattle.b67_layout_records.proofs.Enters.{IsMarkedWith, marked_stack}
+use Rattle.b67_layout.proofs.Enters.{IsMarkedWith, marked_stack}
 use Rattle.b67_refer.specs.Ends.{IsReference}
 use Rattle.b67_entry.specs.Procedures.{CallsWith}
 use Rattle.b67_entry.proofs.Environments.{plain}

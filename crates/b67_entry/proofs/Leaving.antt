@@ -10,9 +10,9 @@ use Rattle.b67_stack.proofs.Pushes.{Represents-cut}
 use Rattle.b67_layout.proofs.Common.{fresh, running_in_order, slot_is, runs_here, Shows-condition}
 use Rattle.b67_refer.specs.RunningContext.{RunningContext, IsShown}
 use Rattle.b67_refer.proofs.Scenes.{member_in_order}
-use Rattle.b67_layout_records.proofs.Nowhere.{activations-same}
-use Rattle.b67_layout_records.proofs.Leaves.{Leaver, task_at, may_leave, below-same, Frames-below, runs_after, holds_after, for_running_after}
-use Rattle.b67_layout_records.proofs.LeftOrders.{left_ready}
+use Rattle.b67_layout.proofs.Nowhere.{activations-same}
+use Rattle.b67_layout.proofs.Leaves.{Leaver, task_at, may_leave, below-same, Frames-below, runs_after, holds_after, for_running_after}
+use Rattle.b67_layout.proofs.LeftOrders.{left_ready}
 use Rattle.b67_entry.specs.Left.{MayReturn, caller_regs, going_on, Returns}
 use Rattle.b67_entry.proofs.Exits.{exit_left}
 use Rattle.b67_lemmas.proofs.Members.{keyed_has}

@@ -12,8 +12,8 @@ use Rattle.b67_stack.specs.Common.{PagedObject, RunsOn, NoOriginalAboveTop, Stor
 use Rattle.b67_stack.proofs.Slots.{running_slot}
 use Rattle.b67_stack.proofs.Pushes.{Room, room_of, Represents-marked}
 use Rattle.b67_layout.proofs.Common.{slot_is, runs_here, Settled-more, no_objects_gone, job_in_order}
-use Rattle.b67_layout_records.proofs.Marks.{job_marked, RepresentsSession-mark}
-use Rattle.b67_layout_records.proofs.Rooms.{height_room, written}
+use Rattle.b67_layout.proofs.Marks.{job_marked, RepresentsSession-mark}
+use Rattle.b67_layout.proofs.Rooms.{height_room, written}
 use Rattle.b67_lemmas.proofs.Members.{keyed_has}
 
 -- the machine after it

@@ -13,10 +13,10 @@ use Rattle.b67_stack.specs.declared.Cpu.{Cpu}
 use Rattle.b67_stack.specs.Common.{Shape, Fits, StackPlace, Storage}
 use Rattle.b67_layout.proofs.Fresh.{running_in_order}
 use Rattle.b67_refer.specs.Cells.{StandsFor}
-use Rattle.b67_layout_records.proofs.Nowhere.{shape-same}
+use Rattle.b67_layout.proofs.Nowhere.{shape-same}
 use Rattle.b67_layout.proofs.Replaces.{outer_spots-after}
-use Rattle.b67_layout_records.proofs.Leaves.{may_leave, Frames-below, replaces}
-use Rattle.b67_layout_records.proofs.LeftOrders.{left_outer}
+use Rattle.b67_layout.proofs.Leaves.{may_leave, Frames-below, replaces}
+use Rattle.b67_layout.proofs.LeftOrders.{left_outer}
 use Rattle.b67_entry.specs.Left.{Returns}
 use Rattle.b67_entry.specs.Returned.{ReturnsWord}
 use Rattle.b67_entry.proofs.Leaving.{some_first, may, outer, job_at, task_left, scene_left}

@@ -20,7 +20,7 @@ use Rattle.b67_entry.proofs.Leaving.{scene_left}
 use Rattle.b67_entry.proofs.Replacing.{frames_with, job_with, puts_word, top_inside, stands_with, changed_with}
 use Rattle.b67_entry.proofs.Retns.{retn_left, retn_pushed}
 use Rattle.b67_law.proofs.Maps.{IsOperand}
-use Rattle.b67_layout_records.proofs.Apart.{some_words}
+use Rattle.b67_layout.proofs.Apart.{some_words}
 
 -- a word was put on the stack: those above it stay, and the top is one higher
 pub put_above : (old : Cpu) (r : Regs) (display : List ℕ) (w : Tagged) (new : Cpu) → new ≡ with_word old r display w → (i : ℕ) → new.regs.s < i → slice_get new.core i ≡ slice_get old.core i

@@ -14,9 +14,9 @@ use Rattle.b67_stack.proofs.Slots.{running_slot, running_fits}
 use Rattle.b67_layout.proofs.Common.{OnTop, IsFree, seen-with, change-has, Shows-same, fresh, running_in_order, slot_is, others}
 use Rattle.b67_layout.proofs.Others.{outer_spots-after}
 use Rattle.b67_model.specs.Keyed.{keyed, change_keyed}
-use Rattle.b67_layout_records.proofs.Nowhere.{SameArray, SameArrays, activations-same}
+use Rattle.b67_layout.proofs.Nowhere.{SameArray, SameArrays, activations-same}
 use Rattle.b67_entry.proofs.Returned.{Represents-returned, size_entered, fits_anywhere}
-use Rattle.b67_layout_records.proofs.Leaves.{task_at, below-same, Frames, Frames-below, holds_after, for_running_after}
+use Rattle.b67_layout.proofs.Leaves.{task_at, below-same, Frames, Frames-below, holds_after, for_running_after}
 use Rattle.b67_entry.specs.Left.{Returns}
 use Rattle.b67_entry.specs.Returned.{ReturnsWord}
 use Rattle.b67_entry.proofs.Leaving.{may, outer, under, on_top, on_stack, may_return, regs_left, member_at, task_left, shown_left}

@@ -5,7 +5,7 @@ use Rattle.b67_word.specs.declared.faults.Fault.TheVariants.{StackUnderflow}
 use Rattle.b67_model.specs.Common.{◌>>=◌, Word, Standing, Return, Frame, Task, OperatorContext, SessionJob, height, top, with_top_cells, with_task, Goes, top_of, is_critical, without_arrays_of, pushes, returnable, returned, leaves, retn_word, retn}
 use Rattle.b67_model.specs.State as State
 use Rattle.b67_layout.specs.Meets.{here}
-use Rattle.b67_layout_records.proofs.Leaves.{task_at}
+use Rattle.b67_layout.proofs.Leaves.{task_at}
 use Rattle.b67_entry.proofs.Exits.{job_left, leaves_inner}
 use Rattle.b67_lemmas.proofs.Members.{change_twice}
 use Rattle.b67_law.proofs.Maps.{IsOperand}

@@ -8,7 +8,7 @@ use Rattle.b67_lemmas.specs.Lists.{Has, Falls}
 use Rattle.b67_model.specs.Common.{◌>>◌, needs, Word, Ref, Row, Element, Frame, Array, JobConstants, Job, array, owner_of, returnable, IsSegment, Known, NamesArray, WordInOrder}
 use Rattle.b67_stack.specs.Common.{Shape, StackPlace, PagedObject, CopiesName, MayPush}
 use Rattle.b67_layout.specs.Common.{Placement, spot_in, shape}
-use Rattle.b67_layout_records.proofs.Nowhere.{SameArray, array_stays}
+use Rattle.b67_layout.proofs.Nowhere.{SameArray, array_stays}
 use Rattle.b67_layout.proofs.Objects.{others}
 use Rattle.b67_entry.proofs.CopyRefusals.{found_array}
 

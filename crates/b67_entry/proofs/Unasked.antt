@@ -15,7 +15,7 @@ use Rattle.b67_layout.specs.Common.{spots, here, machine_view, stack_of_task, wi
 use Rattle.b67_stack.proofs.Pushes.{Room, room_of}
 use Rattle.b67_stack.specs.MachineView.{RunsOn}
 use Rattle.b67_stack.proofs.ClearHeads.{IsClear}
-use Rattle.b67_layout_records.proofs.Accidents as Accidents
+use Rattle.b67_layout.proofs.Accidents as Accidents
 use Rattle.b67_refer.specs.Ends.{IsProcAt}
 use Rattle.b67_refer.specs.RunningContext.{RunningContext, IsShown}
 use Rattle.b67_refer.specs.declared.activation.Activation.{Activation}

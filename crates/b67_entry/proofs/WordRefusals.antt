@@ -16,7 +16,7 @@ use Rattle.b67_stack.specs.Common.{Fits, StackPlace, RunsOn, Storage}
 use Rattle.b67_stack.proofs.Slots.{running_slot}
 use Rattle.b67_layout.proofs.Common.{height-is, running_in_order, slot_is, runs_here}
 use Rattle.b67_refer.proofs.Scenes.{member_in_order}
-use Rattle.b67_layout_records.proofs.Apart.{spot_apart, spot_top, spot_fits}
+use Rattle.b67_layout.proofs.Apart.{spot_apart, spot_top, spot_fits}
 use Rattle.b67_entry.specs.Words.{IsTopWord, Refuses}
 
 -- the mark at F lies in the stack

@@ -6,7 +6,7 @@ use Rattle.b67_io.specs.Causes.{Rose}
 use Rattle.b67_io.proofs.Joined.{Took-then}
 use Rattle.b67_image.specs.Image.{image_text}
 use Rattle.b67_image.proofs.Chunks.{TookPart-then, TookPart-longer}
-use Rattle.b67_layout_storage.specs.Machine.{Says, content_after}
+use Rattle.b67_layout.specs.Machine.{Says, content_after}
 use Rattle.b67_model.specs.Common.{Session, StepResult}
 use Rattle.b67_task_tables.specs.declared.tables.Machine.{Machine}
 use Rattle.b67_session.specs.Stops.{Stop}

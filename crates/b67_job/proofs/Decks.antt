@@ -17,7 +17,7 @@ use Rattle.b67_session_open.specs.declared.fault.OpenFault.TheVariants as faults
 use Rattle.b67_session_open.specs.Decks.{session_of, deck_given, given_of, DeckInRange, IsLoaded}
 use Rattle.b67_task_tables.specs.Tables.{Given}
 use Rattle.b67_session_open.specs.Opens.{need_of, sectors_of_all, IsOpened}
-use Rattle.b67_layout_storage.specs.Machine.{Says, DeviceAfterCalls, content_after}
+use Rattle.b67_layout.specs.Machine.{Says, DeviceAfterCalls, content_after}
 use Rattle.b67_session.proofs.Shaping.{shaped}
 use Rattle.b67_session.specs.Slices.{StandsAt, IsOpen, Keeps, SliceMeets, StepsFit}
 use Rattle.b67_session_lines.specs.Ends.{EndsPrinting}

@@ -13,7 +13,7 @@ use Rattle.b67_model_text.specs.Deck.{Refusal}
 use Rattle.b67_task_tables.specs.declared.tables.Machine.{Machine}
 use Rattle.b67_task_tables.specs.Tables.{AreCountable}
 use Rattle.b67_task_tables.proofs.Keeping.{halt_kept}
-use Rattle.b67_layout_storage.specs.Machine.{Says, DeviceAfterCalls, content_after}
+use Rattle.b67_layout.specs.Machine.{Says, DeviceAfterCalls, content_after}
 use Rattle.b67_session_lines.specs.Stops.{Run, IsFinished}
 use Rattle.b67_session.specs.Slices.{StandsAt, IsOpen, Keeps}
 use Rattle.b67_session.proofs.Openings.{stands_open}

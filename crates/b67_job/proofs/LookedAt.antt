@@ -7,7 +7,7 @@ use Rattle.std.specs.List.{AllByRecursion}
 use Rattle.b67_io.specs.Causes.{Rose}
 use Rattle.b67_codefile.specs.declared.file.Codefile.{Codefile}
 use Rattle.b67_codefile.specs.Meaning.{program_of}
-use Rattle.b67_layout_storage.specs.Machine.{Says, DeviceAfterCalls, content_after}
+use Rattle.b67_layout.specs.Machine.{Says, DeviceAfterCalls, content_after}
 use Rattle.b67_task_tables.specs.declared.tables.Machine.{Machine}
 use Rattle.b67_task_tables.specs.Tables.{Given}
 use Rattle.b67_job_admit.specs.declared.programs.Loaded.{Loaded}

@@ -16,7 +16,7 @@ use Rattle.b67_law.specs.Turns.{IsNext}
 use Rattle.b67_session.specs.Passed.{TakesSectors}
 use Rattle.b67_session.proofs.Tells.{takes_of}
 use Rattle.b67_session_lines.specs.Stops.{Run, run_status, halted_line}
-use Rattle.b67_layout_storage.specs.Machine.{Says}
+use Rattle.b67_layout.specs.Machine.{Says}
 use Rattle.b67_image.specs.Parts.{ImageParts}
 use Rattle.b67_image.specs.Text.{limit}
 use Rattle.b67_image.specs.Meaning.{told_in, IsMeant, IsImageRead}

@@ -1,7 +1,7 @@
 -- What is known of the backing device over a run.
 use Rattle.std.specs.Prelude.{◌≡◌, ◌≢◌, ℕ, List, Option, None}
 use Rattle.b67_io.specs.Causes.{Rose, Stayed}
-use Rattle.b67_layout_storage.specs.Machine.{content_after}
+use Rattle.b67_layout.specs.Machine.{content_after}
 
 -- the device before the run and now, and what one tells; what is known of its sectors before, which is what it told, and what it tells now, how many
 -- sectors it had and has, and how often it had failed before and has failed now

@@ -2,7 +2,7 @@
 use Rattle.std.specs.Prelude.{◌≡◌, ℕ, ◌+◌, ◌≤◌, List, length, Option, Some, None, Ok}
 use denote.Ref.{Bor}
 use Rattle.b67_model.specs.Common.{Session}
-use Rattle.b67_layout_storage.specs.Machine.{Says}
+use Rattle.b67_layout.specs.Machine.{Says}
 use Rattle.b67_session_lines.specs.Stops.{Run}
 use Rattle.b67_session.specs.Slices.{StandsAt, Keeps}
 use Rattle.b67_task_tables.specs.declared.tables.Machine.{Machine}

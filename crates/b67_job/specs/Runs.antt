@@ -27,7 +27,7 @@ use Rattle.b67_job.specs.declared.summaries.Closing.{Closing}
 use Rattle.b67_job.specs.Texts.{Text, whole_of, only, TookUpTo, PrintsAndAnswers}
 use Rattle.b67_job.specs.States.{StatesInOrder, JobsRunApart}
 use Rattle.b67_job.specs.Finishing.{RanByStep}
-use Rattle.b67_layout_storage.specs.Machine.{content_after}
+use Rattle.b67_layout.specs.Machine.{content_after}
 
 -- lines of steps, and a last line
 abbrev pub text_to : List RunLine → List ℕ → Text

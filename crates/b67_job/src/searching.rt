@@ -1,7 +1,7 @@
 //! A search through the run of a deck.
 
 ghost use Rattle.std.specs.Prelude.{◌≡◌, ◌≢◌, ◌≤◌, ◌<◌, ◌^◌, None, Err, IfOk};
-ghost use Rattle.b67_layout_storage.specs.Machine.{DeviceAfterCalls};
+ghost use Rattle.b67_layout.specs.Machine.{DeviceAfterCalls};
 ghost use Rattle.b67_job.specs.Searches.{FindsInDeck, FailsInDeck};
 ghost use Rattle.b67_job.specs.declared.searching.SearchFault.{SearchFault};
 ghost use Rattle.b67_model.specs.declared.limits.TheConstants.{LEAST_CORE};

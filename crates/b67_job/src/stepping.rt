@@ -1,7 +1,7 @@
 //! Steps from the machine of an image, and the image of the machine then.
 
 ghost use Rattle.std.specs.Prelude.{◌≡◌, ◌≢◌, ◌+◌, ℕ, List, length, Option, Some, None, Ok, Err};
-ghost use Rattle.b67_layout_storage.specs.Machine.{DeviceAfterCalls};
+ghost use Rattle.b67_layout.specs.Machine.{DeviceAfterCalls};
 ghost use Rattle.b67_model.specs.Schedule.{Session};
 ghost use Rattle.b67_session.specs.Slices.{StandsAt};
 ghost use Rattle.b67_task_tables.specs.Tables.{AreCountable};

@@ -9,3 +9,4 @@ pub mod Peaks
 pub mod Moved
 pub mod Tops
 pub mod Common
+pub mod Machine

@@ -10,7 +10,7 @@ use Rattle.b67_lemmas.proofs.Sums.{sum_total, total_gap, total_le}
 use Rattle.b67_model.specs.Common.{Segment, SessionJob, sectors_of, sectors, Session}
 use Rattle.b67_stack.specs.declared.Cpu.{Cpu}
 use Rattle.b67_stack.specs.Common.{PagedObject, MachineView, Storage, Content}
-use Rattle.b67_layout_storage.specs.Machine.{MachineRepresentsView}
+use Rattle.b67_layout.specs.Machine.{MachineRepresentsView}
 use Rattle.b67_overlay.specs.AreasEvicted.{IsShortBy}
 use Rattle.b67_layout.specs.Common.{Placement, code_objects, objects_of, machine_view}
 use Rattle.b67_layout_spans.specs.Full.{ShortIsFull}

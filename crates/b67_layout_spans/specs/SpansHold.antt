@@ -6,7 +6,7 @@ use Rattle.b67_model.specs.Schedule.{Session}
 use Rattle.b67_stack.specs.declared.Cpu.{Cpu}
 use Rattle.b67_stack.specs.MachineView.{PagedObject}
 use Rattle.b67_stack.specs.Represents.{Storage}
-use Rattle.b67_layout_storage.specs.Machine.{IsPresent}
+use Rattle.b67_layout.specs.Machine.{IsPresent}
 use Rattle.b67_layout.specs.Common.{IsInOrderButCounts, Placement, machine_view, RepresentsSession}
 use Rattle.b67_overlay.specs.Turns.{IsCopyOfArea, InStack}
 use Rattle.b67_overlay.specs.Spans.{Families, ShowsFamilies, span_of, InSpan}

@@ -20,9 +20,9 @@ use Rattle.b67_refer.specs.RunningContext.{RunningContext}
 use Rattle.b67_refer.proofs.Scenes.{member_in_order, scene}
 use Rattle.b67_refer.proofs.Chains.{level_low}
 use Rattle.b67_refer.proofs.Displays.{agrees, holds_on, shown_holds}
-use Rattle.b67_layout_records.proofs.Nowhere.{activations-same}
-use Rattle.b67_layout_records.proofs.Leaves.{Leaver, task_at, may_leave, below-same, Frames-below, runs_after, holds_after, for_running_after}
-use Rattle.b67_layout_records.proofs.LeftOrders.{left_ready}
+use Rattle.b67_layout.proofs.Nowhere.{activations-same}
+use Rattle.b67_layout.proofs.Leaves.{Leaver, task_at, may_leave, below-same, Frames-below, runs_after, holds_after, for_running_after}
+use Rattle.b67_layout.proofs.LeftOrders.{left_ready}
 use Rattle.b67_mcp.specs.Calls.{MayCut, job_cut}
 use Rattle.b67_mcp.proofs.Owned.{arrays_stay}
 use Rattle.b67_lemmas.proofs.Members.{has_map, keyed_has}

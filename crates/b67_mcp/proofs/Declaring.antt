@@ -20,8 +20,8 @@ use Rattle.b67_stack.proofs.Helds.{held-same}
 use Rattle.b67_layout.specs.Common.{Placement, slot_of, spot_in, outer_spots, spots, shape, stack_of_task, code_objects, array_object, objects_of, machine_view, RepresentsTask, IsRunning, ShowsDisplay, SessionHolds, RepresentsSession, with_job, cells}
 use Rattle.b67_layout.proofs.Common.{with_course, member-same, row_of, Replaces, change-has, change-kept, SessionHoldsBut-after, for_running, activations-with, seen-with, critical-with, Shows-same, spots-with, of_objects}
 use Rattle.b67_layout.proofs.Replaces.{outer_spots-after}
-use Rattle.b67_layout_records.proofs.Nowhere.{SameArray, SameArrays, activations-same}
-use Rattle.b67_layout_records.proofs.Slots.{OthersSame, stack-after, slots-after}
+use Rattle.b67_layout.proofs.Nowhere.{SameArray, SameArrays, activations-same}
+use Rattle.b67_layout.proofs.Slots.{OthersSame, stack-after, slots-after}
 use Rattle.b67_exec_cells.proofs.Replaced.{cells-are}
 use Rattle.b67_mcp.specs.Declaring.{storage_without}
 use Rattle.b67_mcp.proofs.Pushed.{stack, on_slot, registers, room}

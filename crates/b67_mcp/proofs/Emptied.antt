@@ -13,11 +13,11 @@ use Rattle.b67_backing.specs.Shelf.{Table, IsShelf}
 use Rattle.b67_lemmas.specs.Lists.{Has}
 use Rattle.b67_ctl.specs.declared.registers.Regs.{Regs}
 use Rattle.b67_stack.specs.Common.{nowhere, PagedObject, MachineView, slot_base, home_word_of, AreZero, Storage, Represents, info_of, LowWordsStayed, TakesPlace}
-use Rattle.b67_layout_storage.specs.Machine.{IsPresent}
+use Rattle.b67_layout.specs.Machine.{IsPresent}
 use Rattle.b67_stack.proofs.Unchanged.{area_of_object, home_below}
-use Rattle.b67_layout_storage.proofs.Words.{StacksLie-home, original_word}
+use Rattle.b67_layout.proofs.Words.{StacksLie-home, original_word}
 use Rattle.b67_stack.proofs.Reheld.{storage_with}
-use Rattle.b67_layout_storage.proofs.Changed.{Changed, Represents-changed}
+use Rattle.b67_layout.proofs.Changed.{Changed, Represents-changed}
 use Rattle.b67_overlay.specs.Turns.{Hides}
 use Rattle.b67_overlay.proofs.Dropping.{Freed, size2, here3, stays3, body3, other_area, stacks3, area_of3, bases3, word3}
 use Rattle.b67_mcp.specs.Lengths.{zeroed, emptied, freed_chain}

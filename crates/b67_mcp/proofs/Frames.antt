@@ -9,7 +9,7 @@ use Rattle.b67_model.specs.Keyed.{change_keyed}
 use Rattle.b67_layout.specs.Common.{IsInOrderButCounts, Placement, spot_in, IsRunning, here}
 use Rattle.b67_stack.specs.Stacks.{StackPlace}
 use Rattle.b67_layout.proofs.Common.{running_in_order, IsDependedOn, Replaces}
-use Rattle.b67_layout_records.proofs.Leaves.{Leaver, Frames-below}
+use Rattle.b67_layout.proofs.Leaves.{Leaver, Frames-below}
 use Rattle.b67_mcp.specs.Calls.{MayCut}
 use Rattle.b67_mcp.proofs.Cuts.{Cut, cut_of}
 use Rattle.b67_mcp.proofs.CallTables.{WaitsThere}

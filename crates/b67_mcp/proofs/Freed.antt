@@ -3,7 +3,7 @@ use Rattle.std.proofs.Common.{◌≡◌, ℕ, ◌+◌, ◌≤◌, ◌==◌, List
 use Rattle.std.specs.Prelude.{if◌then◌else◌}
 use Rattle.b67_area.specs.declared.kinds.Info.{Info}
 use Rattle.b67_area.specs.Spans.{Span, Area, Hole, join, without, area_at}
-use Rattle.b67_layout_storage.specs.Machine.{HasHole}
+use Rattle.b67_layout.specs.Machine.{HasHole}
 
 -- a hole that grows has room still
 hole_joined : (k n : ℕ) (ss : List Span) → HasHole k ss → HasHole k (join n ss)

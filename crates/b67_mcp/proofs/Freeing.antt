@@ -15,7 +15,7 @@ use Rattle.b67_area.specs.declared.Kind.TheVariants.{Array}
 use Rattle.b67_stack.specs.Common.{Location, PagedObject, MachineView, home_desc, home_word_of, Storage, Represents, ObjectHasChain, ChainStays}
 use Rattle.b67_stack.proofs.Homes.{chain_small}
 use Rattle.b67_stack.proofs.Unchanged.{area_bounds}
-use Rattle.b67_layout_storage.proofs.Chained.{Content-chain}
+use Rattle.b67_layout.proofs.Chained.{Content-chain}
 use Rattle.b67_mcp.specs.Lengths.{IsArray, IsChain, freed_chain}
 
 pub freed_some : (s : Shelf) (first : ℕ) → first ≢ 0 → freed_chain first s ≡ given first s

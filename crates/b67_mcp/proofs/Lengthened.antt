@@ -16,7 +16,7 @@ use Rattle.b67_stack.specs.declared.Cpu.{Cpu}
 use Rattle.b67_stack.specs.Common.{PagedObject, Storage, LowWordsStayed, TakesPlace}
 use Rattle.b67_stack.proofs.Helds.{held-other}
 use Rattle.b67_layout.specs.Common.{IsInOrderButCounts, Placement, array_object, objects_of, machine_view, IsRunning, with_job, area_held}
-use Rattle.b67_layout_storage.specs.Machine.{IsPresent, PagingKeeps, Says, content_after}
+use Rattle.b67_layout.specs.Machine.{IsPresent, PagingKeeps, Says, content_after}
 use Rattle.b67_overlay.specs.Spans.{MachineCanPage}
 use Rattle.b67_mcp.proofs.PassedSpans.{copies_of, view_of}
 use Rattle.b67_layout_step.proofs.Arrays.{Renumbers}

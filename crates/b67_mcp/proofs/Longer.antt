@@ -16,13 +16,13 @@ use Rattle.b67_backing.specs.Extending.{extended, sectors_more, Prolongs, Extend
 use Rattle.b67_lemmas.specs.Lists.{Has}
 use Rattle.b67_ctl.specs.declared.registers.Regs.{Regs}
 use Rattle.b67_stack.specs.Common.{Location, PagedObject, MachineView, slot_base, home_word_of, object_words, Storage, Represents, HoldsIn, Told, info_of, TakesPlace}
-use Rattle.b67_layout_storage.specs.Machine.{IsPresent, DeviceAfterCalls, Says, content_after}
+use Rattle.b67_layout.specs.Machine.{IsPresent, DeviceAfterCalls, Says, content_after}
 use Rattle.b67_overlay.specs.Spans.{MachineCanPage}
 use Rattle.b67_stack.proofs.Unchanged.{area_of_object, home_below}
-use Rattle.b67_layout_storage.proofs.Words.{StacksLie-home, original_word}
+use Rattle.b67_layout.proofs.Words.{StacksLie-home, original_word}
 use Rattle.b67_stack.proofs.Helds.{held-other, held-same}
 use Rattle.b67_stack.proofs.Reheld.{storage_with}
-use Rattle.b67_layout_storage.proofs.Changed.{Changed, Represents-changed}
+use Rattle.b67_layout.proofs.Changed.{Changed, Represents-changed}
 use Rattle.std.specs.Prelude.{Result, Ok, Err}
 use Rattle.b67_area.specs.declared.Areas.{Areas}
 use Rattle.b67_backing.specs.declared.SpaceFault.{SpaceFault}

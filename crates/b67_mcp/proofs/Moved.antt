@@ -10,9 +10,9 @@ use Rattle.b67_stack.specs.Common.{Storage, Represents, LowWordsStayed}
 use Rattle.b67_layout.specs.Common.{IsInOrderButCounts, Placement, machine_view}
 use Rattle.b67_layout.proofs.Alike.{AllAlike}
 use Rattle.b67_layout.proofs.Paged.{RepresentsSession-over}
-use Rattle.b67_layout_storage.specs.Machine.{PagingKeeps, Says, content_after}
+use Rattle.b67_layout.specs.Machine.{PagingKeeps, Says, content_after}
 use Rattle.b67_overlay.specs.Spans.{MachineCanPage}
-use Rattle.b67_layout_storage.proofs.Untold.{untold}
+use Rattle.b67_layout.proofs.Untold.{untold}
 use Rattle.b67_overlay.specs.AreasEvicted.{AreasEvicted}
 use Rattle.b67_layout_spans.proofs.Sessions.{copies_of}
 use Rattle.b67_task_tables.specs.declared.tables.Machine.{Machine}

@@ -12,11 +12,11 @@ use Rattle.b67_stack.specs.declared.Cpu.{Cpu}
 use Rattle.b67_stack.specs.Common.{PagedObject, Slot, MachineView, NoOriginalAboveTop, Storage, Represents, LowWordsStayed, TakesPlace}
 use Rattle.b67_layout.specs.Common.{IsInOrderButCounts, Placement, array_object, objects_of, machine_view, IsRunning, with_job}
 use Rattle.b67_layout.proofs.Common.{running_in_order, member-same, AllAlike, RepresentsSession-over}
-use Rattle.b67_layout_storage.specs.Machine.{PagingKeeps}
+use Rattle.b67_layout.specs.Machine.{PagingKeeps}
 use Rattle.b67_overlay.specs.Spans.{MachineCanPage}
 use Rattle.b67_mcp.proofs.PassedSpans.{copies_of}
-use Rattle.b67_layout_storage.proofs.Devices.{says_of}
-use Rattle.b67_layout_storage.proofs.Untold.{untold}
+use Rattle.b67_layout.proofs.Devices.{says_of}
+use Rattle.b67_layout.proofs.Untold.{untold}
 use Rattle.b67_layout_step.proofs.Arrays.{Renumbers, slots_same}
 use Rattle.b67_layout_step.proofs.Objects.{old_object, replaces}
 use Rattle.b67_task_tables.specs.declared.tables.Machine.{Machine}

@@ -19,12 +19,12 @@ use Rattle.b67_lemmas.specs.Lists.{Has}
 use Rattle.b67_ctl.specs.declared.registers.Regs.{Regs}
 use Rattle.b67_stack.specs.Common.{Location, Locations, Shape, Original, IsOriginal, Fits, LieUpward, words, PagedObject, MachineView, slot_base, stack_of, home_word_of, object_words, tag_of, Storage, Represents, StacksLie, Content, KeptChain, info_of, LowWordsStayed, with_held, TakesPlace}
 use Rattle.b67_stack.proofs.Lies.{Lie-each, Upward-same}
-use Rattle.b67_layout_storage.specs.Machine.{IsPresent}
-use Rattle.b67_layout_storage.proofs.Below.{stacks_low, not_heads}
+use Rattle.b67_layout.specs.Machine.{IsPresent}
+use Rattle.b67_layout.proofs.Below.{stacks_low, not_heads}
 use Rattle.b67_stack.proofs.Unchanged.{area_of_object, area_bounds, home_below, base_low, slot_below}
-use Rattle.b67_layout_storage.proofs.Words.{shape_home, no_code_above, original_word}
+use Rattle.b67_layout.proofs.Words.{shape_home, no_code_above, original_word}
 use Rattle.b67_stack.proofs.Reheld.{storage_with, info_with}
-use Rattle.b67_layout_storage.proofs.Changed.{Changed, Represents-changed}
+use Rattle.b67_layout.proofs.Changed.{Changed, Represents-changed}
 use Rattle.b67_mcp.specs.Lengths.{cut_to, shorter, freed_chain}
 use Rattle.b67_mcp.proofs.Freeing.{of_left, no_zero_left, other_left}
 

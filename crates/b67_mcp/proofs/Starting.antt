@@ -8,8 +8,8 @@ use Rattle.b67_area.specs.declared.kinds.Kind.TheVariants as kind
 use Rattle.b67_backing.specs.declared.refusals.SpaceFault.{SpaceFault}
 use Rattle.b67_backing.specs.declared.refusals.SpaceFault.TheVariants as space
 use Rattle.b67_model.specs.Common.{Word, Task, SessionJob, need, step, sectors, Session}
-use Rattle.b67_layout_storage.specs.Machine.{MachineRepresentsView}
-use Rattle.b67_layout_storage.proofs.Devices.{says_of}
+use Rattle.b67_layout.specs.Machine.{MachineRepresentsView}
+use Rattle.b67_layout.proofs.Devices.{says_of}
 use Rattle.b67_layout.specs.Common.{IsInOrderButCounts, array_object, machine_view, Placement, IsRunning, area_held}
 use Rattle.b67_stack.specs.Common.{PagedObject, Storage, Content, KeptChain}
 use Rattle.b67_exec_cells.proofs.Replaced.{array_object-has}

@@ -8,7 +8,7 @@ use Rattle.b67_lemmas.specs.Lists.{Has}
 use Rattle.b67_stack.specs.Common.{Location, Fits, nowhere, words, PagedObject, MachineView, slot_base, stack_of, Storage, StacksLie, RepresentsObject, Owned, Represents, info_of}
 use Rattle.b67_stack.proofs.Lies.{Lie-each}
 use Rattle.b67_stack.proofs.Helds.{held-other, held-same}
-use Rattle.b67_layout_storage.proofs.Words.{copy_other}
+use Rattle.b67_layout.proofs.Words.{copy_other}
 use Rattle.b67_mcp.specs.Declaring.{storage_without}
 
 module _ (x : Storage) (core : List Tagged) (r : Regs) (p : MachineView) (at : ℕ) (s : Represents x core r p) (apart : (t : PagedObject) → Has p.objects t → t.home ≢ at) where

@@ -6,7 +6,7 @@ use Rattle.b67_model.specs.Common.{Array, Row, Condition, Task, Job, SessionJob,
 use Rattle.b67_stack.specs.declared.What.{What}
 use Rattle.b67_stack.specs.declared.What.TheVariants as what
 use Rattle.b67_stack.specs.Represents.{Storage}
-use Rattle.b67_layout_storage.specs.Machine.{Says, content_after, HasHole}
+use Rattle.b67_layout.specs.Machine.{Says, content_after, HasHole}
 use Rattle.b67_layout.specs.Common.{Placement, with_job, area_held, cells, IsInStack, shown, session_moved}
 use Rattle.b67_exec_cells.specs.Running.{code_area}
 use Rattle.b67_exec_cells.specs.Called.{called_in}

@@ -6,7 +6,7 @@ use Rattle.b67_word.specs.declared.couples.Place.{Place}
 use Rattle.b67_model.specs.Common.{Answer, ◌>>=◌, Word, Original, Array, Task, Job, SessionJob, top, below_top, with_task, Goes, answered, array_length, arraydec}
 use Rattle.b67_stack.specs.Shapes.{nowhere}
 use Rattle.b67_stack.specs.Represents.{Storage}
-use Rattle.b67_layout_storage.specs.Machine.{holding}
+use Rattle.b67_layout.specs.Machine.{holding}
 use Rattle.b67_layout.specs.Placement.{Placement}
 use Rattle.b67_layout.specs.Meets.{here}
 use Rattle.b67_mcp.specs.Printed.{MayCut, operand_number}

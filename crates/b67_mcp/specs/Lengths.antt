@@ -10,7 +10,7 @@ use Rattle.b67_backing.specs.declared.SpaceFault.TheVariants as spaces
 use Rattle.b67_lemmas.specs.Lists.{Has}
 use Rattle.b67_stack.specs.declared.Cpu.{Cpu}
 use Rattle.b67_stack.specs.Common.{nowhere, PagedObject, MachineView, Storage, with_held, TakesPlace}
-use Rattle.b67_layout_storage.specs.Machine.{content_after, HasHole}
+use Rattle.b67_layout.specs.Machine.{content_after, HasHole}
 use Rattle.b67_overlay.specs.Spans.{MachineCanPage}
 
 -- an array of a view, by the address of its original

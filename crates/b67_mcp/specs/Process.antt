@@ -8,7 +8,7 @@ use Rattle.b67_backing.specs.declared.SpaceFault.TheVariants.{NoCore, BackingFul
 use Rattle.b67_model.specs.Common.{Word, Task, Job, SessionJob, Goes, process, Session}
 use Rattle.b67_io.specs.Causes.{Rose}
 use Rattle.b67_stack.specs.Represents.{Storage}
-use Rattle.b67_layout_storage.specs.Machine.{Says, DeviceAfterCalls, content_after}
+use Rattle.b67_layout.specs.Machine.{Says, DeviceAfterCalls, content_after}
 use Rattle.b67_layout.specs.Common.{Placement, here, session_moved}
 use Rattle.b67_task_need.specs.Needing.{need_with}
 use Rattle.b67_task_tables.specs.declared.tables.JobRow.{JobRow}

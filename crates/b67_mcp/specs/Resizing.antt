@@ -6,7 +6,7 @@ use Rattle.b67_backing.specs.declared.refusals.SpaceFault.{SpaceFault}
 use Rattle.b67_backing.specs.declared.refusals.SpaceFault.TheVariants as space
 use Rattle.b67_model.specs.Common.{Array, Task, Job, SessionJob, Goes, with_array, resized, sectors, step, Session}
 use Rattle.b67_stack.specs.Represents.{Storage}
-use Rattle.b67_layout_storage.specs.Machine.{HasHole}
+use Rattle.b67_layout.specs.Machine.{HasHole}
 use Rattle.b67_layout.specs.Common.{IsInOrderButCounts, Placement, with_job, area_held}
 use Rattle.b67_task_tables.specs.declared.tables.Machine.{Machine}
 use Rattle.b67_task_tables.specs.Tables.{MachineRepresents}

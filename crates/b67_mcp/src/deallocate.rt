@@ -8,7 +8,7 @@ ghost use Rattle.b67_mcp.specs.Lengthening.{EmptyMeets};
 ghost use Rattle.b67_stack.specs.MachineView.{PagedObject, MachineView};
 ghost use Rattle.b67_stack.specs.Represents.{Storage};
 ghost use Rattle.b67_stack.specs.HeldOtherwise.{LowWordsStayed, TakesPlace};
-ghost use Rattle.b67_layout_storage.specs.Machine.{PagingKeeps};
+ghost use Rattle.b67_layout.specs.Machine.{PagingKeeps};
 ghost use Rattle.b67_overlay.specs.Spans.{MachineCanPage};
 ghost use Rattle.b67_mcp.specs.Lengths.{IsArray, zeroed, emptied};
 ghost use Rattle.b67_model.specs.declared.intrinsics.TheConstants.{DEALLOCATE};

@@ -32,7 +32,7 @@ mod waits;
 mod woken;
 
 ghost use Rattle.std.specs.Prelude.{◌≡◌, ◌+◌, length};
-ghost use Rattle.b67_layout_storage.specs.Machine.{DeviceAfterCalls};
+ghost use Rattle.b67_layout.specs.Machine.{DeviceAfterCalls};
 ghost use Rattle.b67_mcp.specs.Called.{CallsSome, CallRow};
 ghost use Rattle.b67_mcp.specs.Answers.{call_end_of};
 ghost use Rattle.b67_mcp.specs.Running.{JobsHaveRoom, ForCalls, CallCauses, Keeps};

@@ -6,7 +6,7 @@ ghost use Rattle.b67_mcp.specs.Calls.{StandsAtCall, ForCall};
 ghost use Rattle.b67_task_tables.specs.Runs.{Keeps};
 ghost use Rattle.b67_mcp.specs.Process.{CanNumber, ProcessRow, ProcessFits, ProcessServed};
 ghost use Rattle.b67_model.specs.declared.intrinsics.TheConstants.{PROCESS};
-ghost use Rattle.b67_layout_storage.specs.Machine.{Says, DeviceAfterCalls, content_after};
+ghost use Rattle.b67_layout.specs.Machine.{Says, DeviceAfterCalls, content_after};
 ghost use Rattle.b67_mcp.specs.Answers.{SilentMeets};
 ghost use Rattle.b67_mcp.specs.Called.{CallsSome, CallReaches};
 ghost use Rattle.b67_mcp.specs.Running.{ForCalls, SilentCauses};

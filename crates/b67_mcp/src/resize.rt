@@ -10,7 +10,7 @@ ghost use Rattle.b67_backing.specs.declared.SpaceFault.TheVariants.{BackingFault
 ghost use Rattle.b67_stack.specs.MachineView.{PagedObject, MachineView};
 ghost use Rattle.b67_stack.specs.Represents.{Storage};
 ghost use Rattle.b67_stack.specs.HeldOtherwise.{LowWordsStayed, TakesPlace};
-ghost use Rattle.b67_layout_storage.specs.Machine.{IsPresent, DeviceAfterCalls, PagingKeeps, Says, content_after};
+ghost use Rattle.b67_layout.specs.Machine.{IsPresent, DeviceAfterCalls, PagingKeeps, Says, content_after};
 ghost use Rattle.b67_overlay.specs.Spans.{MachineCanPage};
 ghost use Rattle.b67_mcp.specs.Lengths.{IsArray, LengthenMeets, cut_to, shorter};
 ghost use Rattle.b67_model.specs.declared.intrinsics.TheConstants.{RESIZE};

@@ -9,7 +9,7 @@ use Rattle.b67_backing.proofs.News.{chain_of-others, first_take}
 use Rattle.b67_backing.proofs.Tallies.{AllBelow}
 use Rattle.b67_backing.proofs.Walks.{all_below}
 use Rattle.b67_stack.specs.Represents.{Told}
-use Rattle.b67_layout_storage.specs.Machine.{Says, content_after}
+use Rattle.b67_layout.specs.Machine.{Says, content_after}
 use Rattle.b67_overlay.specs.Overlaid.{sectors_out}
 
 -- a chain that is taken and given back

@@ -9,8 +9,8 @@ use Rattle.b67_backing.specs.Shelf.{Table}
 use Rattle.b67_backing.specs.declared.SpaceFault.{SpaceFault}
 use Rattle.b67_stack.specs.declared.Cpu.{Cpu}
 use Rattle.b67_stack.specs.Common.{PagedObject, MachineView, Storage, LowWordsStayed}
-use Rattle.b67_layout_storage.specs.Machine.{IsPresent, DeviceAfterCalls}
-use Rattle.b67_layout_storage.proofs.Below.{Stayed-none, Stayed-then}
+use Rattle.b67_layout.specs.Machine.{IsPresent, DeviceAfterCalls}
+use Rattle.b67_layout.proofs.Below.{Stayed-none, Stayed-then}
 use Rattle.b67_overlay.specs.Spans.{MachineCanPage}
 use Rattle.b67_overlay.specs.Overlaid.{overlaid, retelling}
 use Rattle.b67_overlay.specs.AreasEvicted.{EvictedBelow, Overlays, Claims}

@@ -15,7 +15,7 @@ use Rattle.b67_lemmas.proofs.Places.{get_within}
 use Rattle.b67_stack.specs.Common.{Shape, Is, Original, Copy, Fits, LieDownward, copy_desc, nowhere, words, PagedObject, MachineView, stack_of, slot_base, home_word_of, Storage, Represents, LowWordsStayed}
 use Rattle.b67_stack.proofs.Heights.{words-length}
 use Rattle.b67_stack.proofs.Homes.{same_desc}
-use Rattle.b67_layout_storage.specs.Machine.{IsPresent}
+use Rattle.b67_layout.specs.Machine.{IsPresent}
 use Rattle.b67_overlay.specs.Turns.{IsCopyOfArea, InStack, Searched, SpansTurned, Lies}
 use Rattle.b67_overlay.specs.declared.spans.Span.{Span}
 use Rattle.b67_overlay.specs.Spans.{Resident, Families, DictionariesLie, ShowsFamilies, job_at, holds, span_of, span_of_kin, up_from, whole_stack, InSpan, ShapeInSpan, CopiesInSpans, CopiesLie}

@@ -17,11 +17,11 @@ use Rattle.b67_lemmas.specs.Lists.{Has}
 use Rattle.b67_stack.specs.Common.{Location, Shape, Original, IsOriginal, Fits, words, PagedObject, MachineView, stack_of, slot_base, home_word_of, Storage, StacksLie, HoldsIn, info_of, Represents, LowWordsStayed, with_held}
 use Rattle.b67_stack.proofs.Heights.{words-length}
 use Rattle.b67_stack.proofs.Lies.{Lie-each}
-use Rattle.b67_layout_storage.specs.Machine.{IsPresent}
-use Rattle.b67_layout_storage.proofs.Below.{stacks_low, not_heads}
+use Rattle.b67_layout.specs.Machine.{IsPresent}
+use Rattle.b67_layout.proofs.Below.{stacks_low, not_heads}
 use Rattle.b67_stack.proofs.Unchanged.{area_of_object, home_below, slot_below, base_low}
 use Rattle.b67_stack.proofs.Reheld.{Reheld, HoldsIn-stays, storage_with, Represents-reheld}
-use Rattle.b67_layout_storage.proofs.Words.{shape_home, no_code_above, original_word}
+use Rattle.b67_layout.proofs.Words.{shape_home, no_code_above, original_word}
 use Rattle.b67_overlay.specs.Turns.{Hides}
 use Rattle.b67_overlay.specs.Overlaid.{IsOut, dropped}
 

@@ -6,7 +6,7 @@ use Rattle.b67_area.specs.declared.Kind.TheVariants.{Array}
 use Rattle.b67_backing.specs.Shelf.{Table, IsShelf}
 use Rattle.b67_stack.specs.declared.Cpu.{Cpu}
 use Rattle.b67_stack.specs.Common.{PagedObject, MachineView, Storage, Represents, LowWordsStayed}
-use Rattle.b67_layout_storage.specs.Machine.{IsPresent}
+use Rattle.b67_layout.specs.Machine.{IsPresent}
 use Rattle.b67_overlay.specs.Spans.{MachineCanPage}
 use Rattle.b67_overlay.specs.Overlaid.{shelf_out, overlaid, dropped, retelling}
 use Rattle.b67_overlay.proofs.Chains.{Says-retold}

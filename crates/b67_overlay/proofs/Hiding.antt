@@ -15,9 +15,9 @@ use Rattle.b67_lemmas.specs.Lists.{Has}
 use Rattle.b67_stack.specs.Common.{Location, Locations, Copied, Shape, Is, Original, Copy, IsOriginal, IsCopy, Fits, copy_desc, stack_words, words, PagedObject, MachineView, Slot, Free, Running, Waiting, SlotFits, stack_of, slot_base, home_word, IsArrayAt, Storage, Represents, info_of, with_held}
 use Rattle.b67_stack.proofs.Homes.{same_desc}
 use Rattle.b67_stack.proofs.Bases.{base-apart}
-use Rattle.b67_layout_storage.specs.Machine.{IsPresent}
+use Rattle.b67_layout.specs.Machine.{IsPresent}
 use Rattle.b67_stack.proofs.Helds.{held-other}
-use Rattle.b67_layout_storage.proofs.Words.{original_of_home}
+use Rattle.b67_layout.proofs.Words.{original_of_home}
 use Rattle.b67_stack.proofs.Unchanged.{area_of_object, home_below}
 use Rattle.b67_overlay.specs.Turns.{MakesAbsent, InStack, Searched, Lies, Hides}
 use Rattle.b67_overlay.proofs.Turning.{lies_of, stack_low, stack_before}

@@ -18,13 +18,13 @@ use Rattle.b67_lemmas.specs.Lists.{Has}
 use Rattle.b67_stack.specs.Common.{Locations, LieUpward, PagedObject, MachineView, object_words, Storage, Represents, Content, KeptChain, ObjectHasChain, HoldsIn, Told, StacksLie, info_of}
 use Rattle.b67_stack.proofs.Homes.{chain_small}
 use Rattle.b67_stack.proofs.Lies.{upward-take}
-use Rattle.b67_layout_storage.specs.Machine.{IsPresent, Says, content_after}
-use Rattle.b67_layout_storage.proofs.Helds.{held-back}
+use Rattle.b67_layout.specs.Machine.{IsPresent, Says, content_after}
+use Rattle.b67_layout.proofs.Helds.{held-back}
 use Rattle.b67_stack.proofs.Reheld.{Reheld, storage_with, Represents-reheld}
 use Rattle.b67_stack.proofs.Unchanged.{area_of_object, area_bounds}
-use Rattle.b67_layout_storage.proofs.Chained.{Content-chain}
+use Rattle.b67_layout.proofs.Chained.{Content-chain}
 use Rattle.b67_overlay.specs.Overlaid.{chain_out, shelf_out, sectors_out, retelling, overlaid, dropped, IsOut}
-use Rattle.b67_layout_storage.proofs.Retold.{retold-same}
+use Rattle.b67_layout.proofs.Retold.{retold-same}
 use Rattle.b67_overlay.proofs.Chains.{Apart, chains_apart, free_apart, free_first, Told-same, Told-stored}
 
 pub range_up : (core : List Tagged) (at n : ℕ) (ws : List Tagged) → length ws ≡ n → LieUpward core at ws → slice_range core at (at + n) ≡ ws

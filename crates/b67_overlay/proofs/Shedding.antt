@@ -10,7 +10,7 @@ use Rattle.b67_area.proofs.Laws.{area_inside, area_at-without}
 use Rattle.b67_backing.specs.Shelf.{Table}
 use Rattle.b67_stack.specs.declared.Cpu.{Cpu}
 use Rattle.b67_stack.specs.Common.{Location, PagedObject, MachineView, Storage}
-use Rattle.b67_layout_storage.specs.Machine.{IsPresent, Says, DeviceAfterCalls, content_after}
+use Rattle.b67_layout.specs.Machine.{IsPresent, Says, DeviceAfterCalls, content_after}
 use Rattle.b67_overlay.specs.Spans.{MachineCanPage}
 use Rattle.b67_stack.proofs.Helds.{held-other}
 use Rattle.b67_overlay.specs.Overlaid.{overlaid, retelling, chain_out, IsShort}

@@ -6,7 +6,7 @@ use Rattle.b67_backing.specs.Shelf.{Shelf, first, taken, chain_of}
 use Rattle.b67_backing.specs.Held.{sectors_for}
 use Rattle.b67_lemmas.specs.Lists.{Has}
 use Rattle.b67_stack.specs.Common.{PagedObject, MachineView, Storage, HoldsIn, with_held, ChainStays}
-use Rattle.b67_layout_storage.specs.Machine.{content_after}
+use Rattle.b67_layout.specs.Machine.{content_after}
 
 -- the first sector of the chain to which so many words go, and the shelf then: the chain that is kept, or a new one
 abbrev pub chain_out : Shelf → ℕ → ℕ

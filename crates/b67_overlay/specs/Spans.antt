@@ -8,7 +8,7 @@ use Rattle.b67_area.specs.declared.Areas.{Areas}
 use Rattle.b67_backing.specs.Shelf.{Table, IsShelf}
 use Rattle.b67_stack.specs.declared.Cpu.{Cpu}
 use Rattle.b67_stack.specs.Common.{Shape, Is, Original, Copy, stack_words, words, MachineView, slot_base, stack_of, Storage, Represents}
-use Rattle.b67_layout_storage.specs.Machine.{Says}
+use Rattle.b67_layout.specs.Machine.{Says}
 use Rattle.b67_overlay.specs.declared.spans.Span.{Span}
 
 -- a live task's job, and the slots of its parents from the nearest up

@@ -5,7 +5,7 @@ ghost use Rattle.b67_backing.specs.declared.SpaceFault.TheVariants.{NoCore, Back
 ghost use Rattle.b67_io.specs.Causes.{Rose};
 ghost use Rattle.b67_stack.specs.MachineView.{MachineView};
 ghost use Rattle.b67_stack.specs.Represents.{Storage};
-ghost use Rattle.b67_layout_storage.specs.Machine.{DeviceAfterCalls, PagingKeeps};
+ghost use Rattle.b67_layout.specs.Machine.{DeviceAfterCalls, PagingKeeps};
 ghost use Rattle.b67_overlay.specs.AreasEvicted.{Claims};
 ghost use Rattle.b67_overlay.specs.Spans.{MachineCanPage};
 

@@ -10,7 +10,7 @@ ghost use Rattle.b67_stack.specs.Shapes.{Location};
 ghost use Rattle.b67_stack.specs.MachineView.{PagedObject, MachineView, home_desc, home_word_of};
 ghost use Rattle.b67_stack.specs.Represents.{Storage, Represents, info_of};
 ghost use Rattle.b67_stack.specs.HeldOtherwise.{LowWordsStayed};
-ghost use Rattle.b67_layout_storage.specs.Machine.{IsPresent, DeviceAfterCalls, PagingKeeps};
+ghost use Rattle.b67_layout.specs.Machine.{IsPresent, DeviceAfterCalls, PagingKeeps};
 ghost use Rattle.b67_overlay.specs.Turns.{Hides};
 ghost use Rattle.b67_overlay.specs.Overlaid.{overlaid, dropped, IsOut};
 ghost use Rattle.b67_overlay.specs.AreasEvicted.{Overlays};

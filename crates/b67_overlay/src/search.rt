@@ -4,7 +4,7 @@ ghost use Rattle.std.specs.Prelude.{◌≡◌, ◌⊎◌, ℕ, ◌+◌, ◌^◌,
 ghost use Rattle.b67_stack.specs.Stacks.{stack_words};
 ghost use Rattle.b67_stack.specs.MachineView.{PagedObject, MachineView, slot_base, stack_of};
 ghost use Rattle.b67_stack.specs.Represents.{Storage, Represents};
-ghost use Rattle.b67_layout_storage.specs.Machine.{IsPresent};
+ghost use Rattle.b67_layout.specs.Machine.{IsPresent};
 ghost use Rattle.b67_overlay.specs.Turns.{MakesAbsent, TurnsAt, Searched, SpansTurned, Lies};
 ghost use Rattle.b67_overlay.specs.Spans.{Families, ShowsFamilies, InSpan, CopiesLie};
 

@@ -6,7 +6,7 @@ ghost use Rattle.b67_backing.specs.Shelf.{Shelf, IsShelf, HasChain};
 ghost use Rattle.b67_backing.specs.Held.{sectors_for};
 ghost use Rattle.b67_backing.specs.declared.SpaceFault.TheVariants.{NoCore, BackingFull, BackingFault};
 ghost use Rattle.b67_io.specs.Causes.{Rose};
-ghost use Rattle.b67_layout_storage.specs.Machine.{DeviceAfterCalls};
+ghost use Rattle.b67_layout.specs.Machine.{DeviceAfterCalls};
 ghost use Rattle.b67_overlay.specs.Written.{IsPieceOf, WritesOut};
 
 use b67_backing::{Backing, Sectors, SpaceFault, sectors_needed};

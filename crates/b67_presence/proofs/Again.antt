@@ -5,7 +5,7 @@ use Rattle.b67_backing.specs.Shelf.{Table}
 use Rattle.b67_model.specs.Schedule.{Session}
 use Rattle.b67_stack.specs.declared.Cpu.{Cpu}
 use Rattle.b67_stack.specs.Common.{MachineView, NoOriginalAboveTop, Storage, Represents, LowWordsStayed}
-use Rattle.b67_layout_storage.specs.Machine.{Says, content_after}
+use Rattle.b67_layout.specs.Machine.{Says, content_after}
 use Rattle.b67_overlay.specs.Spans.{MachineCanPage}
 use Rattle.b67_layout.specs.Common.{IsInOrderButCounts, Placement, machine_view, RepresentsSession}
 use Rattle.b67_layout_spans.proofs.Sessions.{copies_of}

@@ -4,7 +4,7 @@ use Rattle.std.proofs.lemmas.Option.{none-some}
 use Rattle.b67_area.specs.declared.Info.{Info}
 use Rattle.b67_area.specs.Spans.{Span, Area, Hole, end, area_at}
 use Rattle.b67_area.proofs.Walks.{low_end}
-use Rattle.b67_layout_storage.specs.Machine.{HasHole}
+use Rattle.b67_layout.specs.Machine.{HasHole}
 
 area_fits : (at : ℕ) (ss : List Span) (x : ℕ) (a : Info) → area_at at ss x ≡ Some a → at + (a.words + 2) ≤ end at ss
 area_fits at [] x a e = absurd (none-some _ e)

@@ -11,7 +11,7 @@ use Rattle.b67_backing.specs.Shelf.{Shelf, Table, HasChain, chain_of}
 use Rattle.b67_backing.specs.Held.{AreTagged, Tells, sectors_for, under, Holds}
 use Rattle.b67_stack.specs.declared.Cpu.{Cpu}
 use Rattle.b67_stack.specs.Common.{LieUpward, PagedObject, MachineView, object_words, tag_of, AreZero, Storage, Content, AbsentContent, HoldsIn, Told}
-use Rattle.b67_layout_storage.specs.Machine.{Says, IsAbsent, AreBits}
+use Rattle.b67_layout.specs.Machine.{Says, IsAbsent, AreBits}
 use Rattle.b67_overlay.specs.Spans.{MachineCanPage}
 use Rattle.b67_presence.specs.declared.paging.AbsentObject.{AbsentObject}
 use Rattle.b67_presence.specs.Brought.{Loaded, resting, NumbersAreKnown}

@@ -11,7 +11,7 @@ use Rattle.b67_ctl.specs.Descriptors.{data_word, seg_word, IsDataDesc, IsSegDesc
 use Rattle.b67_area.specs.declared.Kind.{Kind}
 use Rattle.b67_area.specs.declared.Kind.TheVariants.{Array, Row, Code}
 use Rattle.b67_stack.specs.Common.{at_rest, PagedObject, MachineView, home_desc, home_word_of, Storage, Represents}
-use Rattle.b67_layout_storage.specs.Machine.{IsAbsent}
+use Rattle.b67_layout.specs.Machine.{IsAbsent}
 use Rattle.b67_stack.proofs.Unchanged.{area_bounds}
 use Rattle.b67_presence.specs.declared.paging.AbsentObject.{AbsentObject}
 use Rattle.b67_presence.specs.Brings.{IsCode}

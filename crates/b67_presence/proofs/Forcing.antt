@@ -8,7 +8,7 @@ use Rattle.b67_area.proofs.Laws.{area_inside}
 use Rattle.b67_backing.specs.Shelf.{Table}
 use Rattle.b67_stack.specs.declared.Cpu.{Cpu}
 use Rattle.b67_stack.specs.Common.{Location, PagedObject, MachineView, Storage}
-use Rattle.b67_layout_storage.specs.Machine.{IsAbsent, HasHole}
+use Rattle.b67_layout.specs.Machine.{IsAbsent, HasHole}
 use Rattle.b67_overlay.specs.Spans.{MachineCanPage}
 use Rattle.b67_stack.proofs.Helds.{held-same, held-other}
 use Rattle.b67_overlay.specs.AreasEvicted.{AreasEvicted}

@@ -10,10 +10,10 @@ use Rattle.b67_backing.specs.Shelf.{Table}
 use Rattle.b67_ctl.specs.declared.registers.Regs.{Regs}
 use Rattle.b67_stack.specs.declared.Cpu.{Cpu}
 use Rattle.b67_stack.specs.Common.{LieUpward, PagedObject, MachineView, home_word_of, object_words, Storage, Represents, LowWordsStayed, renumbered, with_held}
-use Rattle.b67_layout_storage.specs.Machine.{Says, IsAbsent, AreBits}
+use Rattle.b67_layout.specs.Machine.{Says, IsAbsent, AreBits}
 use Rattle.b67_overlay.specs.Spans.{CopiesLie, MachineCanPage}
 use Rattle.b67_overlay.proofs.Copies.{copies_stay, copies_objects}
-use Rattle.b67_layout_storage.proofs.Renumbered.{Represents-renumbered, there_renumbered, renumbered-same}
+use Rattle.b67_layout.proofs.Renumbered.{Represents-renumbered, there_renumbered, renumbered-same}
 use Rattle.b67_presence.specs.declared.paging.AbsentObject.{AbsentObject}
 use Rattle.b67_presence.specs.Brought.{Loaded, brought, resting, NumbersAreKnown, IsSpot}
 use Rattle.b67_presence.proofs.Contents.{known_words, some_words}

@@ -18,12 +18,12 @@ use Rattle.b67_ctl.specs.declared.registers.Regs.{Regs}
 use Rattle.b67_backing.specs.Held.{OnlyWords}
 use Rattle.b67_stack.specs.Common.{Location, LieUpward, PagedObject, MachineView, slot_base, home_word_of, object_words, tag_of, AreZero, Storage, Content, KeptChain, AbsentContent, HoldsIn, info_of, Represents, LowWordsStayed, ChainStays}
 use Rattle.b67_stack.proofs.Lies.{Upward-same}
-use Rattle.b67_layout_storage.specs.Machine.{IsAbsent}
-use Rattle.b67_layout_storage.proofs.Below.{stacks_low, not_heads}
+use Rattle.b67_layout.specs.Machine.{IsAbsent}
+use Rattle.b67_layout.proofs.Below.{stacks_low, not_heads}
 use Rattle.b67_stack.proofs.Unchanged.{area_of_object, home_below, slot_below, base_low, Represents-core}
 use Rattle.b67_stack.proofs.Reheld.{Reheld, Keeps-stays, storage_with, info_with, Represents-reheld}
-use Rattle.b67_layout_storage.proofs.Words.{StacksLie-home, original_word}
-use Rattle.b67_layout_storage.proofs.Holes.{without_fill, place_spot}
+use Rattle.b67_layout.proofs.Words.{StacksLie-home, original_word}
+use Rattle.b67_layout.proofs.Holes.{without_fill, place_spot}
 use Rattle.b67_presence.specs.declared.paging.AbsentObject.{AbsentObject}
 use Rattle.b67_presence.specs.Brought.{brought, resting}
 use Rattle.b67_presence.proofs.Descriptors.{rest_here}

@@ -10,10 +10,10 @@ use Rattle.b67_stack.specs.declared.Cpu.{Cpu}
 use Rattle.b67_stack.specs.declared.What.{What}
 use Rattle.b67_stack.specs.declared.What.TheVariants as what
 use Rattle.b67_stack.specs.Common.{Location, PagedObject, Storage, LowWordsStayed}
-use Rattle.b67_layout_storage.specs.Machine.{IsAbsent, HasHole}
+use Rattle.b67_layout.specs.Machine.{IsAbsent, HasHole}
 use Rattle.b67_overlay.specs.Spans.{MachineCanPage}
 use Rattle.b67_stack.proofs.Helds.{held-other}
-use Rattle.b67_layout_storage.proofs.Below.{Stayed-none}
+use Rattle.b67_layout.proofs.Below.{Stayed-none}
 use Rattle.b67_overlay.specs.AreasEvicted.{AreasEvicted, IsShortBy}
 use Rattle.b67_overlay.proofs.Shedding.{AreasEvicted-none}
 use Rattle.b67_exec_cells.specs.Running.{code_area}

@@ -13,13 +13,13 @@ use Rattle.b67_ctl.specs.declared.registers.Regs.{Regs}
 use Rattle.b67_lemmas.specs.Lists.{Has}
 use Rattle.b67_stack.specs.declared.Cpu.{Cpu}
 use Rattle.b67_stack.specs.Common.{Location, PagedObject, MachineView, Storage, Represents, info_of, LowWordsStayed}
-use Rattle.b67_layout_storage.specs.Machine.{IsAbsent, IsPresent, HasHole, AreBits}
-use Rattle.b67_layout_storage.proofs.Untold.{untold, Represents-untold}
+use Rattle.b67_layout.specs.Machine.{IsAbsent, IsPresent, HasHole, AreBits}
+use Rattle.b67_layout.proofs.Untold.{untold, Represents-untold}
 use Rattle.b67_overlay.specs.Spans.{MachineCanPage}
 use Rattle.b67_stack.proofs.Helds.{held-same, held-other}
-use Rattle.b67_layout_storage.proofs.Renumbered.{renumbered-same, kept_there, Stayed-renumbered}
+use Rattle.b67_layout.proofs.Renumbered.{renumbered-same, kept_there, Stayed-renumbered}
 use Rattle.b67_overlay.specs.Overlaid.{overlaid, chain_out}
-use Rattle.b67_layout_storage.proofs.Retold.{retold-same}
+use Rattle.b67_layout.proofs.Retold.{retold-same}
 use Rattle.b67_presence.specs.Brought.{brought}
 use Rattle.b67_presence.specs.Brings.{IsReadable, ReadBack, ReadIn, IsCode, BothIn, MayWait, need_both, IsAlone}
 use Rattle.b67_presence.proofs.Beside.{both_fit}

@@ -5,7 +5,7 @@ use Rattle.b67_word.specs.Tagged.{Tagged}
 use Rattle.b67_area.specs.declared.Info.{Info}
 use Rattle.b67_area.specs.Spans.{Span, Area, Hole, area_at, fill, keeping, left, end}
 use Rattle.b67_area.specs.Directory.{IsDirectory, AreSpans}
-use Rattle.b67_layout_storage.specs.Machine.{HasHole}
+use Rattle.b67_layout.specs.Machine.{HasHole}
 
 -- a directory without an area is one hole
 pub one_hole : (core : List Tagged) (low : ℕ) (ss : List Span) → IsDirectory core low ss → ((b : ℕ) (i : Info) → area_at low ss b ≡ Some i → ⊥) → low < length core → (m : ℕ) × (ss ≡ Hole m ∷ []) × (low + m ≡ length core)

@@ -11,7 +11,7 @@ use Rattle.b67_layout.specs.Common.{JobInOrderButCounts, IsInOrderButCounts, Pla
 use Rattle.b67_law.specs.Weaker.{AllOtherNumbers}
 use Rattle.b67_layout_step.proofs.OtherNumbers.{others_in_order}
 use Rattle.b67_stack.specs.Common.{PagedObject, MachineView, NoOriginalAboveTop, Storage, Represents, renumbered}
-use Rattle.b67_layout_storage.specs.Machine.{AreBits}
+use Rattle.b67_layout.specs.Machine.{AreBits}
 use Rattle.b67_layout_step.proofs.Renumbered.{member_with, others_from, Fitting, machine_view_renumbered, settled_renumbered}
 use Rattle.b67_presence.specs.Brings.{IsReadable, ReadBack}
 use Rattle.b67_presence.proofs.Ways.{none_or}

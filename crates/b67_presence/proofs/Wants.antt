@@ -11,7 +11,7 @@ use Rattle.b67_stack.specs.declared.What.{What}
 use Rattle.b67_stack.specs.declared.What.TheVariants as what
 use Rattle.b67_stack.specs.MachineView.{PagedObject}
 use Rattle.b67_stack.specs.Represents.{Storage}
-use Rattle.b67_layout_storage.specs.Machine.{IsAbsent, HasHole}
+use Rattle.b67_layout.specs.Machine.{IsAbsent, HasHole}
 use Rattle.b67_layout.proofs.Fresh.{running_in_order}
 use Rattle.b67_exec_cells.proofs.Replaced.{array_object-has, member_objects, before}
 use Rattle.b67_exec_cells.specs.Running.{code_area}

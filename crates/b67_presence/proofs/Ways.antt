@@ -5,8 +5,8 @@ use Rattle.b67_backing.specs.Shelf.{Table}
 use Rattle.b67_lemmas.specs.Lists.{Has}
 use Rattle.b67_stack.specs.declared.Cpu.{Cpu}
 use Rattle.b67_stack.specs.Common.{Location, PagedObject, MachineView, Storage, Represents, renumbered}
-use Rattle.b67_layout_storage.specs.Machine.{IsAbsent, AreBits}
-use Rattle.b67_layout_storage.proofs.Renumbered.{renumbered-same}
+use Rattle.b67_layout.specs.Machine.{IsAbsent, AreBits}
+use Rattle.b67_layout.proofs.Renumbered.{renumbered-same}
 use Rattle.b67_overlay.specs.AreasEvicted.{AreasEvicted}
 use Rattle.b67_overlay.proofs.Shedding.{AreasEvicted-then}
 use Rattle.b67_presence.specs.Brings.{IsReadable, ReadBack, ReadIn, PagesIn, PlacedAfterEviction, StandsEvicted}

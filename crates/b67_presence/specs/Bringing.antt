@@ -11,7 +11,7 @@ use Rattle.b67_law.specs.Weaker.{AllOtherNumbers}
 use Rattle.b67_task_tables.specs.declared.tables.Machine.{Machine}
 use Rattle.b67_task_tables.specs.Tables.{MachineRepresents}
 pub use Rattle.b67_task_tables.specs.Shortage.{IsShortOf}
-use Rattle.b67_layout_storage.specs.Machine.{Says, HasHole, content_after}
+use Rattle.b67_layout.specs.Machine.{Says, HasHole, content_after}
 use Rattle.b67_backing.specs.Held.{Becomes}
 use Rattle.b67_backing.specs.declared.SpaceFault.{SpaceFault}
 use Rattle.b67_backing.specs.declared.SpaceFault.TheVariants.{NoCore, BackingFull}

@@ -11,7 +11,7 @@ use Rattle.b67_backing.specs.declared.SpaceFault.TheVariants.{NoCore, BackingFul
 use Rattle.b67_lemmas.specs.Lists.{Has}
 use Rattle.b67_stack.specs.declared.Cpu.{Cpu}
 use Rattle.b67_stack.specs.Common.{PagedObject, MachineView, Storage, LowWordsStayed, renumbered}
-use Rattle.b67_layout_storage.specs.Machine.{AreBits, HasHole}
+use Rattle.b67_layout.specs.Machine.{AreBits, HasHole}
 use Rattle.b67_overlay.specs.Spans.{MachineCanPage}
 use Rattle.b67_overlay.specs.Overlaid.{overlaid}
 use Rattle.b67_overlay.specs.AreasEvicted.{AreasEvicted, IsShortBy}

@@ -6,7 +6,7 @@ use Rattle.b67_area.specs.Spans.{address, spot, fill, fresh, keeping}
 use Rattle.b67_backing.specs.Shelf.{Table, Shelf, HasChain, chain_of}
 use Rattle.b67_backing.specs.Held.{AreTagged, Holds, sectors_for, under}
 use Rattle.b67_stack.specs.Common.{PagedObject, Storage, tag_of, with_held}
-use Rattle.b67_layout_storage.specs.Machine.{AreBits}
+use Rattle.b67_layout.specs.Machine.{AreBits}
 use Rattle.b67_presence.specs.declared.paging.AbsentObject.{AbsentObject}
 
 -- the storage with an absent object in an area at that address: the front of the lowest hole with room for it

@@ -6,7 +6,7 @@ ghost use Rattle.b67_ctl.specs.declared.registers.Regs.{Regs};
 ghost use Rattle.b67_io.specs.Causes.{Rose};
 ghost use Rattle.b67_stack.specs.MachineView.{PagedObject, MachineView};
 ghost use Rattle.b67_stack.specs.Represents.{Storage, Represents};
-ghost use Rattle.b67_layout_storage.specs.Machine.{IsAbsent, DeviceAfterCalls, PagingKeeps, HasHole};
+ghost use Rattle.b67_layout.specs.Machine.{IsAbsent, DeviceAfterCalls, PagingKeeps, HasHole};
 ghost use Rattle.b67_overlay.specs.Spans.{MachineCanPage};
 ghost use Rattle.b67_overlay.specs.AreasEvicted.{IsShortBy};
 ghost use Rattle.b67_presence.specs.Brings.{StandsEvicted, IsCode, need_one, need_both, IsAlone, FoundHole, NoHoleStill, PlacesInRoom, PlacesBoth, FailsByDevice, ForcesCode, BringsCode, BringsData};

@@ -8,7 +8,7 @@ ghost use Rattle.b67_io.specs.Causes.{HasCause, Rose};
 ghost use Rattle.b67_ctl.specs.declared.registers.Regs.{Regs};
 ghost use Rattle.b67_stack.specs.MachineView.{PagedObject, MachineView, home_word_of, tag_of};
 ghost use Rattle.b67_stack.specs.Represents.{Storage, Represents};
-ghost use Rattle.b67_layout_storage.specs.Machine.{IsAbsent, DeviceAfterReads, PagingKeeps};
+ghost use Rattle.b67_layout.specs.Machine.{IsAbsent, DeviceAfterReads, PagingKeeps};
 ghost use Rattle.b67_overlay.specs.Spans.{MachineCanPage};
 ghost use Rattle.b67_presence.specs.declared.paging.PagingRefusal.TheVariants.{NoHole, BackingFault};
 ghost use Rattle.b67_presence.specs.Brought.{resting, FillsArea};

@@ -7,7 +7,7 @@ ghost use Rattle.b67_backing.specs.declared.SpaceFault.TheVariants.{NoCore, Back
 ghost use Rattle.b67_io.specs.Causes.{Rose};
 ghost use Rattle.b67_stack.specs.MachineView.{PagedObject, MachineView};
 ghost use Rattle.b67_stack.specs.Represents.{Storage};
-ghost use Rattle.b67_layout_storage.specs.Machine.{IsAbsent, IsPresent, DeviceAfterCalls, PagingKeeps};
+ghost use Rattle.b67_layout.specs.Machine.{IsAbsent, IsPresent, DeviceAfterCalls, PagingKeeps};
 ghost use Rattle.b67_overlay.specs.Spans.{MachineCanPage};
 ghost use Rattle.b67_presence.specs.Brings.{EvictsArea, EvictsSome, MakesWay, PointsAtArea};
 

@@ -2,8 +2,8 @@
 use Rattle.std.proofs.Common.{◌≡◌, ◌≢◌, ◌⊎◌, inl, inr, ℕ, ◌+◌, List, [], ◌∷◌, length, Option, Some, None, Ok, Err, refl, sym, ap, ◌∙◌, subst}
 use Rattle.b67_lemmas.specs.Lists.{Has}
 use Rattle.b67_model.specs.Common.{Session, after}
-use Rattle.b67_layout_storage.specs.Machine.{content_after}
-use Rattle.b67_layout_storage.proofs.Devices.{says_self}
+use Rattle.b67_layout.specs.Machine.{content_after}
+use Rattle.b67_layout.proofs.Devices.{says_self}
 use Rattle.b67_session_lines.proofs.Statuses.{after-add}
 use denote.Ref.{Bor}
 use Rattle.b67_job_admit.specs.Admitting.{Prepared, deck_prepared}

@@ -2,7 +2,7 @@
 use Rattle.std.proofs.Common.{ℕ, List, length, Option, Result, Ok, Err, inl, inr}
 use Rattle.b67_model.specs.Common.{Task, SessionJob, StepResult, IsInOrderButPlaces, Session}
 use Rattle.b67_law.specs.Turns.{IsNext}
-use Rattle.b67_layout_storage.specs.Machine.{Says}
+use Rattle.b67_layout.specs.Machine.{Says}
 use Rattle.b67_task_tables.specs.declared.tables.Machine.{Machine}
 use Rattle.b67_session.specs.AttemptPassed.{AreCountable}
 use Rattle.b67_session.specs.AttemptStops.{Stop}

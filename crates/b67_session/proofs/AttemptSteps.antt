@@ -5,7 +5,7 @@ use Rattle.b67_model.specs.declared.operators.Op.{Op}
 use Rattle.b67_model.specs.Common.{Frame, Task, Job, SessionJob, top, Line, Goes, is_critical, row, Session, IsSegment, called}
 use Rattle.b67_layout.specs.Common.{IsInOrderButCounts, Placement, IsRunning, here}
 use Rattle.b67_layout.proofs.Common.{running_in_order, critical-below, fresh, IsDependedOn}
-use Rattle.b67_layout_records.proofs.Leaves.{depended_apart}
+use Rattle.b67_layout.proofs.Leaves.{depended_apart}
 use Rattle.b67_session.proofs.Places.{AllSame}
 use Rattle.b67_session.proofs.Keeps.{row_keeps}
 

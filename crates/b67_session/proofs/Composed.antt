@@ -9,7 +9,7 @@ use Rattle.b67_layout.specs.Common.{IsInOrderButCounts, Placement, IsRunning}
 use Rattle.b67_stack.specs.declared.What.{What}
 use Rattle.b67_stack.specs.declared.What.TheVariants as what
 use Rattle.b67_stack.specs.Common.{Location, Storage}
-use Rattle.b67_layout_storage.specs.Machine.{Says, HasHole, content_after}
+use Rattle.b67_layout.specs.Machine.{Says, HasHole, content_after}
 use Rattle.b67_exec_cells.specs.Running.{code_area}
 use Rattle.b67_layout_step.proofs.OtherNumbers.{others_in_order}
 use Rattle.b67_task_tables.specs.declared.tables.TaskState.{TaskState}

@@ -7,7 +7,7 @@ use Rattle.b67_model.specs.Common.{SessionJob, Task, Session, StepResult, next, 
 use Rattle.b67_law.proofs.RunSessions.{sessions_stay_in_order_but_places}
 use Rattle.b67_law.specs.Turns.{IsNext}
 use Rattle.b67_session_lines.proofs.Statuses.{over-stays}
-use Rattle.b67_layout_storage.specs.Machine.{Says, DeviceAfterCalls}
+use Rattle.b67_layout.specs.Machine.{Says, DeviceAfterCalls}
 use Rattle.b67_task_tables.specs.declared.tables.TaskRow.{TaskRow}
 use Rattle.b67_task_tables.specs.declared.tables.Machine.{Machine}
 use Rattle.b67_task_tables.proofs.Keeping.{halt_kept, countable_kept}

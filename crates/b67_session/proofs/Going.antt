@@ -11,7 +11,7 @@ use Rattle.b67_task_switch.proofs.Rooms.{none_ready}
 use Rattle.b67_task_switch.proofs.ReadyTasks.{of_tasks}
 use Rattle.b67_session_lines.specs.Moments.{first_part, due}
 use Rattle.b67_session_lines.proofs.Statuses.{after-add}
-use Rattle.b67_layout_storage.specs.Machine.{Says}
+use Rattle.b67_layout.specs.Machine.{Says}
 use Rattle.b67_law.proofs.TurnRuns.{Came, came-none, came-more}
 use Rattle.b67_task_tables.specs.declared.tables.TaskRow.{TaskRow}
 use Rattle.b67_task_tables.specs.declared.tables.Machine.{Machine}

@@ -7,7 +7,7 @@ use Rattle.b67_model_text.specs.declared.deck.Deck.{Deck}
 use Rattle.b67_model.specs.Common.{Session, IsInOrderButPlaces}
 use Rattle.b67_law.proofs.Opens.{opens_in_order}
 use Rattle.b67_law.proofs.Sessions.{starts_are_segments}
-use Rattle.b67_layout_storage.specs.Machine.{content_after, Says}
+use Rattle.b67_layout.specs.Machine.{content_after, Says}
 use Rattle.b67_task_tables.specs.declared.tables.TaskRow.{TaskRow}
 use Rattle.b67_task_tables.specs.declared.tables.Machine.{Machine}
 use Rattle.b67_task_tables.specs.Tables.{switch_of, AreCountable}

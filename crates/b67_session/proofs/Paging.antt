@@ -1,7 +1,7 @@
 -- Steps that were made one by one.
 use Rattle.std.proofs.Common.{◌≡◌, ◌≢◌, ℕ, ◌+◌, List, [], ◌∷◌, length, Option, None, Result, Ok, Err, inl, inr, refl, sym, ap, ◌∙◌, subst}
-use Rattle.b67_layout_storage.specs.Machine.{Says, content_after}
-use Rattle.b67_layout_storage.proofs.Retold.{retold-same}
+use Rattle.b67_layout.specs.Machine.{Says, content_after}
+use Rattle.b67_layout.proofs.Retold.{retold-same}
 use Rattle.b67_model.specs.Common.{RunLine, Session, after}
 use Rattle.b67_law.proofs.TurnRuns.{Came, came-none, came-more}
 use Rattle.b67_task_tables.specs.declared.tables.Machine.{Machine}

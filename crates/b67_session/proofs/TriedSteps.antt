@@ -6,7 +6,7 @@ use Rattle.b67_model.specs.Common.{Stepped, ends_with, StepResult, Condition, Ta
 use Rattle.b67_law.specs.Turns.{IsNext, part_of}
 use Rattle.b67_stack.specs.declared.What.{What}
 use Rattle.b67_stack.specs.Represents.{Storage}
-use Rattle.b67_layout_storage.specs.Machine.{Says, content_after}
+use Rattle.b67_layout.specs.Machine.{Says, content_after}
 use Rattle.b67_layout.specs.Placement.{Placement}
 use Rattle.b67_exec_cells.specs.Running.{code_area}
 use Rattle.b67_task_tables.specs.declared.tables.TaskState.{TaskState}

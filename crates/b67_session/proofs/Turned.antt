@@ -9,7 +9,7 @@ use Rattle.b67_law.proofs.Sessions.{other_numbers_keep_order}
 use Rattle.b67_law.specs.Turns.{IsNext}
 use Rattle.b67_law.proofs.Choices.{chosen_tasks_are_ready}
 use Rattle.b67_stack.specs.Represents.{Storage}
-use Rattle.b67_layout_storage.specs.Machine.{Says, content_after}
+use Rattle.b67_layout.specs.Machine.{Says, content_after}
 use Rattle.b67_layout.specs.Common.{IsInOrderButCounts, Placement, RunningRow, IsRunning}
 use Rattle.b67_layout.specs.Rows as rows
 use Rattle.b67_layout.proofs.Weaker.{but_counts}

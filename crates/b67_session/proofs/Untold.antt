@@ -2,7 +2,7 @@
 use Rattle.std.proofs.Common.{ℕ, List, Option, None, arith}
 use Rattle.b67_model.specs.Schedule.{Session}
 use Rattle.b67_stack.specs.Represents.{Storage}
-use Rattle.b67_layout_storage.proofs.Untold.{untold}
+use Rattle.b67_layout.proofs.Untold.{untold}
 use Rattle.b67_layout.specs.Common.{Placement}
 use Rattle.b67_task_tables.specs.declared.tables.Machine.{Machine}
 use Rattle.b67_task_tables.specs.Tables.{MachineRepresents}

@@ -5,7 +5,7 @@ use Rattle.b67_word.specs.declared.faults.Ending.TheVariants.{Faulted}
 use Rattle.b67_word.specs.declared.faults.Fault.TheVariants.{InvalidOperator}
 use Rattle.b67_lemmas.specs.Lists.{Has}
 use Rattle.b67_backing.specs.Held.{Becomes}
-use Rattle.b67_layout_storage.specs.Machine.{HasHole, DeviceAfterCalls}
+use Rattle.b67_layout.specs.Machine.{HasHole, DeviceAfterCalls}
 use Rattle.b67_task_need.specs.Needing.{need_with}
 use Rattle.b67_model.specs.declared.intrinsics.TheConstants.{PROCESS}
 use Rattle.b67_model.specs.Common.{Array, Ready, Task, Job, SessionJob, code_of, sectors, touched_of, need, step, Session}

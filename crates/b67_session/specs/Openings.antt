@@ -1,6 +1,6 @@
 -- On which machines a slice may be called.
 use Rattle.std.specs.Prelude.{ℕ, List, Option}
-use Rattle.b67_layout_storage.specs.Machine.{Says}
+use Rattle.b67_layout.specs.Machine.{Says}
 use Rattle.b67_model.specs.Common.{Session}
 use Rattle.b67_task_tables.specs.declared.tables.Machine.{Machine}
 use Rattle.b67_task_tables.specs.Tables.{AreCountable}

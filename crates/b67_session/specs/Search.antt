@@ -8,7 +8,7 @@ use Rattle.b67_law.specs.Turns.{IsNext}
 use Rattle.b67_task_tables.specs.declared.tables.Tasks.{Tasks}
 use Rattle.b67_task_tables.specs.declared.tables.Machine.{Machine}
 use Rattle.b67_io.specs.Causes.{Rose}
-use Rattle.b67_layout_storage.specs.Machine.{DeviceAfterCalls}
+use Rattle.b67_layout.specs.Machine.{DeviceAfterCalls}
 use Rattle.b67_session.specs.AttemptStops.{Stop}
 use Rattle.b67_session.specs.AttemptStops as stops
 use Rattle.b67_session.specs.Slices.{IsOpen, Keeps, Slices, StepsFit}

@@ -9,7 +9,7 @@ use Rattle.b67_session_lines.specs.Moments.{first_part, last_part, due}
 use Rattle.b67_lemmas.specs.Lists.{Has}
 use Rattle.b67_stack.specs.MachineView.{PagedObject}
 use Rattle.b67_stack.specs.Represents.{Storage}
-use Rattle.b67_layout_storage.specs.Machine.{Says, content_after}
+use Rattle.b67_layout.specs.Machine.{Says, content_after}
 use Rattle.b67_layout.specs.Common.{Placement, machine_view, objects_gone}
 use Rattle.b67_exec_cells.specs.Called.{called_in}
 use Rattle.b67_exec_cells.specs.Running.{code_area}

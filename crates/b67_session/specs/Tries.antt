@@ -8,7 +8,7 @@ use Rattle.b67_model.specs.Common.{Array, Ready, Task, Job, SessionJob, Leaves, 
 use Rattle.b67_stack.specs.declared.What.{What}
 use Rattle.b67_stack.specs.declared.What.TheVariants as what
 use Rattle.b67_stack.specs.Represents.{Storage}
-use Rattle.b67_layout_storage.specs.Machine.{Says, content_after}
+use Rattle.b67_layout.specs.Machine.{Says, content_after}
 use Rattle.b67_layout.specs.Common.{Placement, objects_gone}
 use Rattle.b67_exec_cells.specs.Called.{called_in}
 use Rattle.b67_task_release.specs.Released.{HasHome}

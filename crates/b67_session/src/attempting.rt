@@ -1,7 +1,7 @@
 //! The next operator, with what it wants brought into core.
 
 ghost use Rattle.std.specs.Prelude.{◌≡◌, ◌≢◌, ◌+◌, length};
-ghost use Rattle.b67_layout_storage.specs.Machine.{DeviceAfterCalls, content_after};
+ghost use Rattle.b67_layout.specs.Machine.{DeviceAfterCalls, content_after};
 ghost use Rattle.b67_mcp.specs.Running.{JobsHaveRoom, CallCauses, Keeps};
 ghost use Rattle.b67_stack.specs.declared.Step.TheVariants.{Done};
 ghost use Rattle.b67_exec.specs.Near.{StopsHere};

@@ -5,7 +5,7 @@ ghost use Rattle.std.specs.Result.{IsOk};
 ghost use Rattle.b67_io.specs.Causes.{Rose, Stayed};
 ghost use Rattle.b67_model.specs.Schedule.{Session};
 ghost use Rattle.b67_model.specs.Run.{after};
-ghost use Rattle.b67_layout_storage.specs.Machine.{Says, DeviceAfterCalls, content_after};
+ghost use Rattle.b67_layout.specs.Machine.{Says, DeviceAfterCalls, content_after};
 ghost use Rattle.b67_stack.specs.declared.Step.TheVariants.{Done};
 ghost use Rattle.b67_exec.specs.Near.{StopsHere};
 ghost use Rattle.b67_session.specs.AttemptStops.{Stop};

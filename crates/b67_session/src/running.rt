@@ -7,7 +7,7 @@ ghost use Rattle.b67_model.specs.Run.{StepResult};
 ghost use Rattle.b67_model.specs.Schedule as schedule;
 ghost use Rattle.b67_io.specs.Causes.{Stayed};
 ghost use Rattle.b67_law.specs.Turns.{IsNext};
-ghost use Rattle.b67_layout_storage.specs.Machine.{Says, content_after};
+ghost use Rattle.b67_layout.specs.Machine.{Says, content_after};
 ghost use Rattle.b67_session.specs.Complete.{SetsOut, Suffices};
 ghost use Rattle.b67_session.specs.Slices.{IsOpen, StandsAt, IsLimited, RepresentsWithoutTasks, Slices, IfPresent, Resumes, StaysEnded};
 ghost use Rattle.b67_session.specs.Shaped.{SliceLeaves};

@@ -5,7 +5,7 @@ ghost use Rattle.std.specs.Result.{IsOk};
 ghost use Rattle.b67_model.specs.State.{Task, SessionJob};
 ghost use Rattle.b67_model.specs.Schedule.{Session};
 ghost use Rattle.b67_io.specs.Causes.{Stayed};
-ghost use Rattle.b67_layout_storage.specs.Machine.{Says, content_after};
+ghost use Rattle.b67_layout.specs.Machine.{Says, content_after};
 ghost use Rattle.b67_session.specs.Attempts.{TryLeaves};
 ghost use Rattle.b67_model.specs.Run.{StepResult};
 ghost use Rattle.b67_law.specs.Turns.{IsNext};

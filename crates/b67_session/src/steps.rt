@@ -4,7 +4,7 @@ ghost use Rattle.std.specs.Prelude.{◌≡◌, ◌≢◌, ℕ, ◌+◌, ◌≤�
 ghost use Rattle.b67_model.specs.Endings.{ends_with};
 ghost use Rattle.b67_model.specs.State.{Condition, Task, SessionJob};
 ghost use Rattle.b67_model.specs.Schedule.{Session};
-ghost use Rattle.b67_layout_storage.specs.Machine.{Says, content_after};
+ghost use Rattle.b67_layout.specs.Machine.{Says, content_after};
 ghost use Rattle.b67_io.specs.Causes.{Rose, HasCause};
 ghost use Rattle.b67_law.specs.Orders.{IsInOrderButLimit};
 ghost use Rattle.b67_law.specs.Turns.{IsNext, part_of};

@@ -1,7 +1,7 @@
 //! One try at the next operator.
 
 ghost use Rattle.std.specs.Prelude.{◌≡◌, ◌+◌, length};
-ghost use Rattle.b67_layout_storage.specs.Machine.{DeviceAfterCalls};
+ghost use Rattle.b67_layout.specs.Machine.{DeviceAfterCalls};
 ghost use Rattle.b67_exec.specs.Near.{StopsHere};
 ghost use Rattle.b67_task_tables.specs.Runs.{Keeps};
 ghost use Rattle.b67_mcp.specs.Running.{JobsHaveRoom, CallCauses};

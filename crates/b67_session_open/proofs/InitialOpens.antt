@@ -19,7 +19,7 @@ use Rattle.b67_load.proofs.Shelves.{placed_object}
 use Rattle.b67_session_open.specs.Opened.{dictionaries, objects_from, opening_plan, programs_of}
 use Rattle.b67_session_open.specs.Words.{SlotsLie, HeadsLie, InstalledAll, LiesAroundDictionaries}
 use Rattle.b67_session_open.specs.Stored.{absent_storage}
-use Rattle.b67_layout_storage.specs.Machine.{content_after, DeviceAfterCalls}
+use Rattle.b67_layout.specs.Machine.{content_after, DeviceAfterCalls}
 use Rattle.b67_session_open.specs.InitialOpens.{Opens}
 use Rattle.b67_session_open.proofs.Heads.{heads_same}
 use Rattle.b67_session_open.proofs.Objects.{is_object, object_within, objects_long}

@@ -10,7 +10,7 @@ use Rattle.b67_load.specs.Objects.{sectors_of_objects}
 use Rattle.b67_load.specs.StoredObjects.{StoredObject, placed, stocked, DescriptorsStand, WritesFreeSectors}
 use Rattle.b67_load.proofs.Shelves.{Apart, placed_chain, placed_object}
 use Rattle.b67_session_open.specs.Stored.{sector_named, absent_storage}
-use Rattle.b67_layout_storage.specs.Machine.{content_after}
+use Rattle.b67_layout.specs.Machine.{content_after}
 use Rattle.b67_session_open.proofs.StoredChains.{first_apart, chain_found, no_zero, chain_begins, placed_length, placed_has, chain_placed, Alone, one_place}
 
 -- objects that were written, from sectors that were all free

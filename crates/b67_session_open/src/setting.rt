@@ -5,7 +5,7 @@ ghost use Rattle.b67_io.specs.Causes.{HasCause};
 ghost use Rattle.b67_backing.specs.Shelf.{Shelf, IsShelf};
 ghost use Rattle.b67_backing.specs.declared.refusals.SpaceFault.TheVariants.{BackingFault};
 ghost use Rattle.b67_codefile.specs.Meaning.{program_of};
-ghost use Rattle.b67_layout_storage.specs.Machine.{DeviceAfterCalls, content_after};
+ghost use Rattle.b67_layout.specs.Machine.{DeviceAfterCalls, content_after};
 ghost use Rattle.b67_lemmas.specs.Lists.{total};
 ghost use Rattle.b67_load.specs.Objects.{sectors_of_program};
 ghost use Rattle.b67_load.specs.StoredObjects.{stocked};

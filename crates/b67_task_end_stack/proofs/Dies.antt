@@ -10,7 +10,7 @@ use Rattle.b67_stack.specs.declared.Cpu.{Cpu}
 use Rattle.b67_stack.specs.Common.{stack_words, PagedObject, Slot, Free, stack_of, MachineView, slot_base, SlotFits, with_slot, Storage, Represents}
 use Rattle.b67_stack.proofs.Bases.{base-apart}
 use Rattle.b67_stack.proofs.Slots.{by_slot}
-use Rattle.b67_layout_storage.specs.Machine.{MachineRepresentsView}
+use Rattle.b67_layout.specs.Machine.{MachineRepresentsView}
 use Rattle.b67_layout.specs.Session.{with_objects}
 use Rattle.b67_layout.proofs.Objects.{SameObjects, Represents-objects}
 use Rattle.b67_task_release.specs.Released.{of_objects, AreLeft}

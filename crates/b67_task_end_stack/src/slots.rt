@@ -4,7 +4,7 @@ ghost use Rattle.std.specs.Prelude.{◌≡◌, ◌≢◌, ℕ, ◌+◌, ◌<◌,
 ghost use Rattle.b67_word.specs.Tagged.{word};
 ghost use Rattle.b67_stack.specs.MachineView.{PagedObject, MachineView};
 ghost use Rattle.b67_stack.specs.Represents.{Storage};
-ghost use Rattle.b67_layout_storage.specs.Machine.{MachineRepresentsView};
+ghost use Rattle.b67_layout.specs.Machine.{MachineRepresentsView};
 ghost use Rattle.b67_task_release.specs.Released.{HasHome, Released};
 ghost use Rattle.b67_model.specs.State.{SessionJob};
 ghost use Rattle.b67_model.specs.Schedule.{Session};

@@ -14,8 +14,8 @@ use Rattle.b67_law.proofs.Deaths.{IsClosed, ends_good}
 use Rattle.b67_stack.specs.declared.Cpu.{Cpu}
 use Rattle.b67_stack.specs.MachineView.{MachineView}
 use Rattle.b67_stack.specs.Represents.{Storage}
-use Rattle.b67_layout_storage.specs.Machine.{MachineRepresentsView}
-use Rattle.b67_layout_storage.proofs.Devices.{says_of}
+use Rattle.b67_layout.specs.Machine.{MachineRepresentsView}
+use Rattle.b67_layout.proofs.Devices.{says_of}
 use Rattle.b67_layout.specs.Common.{Placement, Slotted, slot_of, machine_view, IsInOrderButCounts, TaskShows, TablesShow, RowsFit, RepresentsCritical, RepresentsSession, RepresentsStorage}
 use Rattle.b67_layout.specs.Rows as rows
 use Rattle.b67_layout.proofs.Common.{job_in_order, with_course, finds, slot_below, task_row}

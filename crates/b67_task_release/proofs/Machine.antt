@@ -7,7 +7,7 @@ use Rattle.b67_backing.specs.Shelf.{Table, IsShelf}
 use Rattle.b67_ctl.specs.declared.descriptors.DataDesc.{DataDesc}
 use Rattle.b67_stack.specs.declared.Cpu.{Cpu}
 use Rattle.b67_stack.specs.Common.{Location, PagedObject, MachineView, Storage}
-use Rattle.b67_layout_storage.specs.Machine.{MachineRepresentsView}
+use Rattle.b67_layout.specs.Machine.{MachineRepresentsView}
 use Rattle.b67_task_release.specs.Released.{storage_released, without_chain, of_objects, Drops, LocatesArray, Vacated}
 use Rattle.b67_task_release.proofs.Dropped.{Represents-released}
 

@@ -16,10 +16,10 @@ use Rattle.b67_lemmas.proofs.Members.{has_append_cases, has_append_left, has_app
 use Rattle.b67_stack.specs.declared.Cpu.{Cpu}
 use Rattle.b67_stack.specs.Common.{Location, IsOriginal, nowhere, PagedObject, MachineView, Slot, SlotFits, is_present, address_or, home_desc, home_word_of, Storage, Represents, info_of}
 use Rattle.b67_stack.proofs.Homes.{same_desc, chain_small}
-use Rattle.b67_layout_storage.specs.Machine.{MachineRepresentsView}
+use Rattle.b67_layout.specs.Machine.{MachineRepresentsView}
 use Rattle.b67_stack.proofs.Helds.{held-other, held-same}
 use Rattle.b67_stack.proofs.Unchanged.{area_of_object, area_bounds}
-use Rattle.b67_layout_storage.proofs.Words.{original_of_home}
+use Rattle.b67_layout.proofs.Words.{original_of_home}
 use Rattle.b67_layout.specs.Session.{with_objects}
 use Rattle.b67_task_release.specs.Released.{storage_released, of_objects, Drops, LocatesArray, SameBelow, HasHome, Released, AreLeft, SomeRemain}
 use Rattle.b67_task_release.proofs.Dropped.{chains_other, chains_gone}

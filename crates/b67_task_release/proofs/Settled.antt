@@ -10,8 +10,8 @@ use Rattle.b67_stack.specs.declared.Cpu.{Cpu}
 use Rattle.b67_stack.specs.Common.{stack_words, PagedObject, MachineView, stack_of, slot_base, Storage, Represents}
 use Rattle.b67_stack.proofs.Bases.{base-apart}
 use Rattle.b67_stack.proofs.Slots.{running_slot}
-use Rattle.b67_layout_storage.specs.Machine.{MachineRepresentsView, Says}
-use Rattle.b67_layout_storage.proofs.Below.{not_heads}
+use Rattle.b67_layout.specs.Machine.{MachineRepresentsView, Says}
+use Rattle.b67_layout.proofs.Below.{not_heads}
 use Rattle.b67_layout.specs.Common.{Placement, machine_view, with_objects, RepresentsStorage}
 use Rattle.b67_layout.proofs.Common.{runs_on, AllAlike, RepresentsSession-over}
 use Rattle.b67_task_release.specs.Released.{HasHome, Released, SameBelow, AreLeft}

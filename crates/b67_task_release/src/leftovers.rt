@@ -3,7 +3,7 @@
 ghost use Rattle.std.specs.Prelude.{◌≡◌, ℕ, ◌+◌, ◌<◌, ◌≤◌, List, Option, length};
 ghost use Rattle.b67_stack.specs.MachineView.{PagedObject, MachineView};
 ghost use Rattle.b67_stack.specs.Represents.{Storage};
-ghost use Rattle.b67_layout_storage.specs.Machine.{MachineRepresentsView};
+ghost use Rattle.b67_layout.specs.Machine.{MachineRepresentsView};
 ghost use Rattle.b67_layout.specs.Session.{with_objects};
 ghost use Rattle.b67_task_release.specs.Released.{HasHome, Released, AreLeft, SomeRemain, SameBelow};
 

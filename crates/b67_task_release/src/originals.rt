@@ -8,7 +8,7 @@ ghost use Rattle.b67_lemmas.specs.Lists.{Has};
 ghost use Rattle.b67_stack.specs.Shapes.{Location};
 ghost use Rattle.b67_stack.specs.MachineView.{PagedObject, MachineView};
 ghost use Rattle.b67_stack.specs.Represents.{Storage};
-ghost use Rattle.b67_layout_storage.specs.Machine.{MachineRepresentsView};
+ghost use Rattle.b67_layout.specs.Machine.{MachineRepresentsView};
 ghost use Rattle.b67_task_release.specs.Released.{storage_released, without_chain, of_objects, Drops, LocatesArray, SameBelow, Vacated};
 
 use b67_area::Areas;

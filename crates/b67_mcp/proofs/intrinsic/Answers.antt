@@ -1,5 +1,5 @@
 use Rattle.std.proofs.Common.{ℕ, List, length, Option, Some, Ok, refl, sym, ◌∙◌, ap, arith, subst, inl, inr}
-use Rattle.b67_layout_storage.specs.Machine.{content_after}
+use Rattle.b67_layout.specs.Machine.{content_after}
 use Rattle.b67_mcp.specs.declared.ends.CallEnd.{CallEnd}
 use Rattle.b67_mcp.specs.Called.{CallMeets, CallTouches}
 use Rattle.b67_mcp.proofs.Low.{numbered}

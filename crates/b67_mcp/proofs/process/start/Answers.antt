@@ -1,7 +1,7 @@
 use Rattle.std.proofs.Common.{◌≡◌, None, Ok, Err, length, sym, ◌∙◌, ap, subst}
 use Rattle.b67_word.specs.declared.couples.Place.{Place}
-use Rattle.b67_layout_storage.specs.Machine.{content_after}
-use Rattle.b67_layout_storage.proofs.Untold.{untold}
+use Rattle.b67_layout.specs.Machine.{content_after}
+use Rattle.b67_layout.proofs.Untold.{untold}
 use Rattle.b67_mcp.specs.Process.{ProcessMeets, ProcessWrites, ProcessFits}
 use Rattle.b67_mcp.specs.declared.ends.CallEnd.{CallEnd}
 use Rattle.b67_mcp.specs.declared.ends.Stop.TheVariants.{BackingFault, PrintFault}

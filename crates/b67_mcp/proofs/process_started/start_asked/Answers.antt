@@ -1,9 +1,9 @@
 use Rattle.std.proofs.Common.{length, None, Err, refl, ◌∙◌, ap, arith}
 use Rattle.b67_backing.specs.declared.SpaceFault.TheVariants.{BackingFault}
 use Rattle.b67_layout.specs.Layout.{machine_view}
-use Rattle.b67_layout_storage.specs.Machine.{content_after}
-use Rattle.b67_layout_storage.proofs.Devices.{Served-none}
-use Rattle.b67_layout_storage.proofs.Untold.{untold}
+use Rattle.b67_layout.specs.Machine.{content_after}
+use Rattle.b67_layout.proofs.Devices.{Served-none}
+use Rattle.b67_layout.proofs.Untold.{untold}
 use Rattle.b67_task_need.proofs.Shortage.{short_of}
 use Rattle.b67_task_tables.proofs.Keeping.{keeps_same}
 use Rattle.b67_mcp.proofs.Moved.{silent, seen_over, stands_moved}

@@ -4,7 +4,7 @@ use Rattle.b67_backing.specs.Shelf.{HasChain}
 use Rattle.b67_backing.specs.Held.{sectors_for}
 use Rattle.b67_ctl.specs.declared.descriptors.DataDesc.{DataDesc}
 use Rattle.b67_stack.specs.Common.{PagedObject, MachineView, home_desc, address_or, Location, Storage, Represents, LowWordsStayed}
-use Rattle.b67_layout_storage.specs.Machine.{IsPresent, content_after}
+use Rattle.b67_layout.specs.Machine.{IsPresent, content_after}
 use Rattle.b67_overlay.specs.Spans.{MachineCanPage}
 use Rattle.b67_overlay.proofs.Copies.{copies_stay, copies_objects}
 use Rattle.b67_overlay.specs.Overlaid.{overlaid}
@@ -12,8 +12,8 @@ use Rattle.b67_mcp.specs.Lengths.{IsArray}
 use Rattle.b67_mcp.proofs.Freeing.{original_is, original_read, set_original}
 use Rattle.std.specs.Prelude.{Err}
 use Rattle.b67_backing.specs.Extending.{extended, sectors_more, IsExtended, ExtendMeets}
-use Rattle.b67_layout_storage.proofs.Below.{Stayed-then}
-use Rattle.b67_layout_storage.proofs.Devices.{Served-then, still_tells}
+use Rattle.b67_layout.proofs.Below.{Stayed-then}
+use Rattle.b67_layout.proofs.Devices.{Served-then, still_tells}
 use Rattle.b67_stack.proofs.Helds.{held-other, held-same}
 use Rattle.b67_stack.proofs.Unchanged.{area_of_object}
 use Rattle.b67_stack.proofs.Reheld.{storage_with}

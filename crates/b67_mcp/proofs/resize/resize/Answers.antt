@@ -4,8 +4,8 @@ use Rattle.b67_word.specs.Tagged.{Tagged}
 use Rattle.b67_word.specs.declared.couples.Place.{Place}
 use Rattle.b67_model.specs.Common.{Answer, Done, touched_of, SessionJob, with_array, resized}
 use Rattle.b67_layout.specs.Meets.{with_job}
-use Rattle.b67_layout_storage.specs.Machine.{content_after}
-use Rattle.b67_layout_storage.proofs.Untold.{untold}
+use Rattle.b67_layout.specs.Machine.{content_after}
+use Rattle.b67_layout.proofs.Untold.{untold}
 use Rattle.b67_mcp.specs.Lengthening.{job_resized, ResizeMeets}
 use Rattle.b67_mcp.specs.declared.resize.Resizing.{Resizing}
 use Rattle.b67_stack.specs.declared.What.TheVariants as what

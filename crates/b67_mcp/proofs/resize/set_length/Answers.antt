@@ -1,7 +1,7 @@
 use Rattle.std.proofs.Common.{◌≡◌, ◌<◌, length, None, Err, ◌∙◌, ap, arith, subst}
 use Rattle.b67_backing.specs.declared.refusals.SpaceFault.{SpaceFault}
 use Rattle.b67_layout.specs.Common.{array_object, machine_view, area_held}
-use Rattle.b67_layout_storage.proofs.Untold.{untold}
+use Rattle.b67_layout.proofs.Untold.{untold}
 use Rattle.b67_mcp.specs.Lengths.{LengthenMeets}
 use Rattle.b67_task_tables.specs.declared.tables.Machine.{Machine}
 use Rattle.b67_mcp.specs.declared.ends.Stop.TheVariants.{BackingFault, PrintFault}

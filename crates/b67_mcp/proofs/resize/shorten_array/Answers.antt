@@ -8,7 +8,7 @@ use Rattle.b67_area.specs.Directory.{IsDirectory}
 use Rattle.b67_backing.specs.Shelf.{IsShelf}
 use Rattle.b67_ctl.specs.declared.descriptors.DataDesc.{DataDesc}
 use Rattle.b67_stack.specs.Common.{PagedObject, MachineView, home_desc, home_word_of, address_or, Storage, Represents, info_of, LowWordsStayed}
-use Rattle.b67_layout_storage.specs.Machine.{IsPresent}
+use Rattle.b67_layout.specs.Machine.{IsPresent}
 use Rattle.b67_overlay.specs.Spans.{MachineCanPage}
 use Rattle.b67_overlay.proofs.Copies.{copies_stay, copies_objects}
 use Rattle.b67_stack.proofs.Unchanged.{area_of_object, area_bounds}

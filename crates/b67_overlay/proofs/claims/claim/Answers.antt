@@ -1,4 +1,4 @@
-use Rattle.b67_layout_storage.proofs.Devices.{Served-none, Served-then, Keeps-none, Keeps-then}
+use Rattle.b67_layout.proofs.Devices.{Served-none, Served-then, Keeps-none, Keeps-then}
 use Rattle.b67_overlay.proofs.Shedding.{directory_here, object_here, falls_here}
 use Rattle.b67_overlay.proofs.Claiming.{claims_none, claims_all, claims_past, claims_refused, claims_on}
 use Rattle.b67_overlay.proofs.claims.claim.Goals as goal

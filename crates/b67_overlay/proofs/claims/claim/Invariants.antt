@@ -1,5 +1,5 @@
 use Rattle.b67_stack.specs.Common.{MachineView, Storage}
-use Rattle.b67_layout_storage.specs.Machine.{DeviceAfterCalls, PagingKeeps}
+use Rattle.b67_layout.specs.Machine.{DeviceAfterCalls, PagingKeeps}
 use Rattle.b67_overlay.specs.Spans.{MachineCanPage}
 use Rattle.b67_overlay.proofs.Visits.{left_of}
 use Rattle.b67_overlay.proofs.Claiming.{Claimed}

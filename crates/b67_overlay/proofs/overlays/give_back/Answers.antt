@@ -8,7 +8,7 @@ use Rattle.b67_ctl.specs.declared.registers.Regs.{Regs}
 use Rattle.b67_stack.specs.declared.Cpu.{Cpu}
 use Rattle.b67_overlay.specs.Overlaid.{dropped}
 use Rattle.b67_overlay.specs.Turns.{Hides}
-use Rattle.b67_layout_storage.specs.Machine.{IsPresent}
+use Rattle.b67_layout.specs.Machine.{IsPresent}
 use Rattle.b67_stack.proofs.Unchanged.{home_below}
 use Rattle.b67_overlay.proofs.Sectors.{about, area_here}
 use Rattle.b67_overlay.proofs.Dropping.{Freed, directory2, below_dropped, Represents-dropped}

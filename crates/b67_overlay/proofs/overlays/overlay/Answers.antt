@@ -9,10 +9,10 @@ use Rattle.b67_area.specs.Directory.{IsDirectory}
 use Rattle.b67_backing.specs.Shelf.{Table, IsShelf, HasChain as ChainIs}
 use Rattle.b67_backing.specs.Held.{sectors_for, Stores, SameBut, Changes}
 use Rattle.b67_stack.specs.Common.{PagedObject, MachineView, object_words, tag_of, Storage, Represents, ObjectHasChain, info_of}
-use Rattle.b67_layout_storage.specs.Machine.{IsPresent, content_after}
+use Rattle.b67_layout.specs.Machine.{IsPresent, content_after}
 use Rattle.b67_overlay.specs.Spans.{MachineCanPage}
 use Rattle.std.proofs.lemmas.List.{length-map}
-use Rattle.b67_layout_storage.proofs.Below.{Stayed-none}
+use Rattle.b67_layout.proofs.Below.{Stayed-none}
 use Rattle.b67_overlay.specs.Overlaid.{chain_out, shelf_out, sectors_out, overlaid, dropped, IsOut}
 use Rattle.b67_overlay.proofs.Sectors.{About, about, area_here, directory_at, info_is, kept_chain, out_written, Represents-retold, range_up}
 use Rattle.b67_ctl.specs.declared.registers.Regs.{Regs}

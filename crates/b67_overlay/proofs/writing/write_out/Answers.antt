@@ -3,7 +3,7 @@ use Rattle.b67_backing.specs.Shelf.{Shelf, IsShelf, HasChain, taken, chain_of}
 use Rattle.b67_backing.specs.Held.{Changes, SameBut, sectors_for}
 use Rattle.b67_overlay.proofs.Answered.{ok_err, fault_full}
 use Rattle.b67_overlay.proofs.Chains.{given_taken, new_out}
-use Rattle.b67_layout_storage.specs.Machine.{DeviceAfterCalls}
+use Rattle.b67_layout.specs.Machine.{DeviceAfterCalls}
 use Rattle.b67_overlay.proofs.writing.write_out.Given.{Over}
 use Rattle.b67_overlay.proofs.writing.write_out.Goals.{In-Some, After-save-in-Some}
 use Rattle.b67_overlay.proofs.writing.write_out.Goals as goal

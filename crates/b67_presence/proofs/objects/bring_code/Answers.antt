@@ -1,6 +1,6 @@
 use Rattle.std.proofs.Common.{Err, refl, ap, arith}
-use Rattle.b67_layout_storage.proofs.Below.{Stayed-then}
-use Rattle.b67_layout_storage.proofs.Devices.{Served-then, Served-same}
+use Rattle.b67_layout.proofs.Below.{Stayed-then}
+use Rattle.b67_layout.proofs.Devices.{Served-then, Served-same}
 use Rattle.b67_overlay.proofs.Shedding.{AreasEvicted-none}
 use Rattle.b67_overlay.proofs.Answered.{ok_err, fault_full}
 use Rattle.b67_presence.proofs.Ways.{read_in, came_of}

@@ -1,6 +1,6 @@
 use Rattle.std.proofs.Common.{ℕ, ◌+◌, length, Err, refl, sym, ap, arith, subst}
-use Rattle.b67_layout_storage.proofs.Below.{Stayed-then}
-use Rattle.b67_layout_storage.proofs.Devices.{Served-then, Served-same}
+use Rattle.b67_layout.proofs.Below.{Stayed-then}
+use Rattle.b67_layout.proofs.Devices.{Served-then, Served-same}
 use Rattle.b67_overlay.specs.AreasEvicted.{IsShortBy}
 use Rattle.b67_overlay.proofs.Shedding.{AreasEvicted-none}
 use Rattle.b67_presence.specs.Brings.{StandsEvicted, IsCode, NoHoleStill}

@@ -3,10 +3,10 @@ use Rattle.std.proofs.lemmas.Result.{on_ok_weaker, on_err_weaker}
 use Rattle.b67_ctl.specs.declared.registers.Regs.{Regs}
 use Rattle.b67_stack.specs.declared.Cpu.{Cpu}
 use Rattle.b67_stack.specs.Common.{MachineView, PagedObject, Storage, Represents, LowWordsStayed}
-use Rattle.b67_layout_storage.specs.Machine.{IsAbsent}
-use Rattle.b67_layout_storage.proofs.Devices.{Served-then}
-use Rattle.b67_layout_storage.proofs.Untold.{untold}
-use Rattle.b67_layout_storage.proofs.Below.{Stayed-then}
+use Rattle.b67_layout.specs.Machine.{IsAbsent}
+use Rattle.b67_layout.proofs.Devices.{Served-then}
+use Rattle.b67_layout.proofs.Untold.{untold}
+use Rattle.b67_layout.proofs.Below.{Stayed-then}
 use Rattle.b67_overlay.specs.Overlaid.{overlaid}
 use Rattle.b67_overlay.specs.Spans.{MachineCanPage}
 use Rattle.b67_presence.specs.Brings.{IsReadable, IsCode, BothIn, MayWait}

@@ -1,7 +1,7 @@
 use Rattle.std.proofs.Common.{Ok, ◌∙◌, ap, arith}
 use Rattle.std.proofs.lemmas.Result.{on_ok_weaker, on_err_weaker}
-use Rattle.b67_layout_storage.proofs.Below.{Stayed-then}
-use Rattle.b67_layout_storage.proofs.Devices.{Served-then}
+use Rattle.b67_layout.proofs.Below.{Stayed-then}
+use Rattle.b67_layout.proofs.Devices.{Served-then}
 use Rattle.b67_overlay.proofs.Answered.{same_err}
 use Rattle.b67_presence.proofs.Ways.{absent_after, readable_after}
 use Rattle.b67_presence.proofs.Forcing.{code_after, both_came, may_wait, both_before, wait_before}

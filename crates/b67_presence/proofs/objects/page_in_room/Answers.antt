@@ -1,5 +1,5 @@
 use Rattle.std.proofs.Common.{Err, ap}
-use Rattle.b67_layout_storage.proofs.Devices.{Served-same}
+use Rattle.b67_layout.proofs.Devices.{Served-same}
 use Rattle.b67_overlay.proofs.Answered.{ok_err, fault_core, fault_full}
 use Rattle.b67_presence.proofs.Ways.{read_in}
 use Rattle.b67_presence.proofs.objects.page_in_room.Goals as goal

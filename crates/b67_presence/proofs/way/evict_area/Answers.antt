@@ -1,5 +1,5 @@
 use Rattle.std.proofs.Common.{Err, ap}
-use Rattle.b67_layout_storage.proofs.Devices.{Served-then, Served-same}
+use Rattle.b67_layout.proofs.Devices.{Served-then, Served-same}
 use Rattle.b67_presence.proofs.Evicting.{evicts_spare, evicts_nothing, absent_still, evicts_came, evicts_waits, evicts_fails}
 use Rattle.b67_presence.proofs.way.evict_area.Goals as goal
 

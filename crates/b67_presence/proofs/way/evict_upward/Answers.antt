@@ -1,5 +1,5 @@
 use Rattle.std.proofs.Common.{Ok, ◌∙◌, ap}
-use Rattle.b67_layout_storage.proofs.Devices.{Served-none, Served-then, Keeps-none, Keeps-then}
+use Rattle.b67_layout.proofs.Devices.{Served-none, Served-then, Keeps-none, Keeps-then}
 use Rattle.b67_overlay.proofs.Answered.{err_ok, ok_true}
 use Rattle.b67_overlay.proofs.Shedding.{tells_still, directory_here, object_here, falls_here}
 use Rattle.b67_presence.proofs.Ways.{absent_after}

@@ -1,5 +1,5 @@
 use Rattle.b67_stack.specs.Common.{PagedObject, MachineView, Storage}
-use Rattle.b67_layout_storage.specs.Machine.{IsAbsent, DeviceAfterCalls, PagingKeeps}
+use Rattle.b67_layout.specs.Machine.{IsAbsent, DeviceAfterCalls, PagingKeeps}
 use Rattle.b67_overlay.specs.Spans.{MachineCanPage}
 use Rattle.b67_overlay.proofs.Visits.{left_of}
 use Rattle.b67_presence.proofs.Upward.{GaveWay}

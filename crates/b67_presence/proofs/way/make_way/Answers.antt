@@ -1,5 +1,5 @@
 use Rattle.std.proofs.Common.{Ok, ◌∙◌, ap}
-use Rattle.b67_layout_storage.proofs.Devices.{Served-then}
+use Rattle.b67_layout.proofs.Devices.{Served-then}
 use Rattle.b67_overlay.proofs.Answered.{ok_true, err_ok}
 use Rattle.b67_presence.proofs.Ways.{absent_after}
 use Rattle.b67_presence.proofs.Firsts.{way_ends, way_after}

@@ -1,6 +1,6 @@
 use Rattle.std.proofs.Common.{sym, subst, arith, length}
-use Rattle.b67_layout_storage.specs.Machine.{content_after}
-use Rattle.b67_layout_storage.proofs.Devices.{Served-none}
+use Rattle.b67_layout.specs.Machine.{content_after}
+use Rattle.b67_layout.proofs.Devices.{Served-none}
 use Rattle.b67_task_tables.specs.declared.tables.Machine.{Machine}
 use Rattle.b67_task_tables.specs.declared.tables.Tasks.{Tasks}
 use Rattle.b67_mcp.specs.Running.{JobsHaveRoom}

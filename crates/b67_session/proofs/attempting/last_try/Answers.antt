@@ -1,7 +1,7 @@
 use Rattle.std.proofs.Common.{◌∙◌, Ok, Err, ap, length}
 use Rattle.b67_word.specs.declared.faults.Fault.TheVariants.{InvalidOperator}
 use Rattle.b67_word.specs.declared.faults.Ending.TheVariants.{Faulted}
-use Rattle.b67_layout_storage.specs.Machine.{content_after}
+use Rattle.b67_layout.specs.Machine.{content_after}
 use Rattle.b67_session.specs.declared.tries.Tried.{Tried}
 use Rattle.b67_session.specs.declared.tries.Tried.TheVariants.{Made, Absent, Ends, Waits}
 use Rattle.b67_session.proofs.Composed.{made_once, ends_once, waits_once, stops_once, gives_up_once, never, room_after_stop, may_call, stop_calls, not_full_ok, not_full_once}

@@ -1,9 +1,9 @@
 use Rattle.std.proofs.Common.{◌≡◌, ◌≢◌, ◌≤◌, ℕ, ◌+◌, ◌-◌, List, length, Option, Some, None, Ok, Err, refl, sym, ap, ◌∙◌, subst, arith}
 use Rattle.b67_io.specs.Free.{tally_told, tally_faults}
 use Rattle.b67_model.specs.Common.{Session, after}
-use Rattle.b67_layout_storage.specs.Machine.{Says, content_after}
-use Rattle.b67_layout_storage.proofs.Devices.{Served-none, Served-then}
-use Rattle.b67_layout_storage.proofs.Retold.{retold-same}
+use Rattle.b67_layout.specs.Machine.{Says, content_after}
+use Rattle.b67_layout.proofs.Devices.{Served-none, Served-then}
+use Rattle.b67_layout.proofs.Retold.{retold-same}
 use Rattle.b67_task_tables.proofs.Keeping.{keeps_then, countable_kept, halt_kept}
 use Rattle.b67_session.specs.AttemptPassed.{CallCauses}
 use Rattle.b67_session.specs.AttemptStops.{Stop}

@@ -1,7 +1,7 @@
 use Rattle.std.proofs.Common.{◌≢◌, ◌≤◌, ◌-◌, ℕ, List, Option, None}
 use Rattle.b67_io.specs.Free.{tally_told}
 use Rattle.b67_model.specs.Common.{Session}
-use Rattle.b67_layout_storage.specs.Machine.{Says, DeviceAfterCalls, content_after}
+use Rattle.b67_layout.specs.Machine.{Says, DeviceAfterCalls, content_after}
 use Rattle.b67_stack.specs.declared.Step.TheVariants.{Done}
 use Rattle.b67_exec.specs.Near.{StopsHere}
 use Rattle.b67_session.specs.Slices.{StandsAt, Keeps}

@@ -1,8 +1,8 @@
 use Rattle.std.proofs.Common.{rules, ◌≡◌, ◌≢◌, ◌≤◌, ℕ, ◌+◌, List, Option, Some, None, Result, Ok, Err, length, refl, sym, ◌∙◌, ap, subst, arith}
 use Rattle.b67_model.specs.Common.{Task, SessionJob, Session}
-use Rattle.b67_layout_storage.specs.Machine.{Says, content_after}
-use Rattle.b67_layout_storage.proofs.Devices.{Served-none, Served-then}
-use Rattle.b67_layout_storage.proofs.Retold.{retold-same}
+use Rattle.b67_layout.specs.Machine.{Says, content_after}
+use Rattle.b67_layout.proofs.Devices.{Served-none, Served-then}
+use Rattle.b67_layout.proofs.Retold.{retold-same}
 use Rattle.b67_law.specs.Turns.{IsNext}
 use Rattle.b67_session.specs.AttemptStops.{Stop, BackingFull}
 use Rattle.b67_session.specs.Attempts.{IsNotFull}

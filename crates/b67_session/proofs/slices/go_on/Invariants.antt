@@ -1,7 +1,7 @@
 use Rattle.std.proofs.Common.{◌≡◌, ◌≢◌, ◌≤◌, ◌+◌, ◌-◌, ℕ, List, [], Option, None}
 use Rattle.b67_model.specs.Common.{Task, Job, SessionJob, Session}
 use Rattle.b67_backing.specs.Held.{Becomes}
-use Rattle.b67_layout_storage.specs.Machine.{Says, DeviceAfterCalls, content_after}
+use Rattle.b67_layout.specs.Machine.{Says, DeviceAfterCalls, content_after}
 use Rattle.b67_law.specs.Turns.{IsNext}
 use Rattle.b67_session.specs.AttemptPassed.{CallsDevice}
 use Rattle.b67_session.specs.Attempts.{WantsNothing, HoleFits, IsAtHand}

@@ -4,8 +4,8 @@ use Rattle.b67_stack.specs.declared.Step.{Step}
 use Rattle.b67_stack.specs.declared.Step.TheVariants as answers
 use Rattle.b67_exec.specs.Near.{StopsHere}
 use Rattle.b67_stack.specs.Represents.{Storage}
-use Rattle.b67_layout_storage.specs.Machine.{content_after}
-use Rattle.b67_layout_storage.proofs.Untold.{untold}
+use Rattle.b67_layout.specs.Machine.{content_after}
+use Rattle.b67_layout.proofs.Untold.{untold}
 use Rattle.b67_layout.specs.Placement.{Placement}
 use Rattle.b67_exec_cells.specs.Running.{code_area}
 use Rattle.b67_task_tables.specs.declared.tables.Machine.{Machine}

@@ -1,7 +1,7 @@
 use Rattle.std.proofs.Common.{◌+◌, List, ◌∷◌, [], ◌++◌, slice_index_or, drop, ◌∙◌, sym, ap, arith, subst}
 use Rattle.b67_ctl.specs.declared.registers.Regs.{Regs}
 use Rattle.b67_stack.specs.declared.Cpu.{Cpu}
-use Rattle.b67_layout_storage.specs.Machine.{MachineRepresentsView}
+use Rattle.b67_layout.specs.Machine.{MachineRepresentsView}
 use Rattle.b67_task_end_stack.specs.Vacated.{put_out, died}
 use Rattle.b67_task_end_stack.specs.DeathsInTurn.{Death, Buried, all_put_out}
 use Rattle.b67_task_end_stack.proofs.StillMayDie.{head, may, buried_more, all_buried, next_put_out, last_put_out}

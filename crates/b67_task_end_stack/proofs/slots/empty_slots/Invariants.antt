@@ -1,7 +1,7 @@
 use Rattle.std.proofs.Common.{◌≡◌, ℕ, List, Option, length, drop}
 use Rattle.b67_stack.specs.MachineView.{MachineView}
 use Rattle.b67_stack.specs.Represents.{Storage}
-use Rattle.b67_layout_storage.specs.Machine.{MachineRepresentsView}
+use Rattle.b67_layout.specs.Machine.{MachineRepresentsView}
 use Rattle.b67_task_end_stack.specs.DeathsInTurn.{Death, MayAllDie, slots_of, all_put_out, Buried}
 use Rattle.b67_task_end_stack.proofs.slots.empty_slots.Given as goal
 

@@ -1,6 +1,6 @@
 use Rattle.std.proofs.Common.{◌≡◌, ℕ, ◌<◌, List, Option, length}
 use Rattle.b67_stack.specs.Common.{PagedObject, MachineView, Storage}
-use Rattle.b67_layout_storage.specs.Machine.{MachineRepresentsView}
+use Rattle.b67_layout.specs.Machine.{MachineRepresentsView}
 use Rattle.b67_layout.specs.Session.{with_objects}
 use Rattle.b67_task_release.specs.Released.{HasHome, AreLeft, SomeRemain}
 use Rattle.b67_task_release.proofs.leftovers.release_words.Given as goal

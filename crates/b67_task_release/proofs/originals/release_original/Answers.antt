@@ -1,7 +1,7 @@
 use Rattle.std.proofs.Common.{◌≡◌, ◌⊎◌, ℕ, ◌≤◌, length, sym, subst}
 use Rattle.b67_area.specs.declared.Areas.{Areas}
 use Rattle.b67_backing.specs.Shelf.{IsShelf, chain_of}
-use Rattle.b67_layout_storage.specs.Machine.{MachineRepresentsView}
+use Rattle.b67_layout.specs.Machine.{MachineRepresentsView}
 use Rattle.b67_task_release.specs.Released.{storage_released, without_chain, of_objects}
 use Rattle.b67_task_release.proofs.Dropped.{has_chain}
 use Rattle.b67_task_release.proofs.Machine.{directory_here, finds_here, vacated_here, machine_released}

@@ -13,7 +13,7 @@ use Rattle.b67_stack.specs.Common.{stack_words, PagedObject, Slot, Running, stac
 use Rattle.b67_stack.proofs.Slots.{slot-same, slot-other}
 use Rattle.b67_layout.proofs.Common.{with_course, member-same, RowOf, change-has, others, Replaces, numbered_course, homes_low, code_kind}
 use Rattle.b67_layout.proofs.Objects.{objects-after}
-use Rattle.b67_layout_records.proofs.Slots.{OthersSame, slots-after}
+use Rattle.b67_layout.proofs.Slots.{OthersSame, slots-after}
 use Rattle.b67_layout.proofs.LeftSettles.{under}
 use Rattle.b67_law.proofs.Numbered.{keyed_member}
 

@@ -12,7 +12,7 @@ use Rattle.b67_stack.specs.Common.{StackPlace, NoOriginalAboveTop, Storage, Repr
 use Rattle.b67_layout.specs.Common.{Placement, slot_of, spot_in, outer_spots, spots, address_of, stack_of_task, machine_view, with_job, IsRunning, ShowsDisplay, SessionHolds, RepresentsSession}
 use Rattle.b67_layout.proofs.Common.{OnTop, seen-mark, running_only, IsFree, GoesOn, SessionHolds-mark, next_is_free, free-uncritical, still_running, outer-same}
 use Rattle.b67_law.proofs.LowNames.{frame_at_same}
-use Rattle.b67_layout_records.proofs.Names.{frame_past}
+use Rattle.b67_layout.proofs.Names.{frame_past}
 
 -- the mark of the next identity
 abbrev pub next_mark : Job → Frame

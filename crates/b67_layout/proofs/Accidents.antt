@@ -15,7 +15,7 @@ use Rattle.b67_stack.proofs.Pushes.{Room, room_of}
 use Rattle.b67_layout.specs.Common.{Placement, spot_in, outer_spots, activations, stack_of_task, machine_view, with_job, IsRunning, ShowsDisplay, critical_mark, with_objects, SessionHoldsBut, RepresentsSessionBut}
 use Rattle.b67_layout.proofs.Common.{OnTop, IsFree, free-uncritical, runs_on, Settled-more, task_on, SessionHolds-top, still_running, Shows-condition, running_only}
 use Rattle.b67_stack.proofs.ClearHeads.{IsClear}
-use Rattle.b67_layout_records.proofs.Heads.{Represents-accident}
+use Rattle.b67_layout.proofs.Heads.{Represents-accident}
 use Rattle.b67_stack.specs.declared.Cpu.{Cpu}
 use Rattle.b67_lemmas.specs.Lists.{Has}
 use Rattle.b67_lemmas.proofs.Members.{keyed_has}

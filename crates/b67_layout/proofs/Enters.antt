@@ -13,7 +13,7 @@ use Rattle.b67_stack.proofs.Slots.{running_slot}
 use Rattle.b67_stack.proofs.Pushes.{Room, room_of}
 use Rattle.b67_layout.specs.Common.{Placement, spot_in, outer_spots, shape, head, activations, stack_of_task, machine_view, with_job, IsRunning, ShowsDisplay, critical_mark, SessionHolds, RepresentsSession}
 use Rattle.b67_layout.proofs.Common.{OnTop, IsFree, runs_on, Settled-more, task_on, SessionHolds-top, still_running, Shows-condition, running_only}
-use Rattle.b67_layout_records.proofs.Heads.{Represents-entered}
+use Rattle.b67_layout.proofs.Heads.{Represents-entered}
 use Rattle.b67_stack.specs.declared.Cpu.{Cpu}
 use Rattle.b67_lemmas.proofs.Members.{keyed_has}
 

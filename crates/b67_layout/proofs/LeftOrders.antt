@@ -12,8 +12,8 @@ use Rattle.b67_law.proofs.Changes.{Change, change_drop, change_arrays}
 use Rattle.b67_law.proofs.Entries.{none_original}
 use Rattle.b67_law.proofs.RowSteps.{originals}
 use Rattle.b67_layout.proofs.Common.{others, high, live}
-use Rattle.b67_layout_records.proofs.Nowhere.{MayLeave, uncritical}
-use Rattle.b67_layout_records.proofs.Leaves.{task_at}
+use Rattle.b67_layout.proofs.Nowhere.{MayLeave, uncritical}
+use Rattle.b67_layout.proofs.Leaves.{task_at}
 
 module _ (constants : JobConstants) (job : Job) (t : Task) (f : Frame) (below : List Frame) (may : MayLeave constants job t f below) where
   P : Starts

@@ -12,9 +12,9 @@ use Rattle.b67_layout.specs.Common.{JobInOrderButCounts, IsInOrderButCounts, Pla
 use Rattle.b67_stack.specs.Common.{StackPlace, Activation, stack_words, Storage, Represents, with_stack}
 use Rattle.b67_layout.proofs.Common.{running_in_order, member-same, row_of, others, high as identity_high, elsewhere, IsDependedOn, Replaces, task-same, SessionHoldsBut-after, for_running}
 use Rattle.b67_layout.proofs.NamedFirst.{under as once_only}
-use Rattle.b67_layout_records.proofs.Nowhere.{MayLeave, uncritical, not_in_reach, SameArrays, frames_stay}
-use Rattle.b67_layout_records.proofs.Slots.{OthersSame, stack-after, memory-after}
-use Rattle.b67_layout_records.proofs.Settled.{settled-after}
+use Rattle.b67_layout.proofs.Nowhere.{MayLeave, uncritical, not_in_reach, SameArrays, frames_stay}
+use Rattle.b67_layout.proofs.Slots.{OthersSame, stack-after, memory-after}
+use Rattle.b67_layout.proofs.Settled.{settled-after}
 
 -- the running task may leave its top frame
 pub record Leaver (plan : Placement) (s : Session) (m : SessionJob) (t : Task) (f : Frame) (below : List Frame) : Type 0 where

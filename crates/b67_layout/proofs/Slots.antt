@@ -15,7 +15,7 @@ use Rattle.b67_layout.specs.Common.{Slotted, Placement, outer_spots, activations
 use Rattle.b67_layout.proofs.Common.{with_course, member-same, member-other, RowOf, Replaces, task-same, task-other, Represents-objects, others}
 use Rattle.b67_layout.proofs.Replaces.{outer_spots-after}
 use Rattle.b67_layout.proofs.Objects.{objects-after}
-use Rattle.b67_layout_records.proofs.Nowhere.{SameArrays, activations-same}
+use Rattle.b67_layout.proofs.Nowhere.{SameArrays, activations-same}
 
 module _ (plan : Placement) (j : ℕ) (job job' : Job) (t t' : Task) (by : Replaces job job' t t') where
   outer-same : (u : Task) → Has job.tasks u → outer_spots plan j job' u.critical u.parents ≡ outer_spots plan j job u.critical u.parents

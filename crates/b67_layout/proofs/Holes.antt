@@ -5,7 +5,7 @@ use Rattle.std.proofs.lemmas.Option.{same_Some, none-some}
 use Rattle.b67_area.specs.declared.kinds.Info.{Info}
 use Rattle.b67_area.specs.Spans.{Span, Area, Hole, left, spot, address, fill, join, without}
 use Rattle.b67_area.specs.Directory.{AreSpans, NoHole}
-use Rattle.b67_layout_storage.specs.Machine.{HasHole}
+use Rattle.b67_layout.specs.Machine.{HasHole}
 
 pub spot_none : (n at : ℕ) (ss : List Span) → spot n at ss ≡ None → HasHole n ss → ⊥
 spot_none n at [] e h = h

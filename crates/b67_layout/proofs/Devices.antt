@@ -3,7 +3,7 @@ use Rattle.std.proofs.Common.{◌≡◌, ℕ, List, Option, Some, refl, ◌∙�
 use Rattle.b67_area.specs.declared.Areas.{Areas}
 use Rattle.b67_backing.specs.Shelf.{Table}
 use Rattle.b67_stack.specs.declared.Cpu.{Cpu}
-use Rattle.b67_layout_storage.specs.Machine.{DeviceAfterCalls, DeviceAfterReads, PagingKeeps, Says}
+use Rattle.b67_layout.specs.Machine.{DeviceAfterCalls, DeviceAfterReads, PagingKeeps, Says}
 
 pub Served-none : {D : Type 0} (holds : D → Option (List (List ℕ))) (size calls faults : D → ℕ) (d : D) → DeviceAfterCalls holds size calls faults d d
 Served-none {D} holds size calls faults d = record { size = refl; calls = omega arith; faults = omega arith; tells = record { told = λ x e. (x, e, refl) } }
