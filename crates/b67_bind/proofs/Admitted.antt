@@ -11,8 +11,8 @@ use Rattle.b67_lemmas.proofs.Members.{any_none, keyed_has, all_in, all_from, has
 use Rattle.b67_lemmas.proofs.Places.{get_within, at_mapped}
 use Rattle.b67_model.specs.State as state
 use Rattle.b67_model.specs.Common.{Program, Entry, broken_in, first_of, Listed, Refusal, IsAdmitted}
-use Rattle.b67_load_verify.specs.declared.fault.LoadFault.TheVariants.{Refused}
-use Rattle.b67_load_verify.specs.Broken.{Finds}
+use Rattle.b67_load.specs.declared.fault.LoadFault.TheVariants.{Refused}
+use Rattle.b67_load.specs.Broken.{Finds}
 use Rattle.b67_word.specs.declared.couples.Place.{Place}
 use Rattle.b67_codefile.specs.declared.file.Segment.{Segment}
 use Rattle.b67_codefile.specs.declared.file.Codefile.{Codefile}

@@ -12,7 +12,7 @@ use Rattle.b67_model.specs.declared.operators.Op.TheVariants as op
 use Rattle.b67_model.specs.declared.operators.Undecodable.{Undecodable}
 use Rattle.b67_model.specs.declared.operators.Undecodable.TheVariants.{BadPlace, NotAdmitted, PastEnd}
 use Rattle.b67_model.specs.Common.{Form, Alone, OneMore, TwoMore, Literal, Reading, operators, form_in, form_of, syllable, place_at, count_at, ends_at, reads, operator_at, Entry, At, Break, entries_from, origin, listing, place_of_entry, proc_bits}
-use Rattle.b67_load_verify.proofs.Operator.{IsPlaceIn, operator_at-inside, operator_at-is}
+use Rattle.b67_load.proofs.Operator.{IsPlaceIn, operator_at-inside, operator_at-is}
 use Rattle.b67_bind.specs.Reasons.{proc_in}
 use Rattle.b67_bind.specs.Bound.{literal_of, change_one, change_literals, change_op, change_entry}
 use Rattle.b67_bind.proofs.Literals.{changed-here, literal-is, one-other, literals-length, literals-other, literals-alike, StandFrom, literals-later}

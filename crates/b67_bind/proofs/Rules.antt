@@ -9,8 +9,8 @@ use Rattle.b67_lemmas.specs.Lists.{Has}
 use Rattle.b67_model.specs.declared.operators.Op.{Op}
 use Rattle.b67_model.specs.declared.operators.Undecodable.TheVariants.{BadPlace, NotAdmitted, PastEnd}
 use Rattle.b67_model.specs.Common.{Segment, Reading, operator_at, place_of_bits, Program, Entry, At, Break, entries_from, listing, origin, place_of_entry, same_place, is_start, is_last, is_outside, target_of, couple_bits, proc_bits, may_be_last, holds_of, holds_at, has_stray_bits, breaks_rule_8, broken_at, broken_in, Listed, Refusal, refused, refusals_of, wrong_entries, refusals_from, IsAdmitted}
-use Rattle.b67_load_verify.specs.Broken.{rules_at}
-use Rattle.b67_load_verify.proofs.Operator.{operator_at-reads}
+use Rattle.b67_load.specs.Broken.{rules_at}
+use Rattle.b67_load.proofs.Operator.{operator_at-reads}
 use Rattle.b67_bind.specs.Reasons.{proc_in}
 use Rattle.b67_bind.specs.Bound.{change_op, change_entry}
 

@@ -16,7 +16,7 @@ use b67_asm::{AsmFault, assemble};
 use b67_card::{DeckFault, read_deck};
 use b67_codefile::{BadFile, Codefile, read};
 use b67_io::Source;
-use b67_load_verify::{Admitted, LoadFault, verify};
+use b67_load::{Admitted, LoadFault, verify};
 use b67_model_text::{Body, Cards, Deck, Job};
 use std::alloc::Global;
 use std::collections::VecDeque;

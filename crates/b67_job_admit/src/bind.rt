@@ -14,7 +14,7 @@ use b67_bind::{BindFault, Pairs, bind};
 use b67_card::read_deck;
 use b67_codefile::Codefile;
 use b67_io::Source;
-use b67_load_verify::Admitted;
+use b67_load::Admitted;
 use b67_model_text::{Deck, Job};
 use b67_word::Bytes;
 use std::alloc::Global;

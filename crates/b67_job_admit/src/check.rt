@@ -10,7 +10,7 @@ use crate::admission::admit;
 use crate::fault::AdmitFault;
 use b67_codefile::Codefile;
 use b67_io::Source;
-use b67_load_verify::Admitted;
+use b67_load::Admitted;
 use b67_model_text::Job;
 use b67_word::Bytes;
 use itoa::Buffer;

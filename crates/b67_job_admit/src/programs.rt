@@ -1,6 +1,6 @@
 //! Admitted programs of a deck.
 
-use b67_load_verify::Admitted;
+use b67_load::Admitted;
 use b67_model_text::Deck;
 use b67_word::List;
 

@@ -1,3 +1,9 @@
 pub mod Shelves
 pub mod Writing
 pub mod Steps
+pub mod Operator
+pub mod Listed
+pub mod Starts
+pub mod InOrder
+pub mod Least
+pub mod FirstRefusal

@@ -1,6 +1,6 @@
 //! A program's dictionary, and where its segments and data rows rest.
 
-ghost use Rattle.std.specs.Prelude.{◌≡◌, ℕ, ◌+◌, ◌<◌, ◌≤◌, ◌^◌, ◌∷◌, [], length, map, take, OnOk, OnErr, IfErr, IfOk};
+ghost use Rattle.std.specs.Prelude.{◌≡◌, ◌+◌, ◌<◌, ◌≤◌, ◌^◌, ◌∷◌, [], length, map, take, OnOk, IfErr, IfOk};
 ghost use Rattle.std.specs.List.{AllByRecursion};
 ghost use Rattle.b67_word.specs.Tagged.{contents};
 ghost use Rattle.b67_word.specs.Numbers.{number};
@@ -12,13 +12,13 @@ ghost use Rattle.b67_codefile.specs.Spelling.{IsFileSegment, IsRow, IsWithin};
 ghost use Rattle.b67_codefile.specs.Meaning.{segment_of, program_of};
 ghost use Rattle.b67_stack.specs.declared.Cpu.{Cpu};
 ghost use Rattle.b67_load.specs.Objects.{code_from, rows_from, program_objects, entries_of, sectors_of_objects, sectors_of_program};
-ghost use Rattle.b67_load.specs.Writing.{Parts, Spares, Writes, HasSectors, Installed};
+ghost use Rattle.b67_load.specs.Writing.{Spares, Writes, HasSectors, Installed};
 
+use crate::admitted::Admitted;
 use b67_backing::{Backing, Sectors, SpaceFault, sectors_needed};
 use b67_codefile::{Codefile, Segment};
 use b67_core::Core;
 use b67_ctl::{DataDesc, MCP_STACK, Mscw, SegDesc};
-use b67_load_verify::Admitted;
 use b67_stack::Cpu;
 use b67_word::{Word, Words};
 

@@ -12,7 +12,7 @@ ghost use Rattle.b67_model.specs.declared.limits.TheConstants.{LEAST_CORE};
 
 use crate::running::Session;
 use b67_backing::Backing;
-use b67_load_verify::Admitted;
+use b67_load::Admitted;
 use b67_model_text::Deck;
 use b67_session_open::{OpenFault, open as open_machine};
 use std::alloc::Global;

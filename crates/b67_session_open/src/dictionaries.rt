@@ -13,8 +13,7 @@ ghost use Rattle.b67_session_open.specs.Words.{InstalledAll};
 
 use b67_backing::{Backing, Sectors, SpaceFault};
 use b67_ctl::FIRST_DICTIONARY;
-use b67_load::install;
-use b67_load_verify::Admitted;
+use b67_load::{Admitted, install};
 use b67_stack::Cpu;
 
 /// The words of a program's dictionary: two and one for each segment and data row.

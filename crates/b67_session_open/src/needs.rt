@@ -19,7 +19,7 @@ use crate::dictionaries::dictionary_words;
 use b67_backing::sectors_needed;
 use b67_codefile::Segment;
 use b67_ctl::FIRST_DICTIONARY;
-use b67_load_verify::Admitted;
+use b67_load::Admitted;
 use b67_word::Words;
 
 /// The core words that a session of these programs needs to open, with stacks of `stack` words: those of the MCP, all

@@ -13,7 +13,7 @@ use crate::setting::set_up;
 use crate::tables::opening_tasks;
 use b67_backing::{Backing, Sectors};
 use b67_core::Core;
-use b67_load_verify::Admitted;
+use b67_load::Admitted;
 use b67_model_text::Deck;
 use b67_task_tables::Machine;
 use std::alloc::Global;

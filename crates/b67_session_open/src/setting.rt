@@ -21,7 +21,7 @@ use b67_area::Areas;
 use b67_backing::{Backing, Sectors, SpaceFault};
 use b67_core::Core;
 use b67_ctl::{FIRST_DICTIONARY, NO_SLOT, Regs, SLOTS};
-use b67_load_verify::Admitted;
+use b67_load::Admitted;
 use b67_stack::Cpu;
 use b67_word::Place;
 

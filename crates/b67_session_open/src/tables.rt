@@ -13,7 +13,7 @@ use crate::copies::{copied_name, copied_numbers, copied_switches};
 use crate::dictionaries::dictionary_words;
 use arrayvec::ArrayVec;
 use b67_ctl::FIRST_DICTIONARY;
-use b67_load_verify::Admitted;
+use b67_load::Admitted;
 use b67_model_text::{Deck, Job};
 use b67_task_tables::{JobRow, JobRows, MOST_ROWS, NO_PARENT, NO_ROW, TaskRow, TaskState, Tasks};
 use b67_word::Place;

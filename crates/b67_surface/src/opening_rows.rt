@@ -7,7 +7,7 @@ use crate::given::{device_of, nth, same};
 use b67_backing::Backing;
 use b67_codefile::read;
 use b67_core::Core;
-use b67_load_verify::{Admitted, verify};
+use b67_load::{Admitted, verify};
 use b67_model_text::{Body, Deck, Job, Jobs, Name, Switches};
 use b67_session_open::{OpenFault, open};
 use b67_task_tables::{JobRow, Machine};

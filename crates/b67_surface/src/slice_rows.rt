@@ -9,7 +9,7 @@ use b67_backing::Backing;
 use b67_io::{Paper, Sink, Tape};
 use b67_job::{Progress, Session, refuse_memory};
 use b67_job_admit::admit;
-use b67_load_verify::Admitted;
+use b67_load::Admitted;
 use b67_model_text::Deck;
 use b67_session::{Stop, open};
 use b67_word::{Bytes, Numbers};

@@ -1,8 +1,0 @@
-use Rattle.std.proofs.Common.{map, drop}
-use Rattle.b67_load_verify.specs.Listing.{seen}
-use Rattle.b67_load_verify.specs.Broken.{listed}
-use Rattle.b67_load_verify.proofs.FirstRefusal.{Remains}
-use Rattle.b67_load_verify.proofs.admission.broken_in_listing.Given as goal
-
-abbrev pub invariant-entries : goal.invariant-entries
-invariant-entries l = Remains (listed l.file l.number l.segment l.listing) l.listing (map seen (drop l.entry-index l.entry-items))

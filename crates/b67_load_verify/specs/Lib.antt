@@ -1,3 +1,0 @@
-pub mod Listing
-pub mod Broken
-pub mod Order
