@@ -5,3 +5,4 @@ pub mod Taking
 pub mod Parts
 pub mod Program
 pub mod Entries
+mod Digits

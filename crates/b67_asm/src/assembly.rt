@@ -1,7 +1,7 @@
 //! The codefile of assembly cards.
 
-ghost use Rattle.std.specs.Prelude.{◌≡◌, ◌⊎◌, ◌+◌, ◌≤◌, ◌<◌, ◌^◌, length, drop, [], ◌∷◌, false};
 ghost use Rattle.b67_model_text.specs.Asm as asm;
+ghost use Rattle.std.specs.Prelude.{◌≡◌, ◌⊎◌, ◌+◌, ◌<◌, ◌^◌, length, [], false};
 ghost use Rattle.b67_asm.specs.Scope.{names_in};
 ghost use Rattle.b67_asm.specs.Blocks.{IsAssembled, IsChecked, assembled_lines, with_names, has_entry_card};
 
@@ -10,7 +10,7 @@ use crate::cards::{is_head, own_from};
 use crate::fault::AsmFault;
 use crate::names::{Names, names_of, segments_behind};
 use crate::operator::misplaced;
-use b67_asm_read::lines_of;
+use crate::statement::lines_of;
 use b67_codefile::{Codefile, Rows, Segments};
 use b67_model_text::{Cards, Line, Statement};
 use std::alloc::Global;

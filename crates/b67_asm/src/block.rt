@@ -1,7 +1,6 @@
-// Segments and data rows, each from its card and the cards behind it.
+ghost use Rattle.b67_model_text.specs.Asm as asm;
 ghost use Rattle.std.specs.Prelude.{◌≡◌, ◌+◌, ◌≤◌, ◌<◌, ◌^◌, false, length, [], OnOk, IfOk};
 ghost use Rattle.std.specs.List.{list_any};
-ghost use Rattle.b67_model_text.specs.Asm as asm;
 ghost use Rattle.b67_asm.specs.Scope.{names_in, scope_at};
 ghost use Rattle.b67_asm.specs.Putting.{CodePut, put_behind, code_count};
 ghost use Rattle.b67_asm.specs.Blocks.{segment_head, row_head, SegmentPut, RowPartPut, SegmentAdded, RowAdded, PartPut, Grows, has_entry_card};
@@ -17,6 +16,8 @@ use b67_model::MOST_PARTS;
 use b67_model_text::{Kind, Line, Named, Statement};
 use b67_word::Words;
 use std::alloc::Global;
+
+// Segments and data rows, each from its card and the cards behind it.
 
 /// A card that begins a segment or a data row, by its number and name, with what stands before it and its own cards.
 #[derive(Clone, Copy)]

@@ -1,9 +1,10 @@
-// The cards of a segment or a data row.
-ghost use Rattle.std.specs.Prelude.{◌≡◌, ◌≤◌, false, length, drop};
 ghost use Rattle.b67_model_text.specs.Asm as asm;
+ghost use Rattle.std.specs.Prelude.{◌≡◌, ◌≤◌, false, length, drop};
 ghost use Rattle.b67_asm.specs.Blocks.{has_entry_card};
 
 use b67_model_text::{Kind, Line};
+
+// The cards of a segment or a data row.
 
 /// Whether a card of this kind begins a segment or a data row.
 pub fn is_head(kind: Kind) -> bool

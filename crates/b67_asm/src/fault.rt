@@ -1,8 +1,8 @@
 //! Why cards denote no codefile.
 
-ghost use Rattle.std.specs.Prelude.{◌≡◌};
 ghost use Rattle.b67_asm.specs.declared.fault.AsmFault.TheVariants as faults;
 ghost use Rattle.b67_asm.specs.declared.fault.Refused.TheVariants as refusals;
+ghost use Rattle.std.specs.Prelude.{◌≡◌};
 
 use std::alloc::AllocError;
 use thiserror::Error;

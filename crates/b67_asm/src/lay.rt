@@ -1,4 +1,3 @@
-// Code, syllable by syllable.
 ghost use Rattle.std.specs.Prelude.{◌≡◌, ◌+◌, ◌*◌, ◌%◌, ◌^◌, ◌<◌, ◌≤◌, ◌++◌, length, OnOk, IfOk, IsTrue};
 ghost use Rattle.b67_word.specs.Tagged.{contents};
 ghost use Rattle.std.specs.List.{AllByRecursion};
@@ -12,6 +11,8 @@ use b67_model::Op;
 use b67_syllable::encode;
 use b67_word::{Word, Words};
 use std::alloc::{AllocError, Global};
+
+// Code, syllable by syllable.
 
 /// Fills up to the next whole word.
 pub fn fill(out: &mut Vec<u8>) -> Result<(), AllocError>

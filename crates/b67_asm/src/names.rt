@@ -1,5 +1,4 @@
-// The names and labels that cards define.
-ghost use Rattle.std.specs.Prelude.{◌≡◌, ◌+◌, ◌<◌, ◌≤◌, ◌^◌, ◌||◌, ℕ, List, [], ◌∷◌, length, drop, is_some, IfOk, OnOk};
+ghost use Rattle.std.specs.Prelude.{◌≡◌, ◌+◌, ◌<◌, ◌≤◌, ◌^◌, ◌||◌, ℕ, List, [], ◌∷◌, length, is_some, IfOk, OnOk};
 ghost use Rattle.std.specs.Option.{option_or};
 ghost use Rattle.std.specs.List.{cons_option, list_any};
 ghost use Rattle.b67_model.specs.Encoding.{syllable_after};
@@ -13,6 +12,8 @@ use b67_model_text::{Line, Named, Sketch, Statement};
 use indexmap::IndexMap;
 use std::alloc::{AllocError, Global};
 use std::collections::BTreeMap;
+
+// The names and labels that cards define.
 
 /// The labels of a segment's cards with their syllables, and the labels that its ENTRY cards name.
 #[derive(Drop)]

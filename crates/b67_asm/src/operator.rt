@@ -1,9 +1,8 @@
-// The operator that a card of a segment denotes.
+ghost use Rattle.b67_model_text.specs.Asm as asm;
 ghost use Rattle.std.specs.Prelude.{◌≡◌, ◌∷◌, ◌+◌, ◌*◌, ◌<◌, ◌≤◌, ◌^◌, ◌&&◌, not, min, is_some, if◌then◌else◌, IfSome, IfOk, IsTrue, Ok};
 ghost use Rattle.b67_word.specs.Couples.{couple_bits};
 ghost use Rattle.b67_model.specs.Encoding.{has_bits};
 ghost use Rattle.b67_model.specs.declared.operators.Op.TheVariants.{Mpcw};
-ghost use Rattle.b67_model_text.specs.Asm as asm;
 ghost use Rattle.std.specs.List.{list_any};
 ghost use Rattle.std.specs.Option.{option_map, option_and_then};
 ghost use Rattle.b67_model.specs.Operators.{place_at};
@@ -16,6 +15,8 @@ use b67_model::{MOST_SEGMENT, Op};
 use b67_model_text::{Branch, Call, Name, Named, Sketch, Statement, Values};
 use b67_word::{Couple, Place, bits_of};
 use std::collections::BTreeMap;
+
+// The operator that a card of a segment denotes.
 
 /// What the operators of a segment may name: names, labels, how many segments there are, and the segment's level.
 #[derive(Clone, Copy)]

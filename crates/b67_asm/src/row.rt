@@ -1,9 +1,8 @@
-// The words of a data row's cards.
+ghost use Rattle.b67_model_text.specs.Asm as asm;
 ghost use Rattle.std.specs.Prelude.{◌≡◌, ◌∷◌, ◌++◌, ◌≤◌, ◌<◌, ◌+◌, not, map, length, OnOk, IsTrue, IsFalse};
 ghost use Rattle.std.specs.List.{list_any, AllByRecursion};
 ghost use Rattle.b67_word.specs.Tagged.{word, contents};
 ghost use Rattle.b67_codefile.specs.Spelling.{HasTag};
-ghost use Rattle.b67_model_text.specs.Asm as asm;
 ghost use Rattle.b67_asm.specs.Scope.{names_in};
 ghost use Rattle.b67_asm.specs.RowPutting.{WordsPut, RowPut, line_words, checked_values};
 ghost use Rattle.b67_model.specs.declared.limits.TheConstants.{MOST_ARRAY};
@@ -15,6 +14,8 @@ use b67_model::MOST_ARRAY;
 use b67_model_text::{Line, Statement};
 use b67_word::{Word, Words};
 use std::alloc::{AllocError, Global};
+
+// The words of a data row's cards.
 
 fn word_of(value: Option<u64>) -> Word
     requires { IsTrue (asm.is_word value) }

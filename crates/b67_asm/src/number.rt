@@ -1,11 +1,12 @@
-// Numbers on assembly cards.
 ghost use Rattle.std.specs.Prelude.{◌≡◌, ◌+◌, ◌*◌, ◌^◌, ◌<◌, ◌≤◌, length, IfSome};
 ghost use Rattle.b67_model_text.specs.Hex.{digit_value};
 ghost use Rattle.b67_model_text.specs.Statements.{numeral_up_to, negative_bits, digit_bits, hex_bits, literal_bits};
-ghost use Rattle.b67_asm_read.specs.Bounds.{IfInRange};
+ghost use Rattle.b67_asm.specs.Bounds.{IfInRange};
 
 use b67_card::{are_hex_digits, digit_value, natural};
 use b67_model::GREATEST;
+
+// Numbers on assembly cards.
 
 /// A numeral, and its number where that is within the range.
 pub fn numeral_up_to(word: &[u8], high: u64) -> Option<Option<u64>>

@@ -1,11 +1,10 @@
-// What an assembly card says by itself.
+ghost use Rattle.b67_model_text.specs.declared.assembly.Mnemonic.TheVariants as names;
+ghost use Rattle.b67_model_text.specs.Statements as spec;
 ghost use Rattle.std.specs.Prelude.{◌≡◌, ◌-◌, [], ◌∷◌, ◌≤◌, map, take, IfOk, IfSome, length};
 ghost use Rattle.std.specs.Option.{option_and_then};
-ghost use Rattle.b67_model_text.specs.declared.assembly.Mnemonic.TheVariants as names;
 ghost use Rattle.b67_model_text.specs.Answers.{or_reason};
 ghost use Rattle.b67_model_text.specs.Command.{row_of, parted};
-ghost use Rattle.b67_model_text.specs.Statements as spec;
-ghost use Rattle.b67_asm_read.specs.Rows.{key_and_mnemonic, ValuesPut};
+ghost use Rattle.b67_asm.specs.Rows.{key_and_mnemonic, ValuesPut};
 
 use crate::number::{bits_in, numeral_up_to};
 use b67_card::{name, parted, words};
@@ -15,6 +14,8 @@ use b67_model_text::{
 };
 use b67_word::Couple;
 use std::alloc::{AllocError, Global};
+
+// What an assembly card says by itself.
 
 const MNEMONICS: [(&[u8], Mnemonic); 48] = [
     (b"VALC", Mnemonic::Valc),

@@ -2,8 +2,8 @@ use Rattle.std.proofs.Common.{◌≡◌, ◌+◌, ◌*◌, ◌<◌, ◌^◌, ℕ
 use Rattle.std.proofs.lemmas.List.Sums.{fold_more}
 use Rattle.b67_model_text.specs.Hex.{digit_value}
 use Rattle.b67_model_text.specs.Statements.{digit_bits}
-use Rattle.b67_asm_read.proofs.Digits.{bits_below}
-use Rattle.b67_asm_read.proofs.number.digit_bits.Goals as goal
+use Rattle.b67_asm.proofs.Digits.{bits_below}
+use Rattle.b67_asm.proofs.number.digit_bits.Goals as goal
 
 pub loop-digit-preserved : goal.loop-digit-preserved
 loop-digit-preserved c =
