@@ -22,7 +22,7 @@ use Rattle.b67_task_tables.specs.declared.tables.TaskRow.{TaskRow}
 use Rattle.b67_task_tables.specs.declared.tables.JobRow.{JobRow}
 use Rattle.b67_image.specs.Parts.{ToldCounts}
 use Rattle.b67_image.specs.Spelling.{one_byte, two_bytes, four_bytes, eight_bytes, listed_bytes, signed_bytes, tagged_bytes, place_bytes, regs_bytes, areas_bytes, counts_bytes, switch_bytes, name_bytes, job_bytes, state_bytes, task_row_bytes}
-use Rattle.b67_image_numbers.specs.Giving.{◌>>=◌, ItemReader, read_number, read_many, read_place}
+use Rattle.b67_image.specs.Giving.{◌>>=◌, ItemReader, read_number, read_many, read_place}
 use Rattle.b67_image.specs.Reading.{if_passes, is_within, number_within, read_count, read_counted, read_word, read_regs, read_areas, read_counts, read_switch, read_bytes, read_name, read_signed, read_job, state_by_kind, read_state, read_row}
 use Rattle.b67_image.specs.Within.{AreItems, IsPlaceInRange, AreRegs, AreAreas, AreCounts, IsSwitch, IsReadNumber, IsJob, IsState, IsRowInRange, IsFour, IsTwo}
 use Rattle.b67_image.proofs.Forms.{front_parts, row_parts}

@@ -18,7 +18,7 @@ use Rattle.b67_model_text.specs.declared.deck.Switch.{Switch}
 use Rattle.b67_task_tables.specs.declared.tables.TaskState.TheVariants.{Ready, Awaits, WaitsAt}
 use Rattle.b67_task_tables.specs.declared.tables.JobRow.{JobRow}
 use Rattle.b67_image.specs.Parts.{ToldCounts, ImageParts}
-use Rattle.b67_image_numbers.specs.Giving.{read_number}
+use Rattle.b67_image.specs.Giving.{read_number}
 use Rattle.b67_image.specs.Spelling.{one_byte, two_bytes, four_bytes, eight_bytes, image_header, listed_bytes, signed_bytes, tagged_bytes, place_bytes, regs_bytes, areas_bytes, counts_bytes, switch_bytes, name_bytes, job_front, job_numbers, job_bytes, state_bytes, task_row_bytes, cpu_bytes, tables_bytes, image_bytes}
 use Rattle.b67_image.specs.Within.{IsPlaceInRange, AreAreas, AreCounts, IsSwitch, IsReadNumber, IsJob, IsState, IsRowInRange, IsFour, IsTwo, ArePartsWithin}
 use Rattle.b67_image.specs.Typed.{AreTypedRegs, AreTypedCounts, IsTypedSwitch, IsTypedNumber, IsTypedJob, AreTyped, HaveShortNames, ImagesTellOne}

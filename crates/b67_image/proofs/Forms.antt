@@ -25,7 +25,7 @@ use Rattle.b67_task_tables.specs.declared.tables.JobRow.{JobRow}
 use Rattle.b67_image.specs.Parts.{ToldCounts, ImageParts}
 use Rattle.b67_image.proofs.Loops.{small_fits}
 use Rattle.b67_image.specs.Spelling.{one_byte, two_bytes, four_bytes, eight_bytes, image_header, listed_bytes, signed_bytes, tagged_bytes, place_bytes, regs_bytes, areas_bytes, counts_bytes, switch_bytes, name_bytes, job_front, job_numbers, job_bytes, state_bytes, task_row_bytes, cpu_bytes, image_bytes}
-use Rattle.b67_image_numbers.specs.Giving.{ItemReader, read_number, read_many, read_place}
+use Rattle.b67_image.specs.Giving.{ItemReader, read_number, read_many, read_place}
 use Rattle.b67_image.specs.Reading.{is_within, number_within, read_count, read_counted, read_word, read_core, read_regs, read_areas, read_links, read_counts, read_switch, read_switches, read_bytes, read_name, read_signed, read_job, read_jobs, read_state, read_row, read_rows, read_parts, parts_in}
 use Rattle.b67_image.specs.Within.{AreItems, IsPlaceInRange, AreRegs, AreAreas, AreCounts, IsSwitch, IsReadNumber, IsJob, IsState, IsRowInRange, IsFour, IsTwo, ArePartsWithin}
 use Rattle.b67_model.specs.declared.limits.TheConstants.{LEAST_CORE, MOST_CORE, MOST_SECTORS, LEAST_STACK, MOST_STACK, MOST_JOBS, MOST_PARTS, GREATEST, MOST_QUANTUM, MOST_LIMIT, MOST_NUMBER, MOST_MADE, MOST_SWITCHES}

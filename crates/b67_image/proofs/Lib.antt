@@ -16,3 +16,4 @@ pub mod Unseen
 pub mod Running
 pub mod Codes
 pub mod Sizes
+pub mod NumberLoops

@@ -17,7 +17,7 @@ use Rattle.b67_task_tables.specs.declared.tables.Machine.{Machine}
 use Rattle.b67_image.specs.declared.fault.ImageFault.{ImageFault}
 use Rattle.b67_image.specs.Parts.{ImageParts, parts_of}
 use Rattle.b67_image.specs.Spelling.{two_bytes, four_bytes, eight_bytes, image_header, listed_bytes, tagged_bytes, regs_bytes, areas_bytes, counts_bytes, switch_bytes, job_bytes, task_row_bytes, image_bytes}
-use Rattle.b67_image_numbers.specs.Giving.{read_number, read_many}
+use Rattle.b67_image.specs.Giving.{read_number, read_many}
 use Rattle.b67_image.specs.Reading.{read_counted, read_word, read_core, read_links, read_switch, read_switches, read_job, read_jobs, read_row, read_rows, read_parts, parts_in}
 use Rattle.b67_image.specs.Shape.{is_header, has_header, has_shape}
 use Rattle.b67_image.specs.Text.{last_card, refused_card, within_image_limit, found_from, is_digits, bytes_from, bytes_of}

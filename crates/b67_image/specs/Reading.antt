@@ -13,7 +13,7 @@ use Rattle.b67_task_tables.specs.declared.tables.TaskState.TheVariants.{Ready, A
 use Rattle.b67_task_tables.specs.declared.tables.TaskRow.{TaskRow}
 use Rattle.b67_task_tables.specs.declared.tables.JobRow.{JobRow}
 use Rattle.b67_image.specs.Parts.{ToldCounts, ImageParts}
-use Rattle.b67_image_numbers.specs.Giving.{◌>>=◌, ItemReader, read_number, read_many, read_place}
+use Rattle.b67_image.specs.Giving.{◌>>=◌, ItemReader, read_number, read_many, read_place}
 use Rattle.b67_model.specs.declared.limits.TheConstants.{LEAST_CORE, MOST_CORE, MOST_SECTORS, LEAST_STACK, MOST_STACK, MOST_JOBS, MOST_PARTS, GREATEST, MOST_QUANTUM, MOST_LIMIT, MOST_NUMBER, MOST_MADE, MOST_SWITCHES}
 
 -- what passes a test

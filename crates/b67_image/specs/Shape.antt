@@ -1,6 +1,6 @@
 -- Where the items of an image lie in its bytes, by their lengths and numbers alone.
 use Rattle.std.specs.Prelude.{ℕ, zero, suc, ◌+◌, ◌*◌, ◌==◌, nat_lt, Bool, false, List, length, drop, Option, Some, None, if◌then◌else◌}
-use Rattle.b67_image_numbers.specs.Giving.{◌>>=◌, read_number}
+use Rattle.b67_image.specs.Giving.{◌>>=◌, read_number}
 use Rattle.std.specs.Int.{w8, w32, w64}
 use Rattle.b67_image.specs.declared.widths.TheConstants.{BEHIND_CORE, COUNTS, JOB_FRONT, SWITCH, TASK_ROW}
 use Rattle.b67_image.specs.Spelling.{image_header}

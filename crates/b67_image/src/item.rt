@@ -1,7 +1,7 @@
 //! The bytes of small items, in big-endian order.
 
 ghost use Rattle.std.specs.Prelude.{◌≡◌, ◌≤◌, ◌+◌, ◌++◌, [], length};
-ghost use Rattle.std.specs.Int.{w8, w16, w32, w64, to_be_bytes};
+ghost use Rattle.std.specs.Int.{to_be_bytes};
 ghost use Rattle.b67_image.specs.Spelling.{one_byte, two_bytes, four_bytes, eight_bytes, place_bytes, regs_bytes, areas_bytes, counts_bytes, switch_bytes, job_front, state_bytes, task_row_bytes};
 ghost use Rattle.b67_image.specs.Parts.{told_counts};
 

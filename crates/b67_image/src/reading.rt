@@ -11,12 +11,12 @@ ghost use Rattle.b67_image.specs.Machines.{IsMachineOf};
 
 use crate::cards::{Spelled, bytes_of};
 use crate::fault::ImageFault;
+use crate::flaw::Flaw;
 use crate::parts::{Found, TableCounts, parts_in};
 use crate::shape::{has_header, has_shape};
 use arrayvec::ArrayVec;
 use b67_backing::Sectors;
 use b67_card::{ReadFault, Refused, read_up_to};
-use b67_image_numbers::Flaw;
 use b67_image_shape::is_shaped;
 use b67_io::Source;
 use b67_model::IMAGE_BYTES;

@@ -1,15 +1,16 @@
 //! Switches, jobs and task rows at the front of bytes.
 
-ghost use Rattle.std.specs.Prelude.{◌≡◌, ◌≤◌, ◌<◌, ◌^◌, ◌+◌, nat_abs, IfOk};
-ghost use Rattle.b67_image_numbers.specs.Giving.{GivesItem, read_many};
+ghost use Rattle.std.specs.Prelude.{◌≡◌, ◌≤◌, ◌<◌, ◌+◌, nat_abs, IfOk};
+ghost use Rattle.b67_image.specs.Giving.{GivesItem, read_many};
 ghost use Rattle.b67_image.specs.Reading.{read_count, read_counted, read_switch, read_switches, read_name, read_signed, read_job, read_jobs, state_by_kind, read_state, read_row, read_rows};
 ghost use Rattle.b67_ctl.specs.declared.map.TheConstants.{SLOTS};
 ghost use Rattle.b67_model.specs.declared.limits.TheConstants.{GREATEST};
 
+use crate::flaw::Flaw;
+use crate::numbers::{read_eight, read_four, read_one, read_place, read_two};
 use arrayvec::ArrayVec;
 use b67_card::name;
 use b67_ctl::SLOTS;
-use b67_image_numbers::{Flaw, read_eight, read_four, read_one, read_place, read_two};
 use b67_model::{
     GREATEST, MOST_JOBS, MOST_LIMIT, MOST_MADE, MOST_NUMBER, MOST_PARTS, MOST_SWITCHES,
 };

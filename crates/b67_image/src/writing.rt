@@ -6,7 +6,7 @@ ghost use Rattle.b67_io.specs.Told.{Took, TookPart};
 ghost use Rattle.b67_io.specs.Causes.{HasCause};
 ghost use Rattle.b67_backing.specs.Links.{links_in};
 ghost use Rattle.b67_image.specs.Parts.{parts_of};
-ghost use Rattle.b67_image.specs.Spelling.{image_bytes, listed_bytes, tagged_bytes, four_bytes, two_bytes, signed_bytes, regs_bytes, areas_bytes, switch_bytes, name_bytes, job_front, job_numbers, job_bytes, task_row_bytes, cpu_bytes, tables_bytes};
+ghost use Rattle.b67_image.specs.Spelling.{image_bytes, listed_bytes, tagged_bytes, four_bytes, two_bytes, signed_bytes, switch_bytes, job_bytes, task_row_bytes, cpu_bytes, tables_bytes};
 ghost use Rattle.b67_image.specs.Image.{image_text};
 ghost use Rattle.b67_io.specs.Line.{ended};
 ghost use Rattle.b67_image.specs.Text.{card_lines, last_card};

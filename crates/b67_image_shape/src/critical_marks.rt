@@ -9,7 +9,7 @@ ghost use Rattle.b67_image_shape.specs.FixedWords.{greatest};
 use b67_ctl::SLOTS;
 use b67_task_tables::TaskRow;
 
-/// Whether no critical displacement of the tasks whose parent lives in a slot is greater than a number.
+/// The greatest critical displacement of the tasks whose parent lives in a slot, 0 for none.
 fn greatest_of(rows: &[TaskRow], n: u8) -> u16
     ensures { result ≡ greatest (map task_row rows.now) n }
 {

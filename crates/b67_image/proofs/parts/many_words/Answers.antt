@@ -2,8 +2,8 @@ use Rattle.std.proofs.Common.{◌+◌, ◌∙◌, List, take, length, sym, ap, s
 use Rattle.std.proofs.lemmas.List.{length-replicate}
 use Rattle.b67_word.specs.Tagged.{Tagged}
 use Rattle.b67_image.specs.Reading.{read_word}
-use Rattle.b67_image_numbers.specs.Giving.{read_many}
-use Rattle.b67_image_numbers.proofs.Loops.{Continues, begins, writes_on, ends, written}
+use Rattle.b67_image.specs.Giving.{read_many}
+use Rattle.b67_image.proofs.NumberLoops.{Continues, begins, writes_on, ends, written}
 use Rattle.b67_image.proofs.parts.many_words.Goals as goal
 
 pub each-init : goal.each-init

@@ -1,8 +1,8 @@
 use Rattle.std.proofs.Common.{length, arith}
 use Rattle.std.specs.Int.{w32}
 use Rattle.std.proofs.lemmas.Result.{err_from_is_err_and}
-use Rattle.b67_image_numbers.specs.Giving.{read_number, read_many}
-use Rattle.b67_image_numbers.proofs.Loops.{begins, writes_on, ends, written}
+use Rattle.b67_image.specs.Giving.{read_number, read_many}
+use Rattle.b67_image.proofs.NumberLoops.{begins, writes_on, ends, written}
 use Rattle.b67_image.proofs.parts.read_display.Goals as goal
 
 pub each-init : goal.each-init

@@ -1,7 +1,7 @@
 use Rattle.std.proofs.Common.{length, take}
 use Rattle.std.specs.Int.{w32}
-use Rattle.b67_image_numbers.specs.Giving.{read_number, read_many}
-use Rattle.b67_image_numbers.proofs.Loops.{Continues}
+use Rattle.b67_image.specs.Giving.{read_number, read_many}
+use Rattle.b67_image.proofs.NumberLoops.{Continues}
 use Rattle.b67_image.proofs.parts.read_display.Given as goal
 
 abbrev pub invariant-each : goal.invariant-each

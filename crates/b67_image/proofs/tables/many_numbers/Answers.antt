@@ -3,7 +3,7 @@ use Rattle.std.proofs.lemmas.Int.{to_z-of_z}
 use Rattle.std.proofs.lemmas.Result.{err_from_is_err_and}
 use Rattle.b67_image.specs.Reading.{read_signed}
 use Rattle.b67_image.proofs.Loops.{small_fits}
-use Rattle.b67_image_numbers.proofs.Loops.{goes_on, ends, is_done}
+use Rattle.b67_image.proofs.NumberLoops.{goes_on, ends, is_done}
 use Rattle.b67_image.proofs.tables.many_numbers.Goals as goal
 
 pub returns-in_err-number : goal.returns-in_err-number

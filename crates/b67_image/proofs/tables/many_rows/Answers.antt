@@ -1,7 +1,7 @@
 use Rattle.std.proofs.Common.{◌∷◌, [], length-append, refl, arith}
 use Rattle.std.proofs.lemmas.Result.{err_from_is_err_and}
 use Rattle.b67_image.specs.Reading.{read_row}
-use Rattle.b67_image_numbers.proofs.Loops.{begins, goes_on, ends, is_done}
+use Rattle.b67_image.proofs.NumberLoops.{begins, goes_on, ends, is_done}
 use Rattle.b67_image.proofs.tables.many_rows.Goals as goal
 
 pub each-init : goal.each-init

@@ -1,7 +1,7 @@
 use Rattle.std.proofs.Common.{◌≡◌, length}
 use Rattle.b67_image.specs.Reading.{read_row}
-use Rattle.b67_image_numbers.specs.Giving.{read_many}
-use Rattle.b67_image_numbers.proofs.Loops.{Continues}
+use Rattle.b67_image.specs.Giving.{read_many}
+use Rattle.b67_image.proofs.NumberLoops.{Continues}
 use Rattle.b67_image.proofs.tables.many_rows.Given as goal
 
 abbrev pub invariant-each : goal.invariant-each

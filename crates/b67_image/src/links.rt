@@ -2,7 +2,7 @@
 
 ghost use Rattle.std.specs.Prelude.{◌≡◌, [], ◌∷◌, ◌++◌, OnOk, OnErr};
 ghost use Rattle.std.specs.Int.{w32};
-ghost use Rattle.b67_image_numbers.specs.Giving.{GivesItem, read_number, read_many};
+ghost use Rattle.b67_image.specs.Giving.{GivesItem, read_number, read_many};
 
 use crate::flaw::Flaw;
 use crate::numbers::read_four;

@@ -2,9 +2,9 @@
 use Rattle.std.proofs.Common.{◌≡◌, ℕ, suc, ◌-◌, ◌+◌, ◌≤◌, ◌<◌, List, [], ◌∷◌, ◌++◌, length, take, Some, None, refl, sym, ap, subst, ◌∙◌, append_assoc, arith, slice_set}
 use Rattle.std.specs.Prelude.{Option}
 use Rattle.std.proofs.lemmas.List.{append-nil, take_all, take_more_set}
-use Rattle.b67_image_numbers.specs.declared.flaw.Flaw.{Flaw}
-use Rattle.b67_image_numbers.specs.declared.flaw.Flaw.TheVariants.{Bad, Memory}
-use Rattle.b67_image_numbers.specs.Giving.{◌>>=◌, ReadingFails, ItemReader, read_many}
+use Rattle.b67_image.specs.declared.flaw.Flaw.{Flaw}
+use Rattle.b67_image.specs.declared.flaw.Flaw.TheVariants.{Bad, Memory}
+use Rattle.b67_image.specs.Giving.{◌>>=◌, ReadingFails, ItemReader, read_many}
 
 -- what was read before, and what is still read
 abbrev pub with_front : {X : Type 0} → List X → Option (List X × List ℕ) → Option (List X × List ℕ)
