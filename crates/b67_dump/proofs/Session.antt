@@ -2,7 +2,7 @@
 use Rattle.std.proofs.Common.{◌≡◌, ℕ, ◌+◌, List, [], ◌∷◌, ◌++◌, map, refl, ◌∙◌, subst, arith}
 use Rattle.std.specs.Prelude.{flat_map, Result, Ok, Err, ⊤, OnOk, OnErr}
 use Rattle.b67_word.specs.declared.faults.Failed.{Failed}
-use Rattle.b67_task_tables.specs.declared.tables.Machine.{Machine}
+use Rattle.b67_task.specs.declared.tables.Machine.{Machine}
 use Rattle.b67_layout_shown.specs.Machines.{sight_of}
 use Rattle.b67_dump.specs.Analysed.{ForEachShown}
 use Rattle.b67_lemmas.specs.Lists.{Has}
@@ -11,7 +11,7 @@ use Rattle.b67_stack.specs.declared.Cpu.{Cpu}
 use Rattle.b67_stack.specs.Common.{Storage}
 use Rattle.b67_layout.specs.Common.{Placement, TaskRow, JobRow, JobCounts, JobsShow, TablesShow, RepresentsSession}
 use Rattle.b67_layout.proofs.Weaker.{but_counts}
-use Rattle.b67_task_tables.specs.Tables.{task_row, job_row, counts_of}
+use Rattle.b67_task.specs.Tables.{task_row, job_row, counts_of}
 use Rattle.b67_layout_shown.specs.Shown.{Sight}
 use Rattle.b67_dump.specs.Dump.{tasks_text, dump_text}
 use Rattle.b67_dump.specs.Walk.{jobs_dump, walk_text}

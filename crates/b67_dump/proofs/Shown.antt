@@ -8,7 +8,7 @@ use Rattle.b67_stack.specs.declared.Cpu.{Cpu}
 use Rattle.b67_stack.specs.Common.{PagedObject, Storage}
 use Rattle.b67_layout.specs.Common.{Placement, array_object, code_objects, objects_of, machine_view, TaskRow, JobRow, JobCounts, JobShows, JobsShow, TablesShow, RepresentsSession}
 use Rattle.b67_layout.proofs.Weaker.{but_counts}
-use Rattle.b67_task_tables.specs.Tables.{task_row, job_row, counts_of}
+use Rattle.b67_task.specs.Tables.{task_row, job_row, counts_of}
 use Rattle.b67_layout_shown.specs.Shown.{Sight, numbers_read, row_cells, segment_cells, member_in, members_from, shown}
 use Rattle.b67_layout_shown.proofs.Contents.{dictionary_is, array_fits}
 use Rattle.b67_layout_shown.proofs.Whole.{job_is}

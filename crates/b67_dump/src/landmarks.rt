@@ -11,7 +11,7 @@ use arrayvec::ArrayVec;
 use b67_core::Core;
 use b67_ctl::SLOTS;
 use b67_layout_shown::seeing::{slot_start, word_seen_at};
-use b67_task_tables::Machine;
+use b67_task::Machine;
 
 /// How many landmarks a slot has: one for every 128 words.
 pub const SLOT_LANDMARKS: usize = 128;

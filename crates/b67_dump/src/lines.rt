@@ -6,7 +6,7 @@ ghost use Rattle.b67_model.specs.Lines.{task_name};
 ghost use Rattle.b67_model_text.specs.Hex.{hex_char};
 ghost use Rattle.b67_stack.specs.Shapes.{Is};
 ghost use Rattle.b67_layout.specs.Rows as layout;
-ghost use Rattle.b67_task_tables.specs.Tables.{job_row, state_of};
+ghost use Rattle.b67_task.specs.Tables.{job_row, state_of};
 ghost use Rattle.b67_layout_shown.specs.Reading.{word_seen_at, is_set, desc_in, descriptor_by, home_by, shape_in};
 ghost use Rattle.b67_layout_shown.specs.Shown.{place_seen, reference_by};
 ghost use Rattle.b67_layout_shown.specs.Machines.{sight_of};
@@ -22,7 +22,7 @@ use b67_ctl::{DICTIONARY_STACKS, MCP_STACK, SLOTS};
 use b67_io::Line;
 use b67_layout_shown::seeing::{TaskTop, slot_start, word_seen_at};
 use b67_session_lines::{line_of, with_number, with_text};
-use b67_task_tables::{JobRow, Machine, TaskRow, TaskState};
+use b67_task::{JobRow, Machine, TaskRow, TaskState};
 use b67_word::{Place, Word};
 
 /// Appends a task's name.

@@ -4,7 +4,7 @@ ghost use Rattle.std.specs.Prelude.{◌≡◌, ◌+◌, ◌-◌, ◌<◌, ◌≤
 ghost use Rattle.b67_io.specs.Line.{ended};
 ghost use Rattle.b67_io.specs.Told.{Took, TookPart};
 ghost use Rattle.b67_io.specs.Causes.{HasCause};
-ghost use Rattle.b67_task_tables.specs.Tables.{task_row, job_row};
+ghost use Rattle.b67_task.specs.Tables.{task_row, job_row};
 ghost use Rattle.b67_layout_shown.specs.Reading.{cells_in, stack_seen};
 ghost use Rattle.b67_layout_shown.specs.Shown.{rows_of};
 ghost use Rattle.b67_layout_shown.specs.Machines.{sight_of};
@@ -21,7 +21,7 @@ use crate::order::{row_at, rows_of};
 use crate::walking::{count_marks, mark_at, stops_of, top_at};
 use b67_io::{Line, Sink, put_line};
 use b67_layout_shown::seeing::{TaskTop, top_of, word_seen_at};
-use b67_task_tables::{JobRow, Machine, TaskRow};
+use b67_task::{JobRow, Machine, TaskRow};
 use b67_word::Failed;
 
 /// Puts a line with its end.

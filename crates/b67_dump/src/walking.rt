@@ -2,7 +2,7 @@
 
 ghost use Rattle.std.specs.Prelude.{◌≡◌, ℕ, ◌+◌, ◌/◌, ◌%◌, ◌≤◌, ◌<◌, ◌^◌, [], ◌∷◌, length, map, slice_get, Some};
 ghost use Rattle.b67_layout_shown.specs.Reading.{word_seen_at};
-ghost use Rattle.b67_task_tables.specs.Tables.{task_row};
+ghost use Rattle.b67_task.specs.Tables.{task_row};
 ghost use Rattle.b67_layout_shown.specs.Shown.{number_seen};
 ghost use Rattle.b67_layout_shown.specs.Machines.{sight_of};
 ghost use Rattle.b67_dump.specs.Landmarks.{AreStops, IsBelow};
@@ -12,7 +12,7 @@ ghost use Rattle.b67_dump.specs.Walk.{marks_in, marks_under, offset_from, top_ma
 use arrayvec::ArrayVec;
 use b67_core::Core;
 use b67_layout_shown::seeing::{row_in_slot, top_of, word_seen_at};
-use b67_task_tables::{Machine, TaskRow};
+use b67_task::{Machine, TaskRow};
 
 /// How many marks stand from one down, at most `turns`.
 pub fn count_marks(core: &Core, turns: u32, mark: u64) -> u32

@@ -14,10 +14,10 @@ use Rattle.b67_model_text.specs.Deck.{of_card}
 use Rattle.b67_backing.specs.Shelf.{Table, Shelf, IsShelf}
 use Rattle.b67_backing.specs.Links.{AreLinksOf, links_in, unlinked}
 use Rattle.b67_model_text.specs.declared.deck.Switch.{Switch}
-use Rattle.b67_task_tables.specs.declared.tables.TaskRow.{TaskRow}
-use Rattle.b67_task_tables.specs.declared.tables.JobRow.{JobRow}
-use Rattle.b67_task_tables.specs.declared.tables.Tasks.{Tasks}
-use Rattle.b67_task_tables.specs.declared.tables.Machine.{Machine}
+use Rattle.b67_task.specs.declared.tables.TaskRow.{TaskRow}
+use Rattle.b67_task.specs.declared.tables.JobRow.{JobRow}
+use Rattle.b67_task.specs.declared.tables.Tasks.{Tasks}
+use Rattle.b67_task.specs.declared.tables.Machine.{Machine}
 use Rattle.b67_image.specs.Parts.{ToldCounts, ImageParts, parts_of, told_counts}
 use Rattle.b67_image.specs.declared.parts.Found.{Found}
 use Rattle.b67_image.specs.Found.{counts_found, found_parts, HaveTables}

@@ -15,8 +15,8 @@ use Rattle.b67_word.specs.Numbers.{number}
 use Rattle.b67_backing.specs.Shelf.{Table, row}
 use Rattle.b67_backing.specs.Links.{table_link, links_in}
 use Rattle.b67_model_text.specs.declared.deck.Switch.{Switch}
-use Rattle.b67_task_tables.specs.declared.tables.TaskState.TheVariants.{Ready, Awaits, WaitsAt}
-use Rattle.b67_task_tables.specs.declared.tables.JobRow.{JobRow}
+use Rattle.b67_task.specs.declared.tables.TaskState.TheVariants.{Ready, Awaits, WaitsAt}
+use Rattle.b67_task.specs.declared.tables.JobRow.{JobRow}
 use Rattle.b67_image.specs.Parts.{ToldCounts, ImageParts}
 use Rattle.b67_image.specs.Giving.{read_number}
 use Rattle.b67_image.specs.Spelling.{one_byte, two_bytes, four_bytes, eight_bytes, image_header, listed_bytes, signed_bytes, tagged_bytes, place_bytes, regs_bytes, areas_bytes, counts_bytes, switch_bytes, name_bytes, job_front, job_numbers, job_bytes, state_bytes, task_row_bytes, cpu_bytes, tables_bytes, image_bytes}

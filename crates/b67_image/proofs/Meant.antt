@@ -13,7 +13,7 @@ use Rattle.b67_model_text.proofs.Contents.{same_Ok}
 use Rattle.b67_model_text.specs.Cards.{cards}
 use Rattle.b67_model_text.specs.Deck.{of_card}
 use Rattle.b67_model_text.specs.Hex.{digit_value, digit_bytes}
-use Rattle.b67_task_tables.specs.declared.tables.Machine.{Machine}
+use Rattle.b67_task.specs.declared.tables.Machine.{Machine}
 use Rattle.b67_image.specs.declared.fault.ImageFault.{ImageFault}
 use Rattle.b67_image.specs.Parts.{ImageParts, parts_of}
 use Rattle.b67_image.specs.Spelling.{two_bytes, four_bytes, eight_bytes, image_header, listed_bytes, tagged_bytes, regs_bytes, areas_bytes, counts_bytes, switch_bytes, job_bytes, task_row_bytes, image_bytes}

@@ -7,9 +7,9 @@ use Rattle.b67_lemmas.proofs.Members.{all_in}
 use Rattle.b67_backing.specs.Shelf.{Table}
 use Rattle.b67_backing.specs.Links.{links_in}
 use Rattle.b67_backing.proofs.Linkings.{links_in-length}
-use Rattle.b67_task_tables.specs.declared.tables.JobRow.{JobRow}
-use Rattle.b67_task_tables.specs.declared.tables.Machine.{Machine}
-use Rattle.b67_task_tables.specs.Tables.{AreCountable}
+use Rattle.b67_task.specs.declared.tables.JobRow.{JobRow}
+use Rattle.b67_task.specs.declared.tables.Machine.{Machine}
+use Rattle.b67_task.specs.Tables.{AreCountable}
 use Rattle.b67_image.specs.declared.fault.ImageFault.{ImageFault}
 use Rattle.b67_image.specs.Parts.{ImageParts, parts_of}
 use Rattle.b67_image.specs.Within.{IsJob, ArePartsWithin}

@@ -7,7 +7,7 @@ use Rattle.std.proofs.lemmas.List.FromFn.{length-range_with_len}
 use Rattle.b67_io.specs.Line.{ended}
 use Rattle.b67_ctl.specs.declared.map.TheConstants.{SLOTS}
 use Rattle.b67_model_text.specs.Hex.{hex_char, hex_text}
-use Rattle.b67_task_tables.specs.declared.tables.JobRow.{JobRow}
+use Rattle.b67_task.specs.declared.tables.JobRow.{JobRow}
 use Rattle.b67_image.specs.Parts.{ImageParts, parts_of}
 use Rattle.b67_image.specs.Spelling.{one_byte, eight_bytes, four_bytes, two_bytes, image_header, listed_bytes, signed_bytes, tagged_bytes, regs_bytes, areas_bytes, counts_bytes, switch_bytes, name_bytes, job_front, job_numbers, job_bytes, task_row_bytes, image_bytes}
 use Rattle.b67_image.specs.Text.{first_card, last_card, card_lines, image_text_of}

@@ -6,7 +6,7 @@ use Rattle.std.proofs.lemmas.Bool.{le-leb, lt-leb, lt-ltb, le-ltb, ne_eqb}
 use Rattle.std.proofs.lemmas.List.{take_all, length-drop}
 use Rattle.std.proofs.lemmas.Option.{same_Some}
 use Rattle.b67_model_text.specs.Cards.{is_name, name_in}
-use Rattle.b67_task_tables.specs.declared.tables.TaskState.TheVariants.{Ready, Awaits}
+use Rattle.b67_task.specs.declared.tables.TaskState.TheVariants.{Ready, Awaits}
 use Rattle.b67_image.specs.declared.flaw.Flaw.{Flaw}
 use Rattle.b67_image.specs.declared.flaw.Flaw.TheVariants.{Bad, Memory}
 use Rattle.b67_image.specs.Giving.{◌>>=◌, ReadingFails, read_number}

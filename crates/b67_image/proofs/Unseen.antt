@@ -10,8 +10,8 @@ use Rattle.b67_model.specs.Schedule.{Session}
 use Rattle.b67_stack.specs.Common.{MachineView, Storage, Represents}
 use Rattle.b67_stack.proofs.Reheld.{Content-stays}
 use Rattle.b67_layout.specs.Common.{JobCounts, Placement, RepresentsSession, TablesShow, machine_view, with_objects}
-use Rattle.b67_task_tables.specs.declared.tables.Machine.{Machine}
-use Rattle.b67_task_tables.specs.Tables.{MachineRepresents, job_row, switch_of, task_row}
+use Rattle.b67_task.specs.declared.tables.Machine.{Machine}
+use Rattle.b67_task.specs.Tables.{MachineRepresents, job_row, switch_of, task_row}
 use Rattle.b67_layout_shown.specs.Machines.{RepresentsOne}
 use Rattle.b67_image.specs.Parts.{ImageParts, parts_of}
 use Rattle.b67_image.specs.Laws.{PartsTellSessions}

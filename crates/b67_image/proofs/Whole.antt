@@ -4,7 +4,7 @@ use Rattle.std.specs.Prelude.{nat_lt}
 use Rattle.std.proofs.lemmas.Bool.{le-ltb}
 use Rattle.b67_model_text.specs.Answers.{◌>>◌, needs}
 use Rattle.b67_model_text.specs.Deck.{Refusal}
-use Rattle.b67_task_tables.specs.declared.tables.Machine.{Machine}
+use Rattle.b67_task.specs.declared.tables.Machine.{Machine}
 use Rattle.b67_layout_shown.specs.Machines.{RepresentsOne}
 use Rattle.b67_image.specs.declared.fault.ImageFault.{ImageFault}
 use Rattle.b67_image.specs.declared.fault.ImageFault.TheVariants.{Card, SourceFault, Memory}

@@ -9,8 +9,8 @@ use Rattle.b67_card.specs.declared.command.Refused.{Refused}
 use Rattle.b67_card.specs.declared.command.Refused.TheVariants as refused
 use Rattle.b67_model_text.specs.Answers.{Answer, ◌>>=◌, ◌>>◌, needs, or_reason}
 use Rattle.b67_model_text.specs.Deck.{Refusal, of_card}
-use Rattle.b67_task_tables.specs.declared.tables.Machine.{Machine}
-use Rattle.b67_task_tables.specs.Tables.{AreCountable}
+use Rattle.b67_task.specs.declared.tables.Machine.{Machine}
+use Rattle.b67_task.specs.Tables.{AreCountable}
 use Rattle.b67_layout_shown.specs.Machines.{RepresentsOne}
 use Rattle.b67_image.specs.Parts.{ImageParts, parts_of}
 use Rattle.b67_image.specs.Shape.{has_header, has_shape}

@@ -8,10 +8,10 @@ use Rattle.b67_ctl.specs.declared.registers.Regs.{Regs}
 use Rattle.b67_area.specs.declared.directory.Areas.{Areas}
 use Rattle.b67_model_text.specs.Cards.{is_name}
 use Rattle.b67_model_text.specs.declared.deck.Switch.{Switch}
-use Rattle.b67_task_tables.specs.declared.tables.TaskState.{TaskState}
-use Rattle.b67_task_tables.specs.declared.tables.TaskState.TheVariants.{Ready, Awaits, WaitsAt}
-use Rattle.b67_task_tables.specs.declared.tables.TaskRow.{TaskRow}
-use Rattle.b67_task_tables.specs.declared.tables.JobRow.{JobRow}
+use Rattle.b67_task.specs.declared.tables.TaskState.{TaskState}
+use Rattle.b67_task.specs.declared.tables.TaskState.TheVariants.{Ready, Awaits, WaitsAt}
+use Rattle.b67_task.specs.declared.tables.TaskRow.{TaskRow}
+use Rattle.b67_task.specs.declared.tables.JobRow.{JobRow}
 use Rattle.b67_image.specs.Parts.{ToldCounts, ImageParts}
 use Rattle.b67_image.specs.Giving.{◌>>=◌, ItemReader, read_number, read_many, read_place}
 use Rattle.b67_model.specs.declared.limits.TheConstants.{LEAST_CORE, MOST_CORE, MOST_SECTORS, LEAST_STACK, MOST_STACK, MOST_JOBS, MOST_PARTS, GREATEST, MOST_QUANTUM, MOST_LIMIT, MOST_NUMBER, MOST_MADE, MOST_SWITCHES}

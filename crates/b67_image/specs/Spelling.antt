@@ -8,10 +8,10 @@ use Rattle.b67_word.specs.Numbers.{number}
 use Rattle.b67_ctl.specs.declared.registers.Regs.{Regs}
 use Rattle.b67_area.specs.declared.directory.Areas.{Areas}
 use Rattle.b67_model_text.specs.declared.deck.Switch.{Switch}
-use Rattle.b67_task_tables.specs.declared.tables.TaskState.{TaskState}
-use Rattle.b67_task_tables.specs.declared.tables.TaskState.TheVariants.{Ready, Awaits, WaitsAt}
-use Rattle.b67_task_tables.specs.declared.tables.TaskRow.{TaskRow}
-use Rattle.b67_task_tables.specs.declared.tables.JobRow.{JobRow}
+use Rattle.b67_task.specs.declared.tables.TaskState.{TaskState}
+use Rattle.b67_task.specs.declared.tables.TaskState.TheVariants.{Ready, Awaits, WaitsAt}
+use Rattle.b67_task.specs.declared.tables.TaskRow.{TaskRow}
+use Rattle.b67_task.specs.declared.tables.JobRow.{JobRow}
 use Rattle.b67_image.specs.Parts.{ToldCounts, ImageParts}
 
 -- a number in 1, 2, 4 and 8 bytes

@@ -6,7 +6,7 @@ use mir.Val.{SFits}
 use Rattle.b67_word.specs.Tagged.{IsWord}
 use Rattle.b67_ctl.specs.declared.map.TheConstants.{SLOTS}
 use Rattle.b67_model_text.specs.declared.deck.Switch.{Switch}
-use Rattle.b67_task_tables.specs.declared.tables.JobRow.{JobRow}
+use Rattle.b67_task.specs.declared.tables.JobRow.{JobRow}
 use Rattle.b67_image.specs.Parts.{ToldCounts, ImageParts}
 use Rattle.b67_image.specs.Spelling.{image_bytes}
 pub use Rattle.b67_image.specs.Within.{AreTypedRegs}

@@ -9,7 +9,7 @@ use arrayvec::ArrayVec;
 use b67_area::Areas;
 use b67_ctl::Regs;
 use b67_model_text::Switch;
-use b67_task_tables::{JobRow, TaskRow, TaskState, Tasks};
+use b67_task::{JobRow, TaskRow, TaskState, Tasks};
 use b67_word::Place;
 use std::marker::Model;
 

@@ -22,7 +22,7 @@ use b67_io::Source;
 use b67_model::IMAGE_BYTES;
 use b67_model_text::Switches;
 use b67_stack::Cpu;
-use b67_task_tables::{JobRows, MOST_ROWS, Machine, TaskRow, Tasks};
+use b67_task::{JobRows, MOST_ROWS, Machine, TaskRow, Tasks};
 use b67_word::Bytes;
 use std::alloc::Global;
 

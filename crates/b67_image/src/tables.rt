@@ -15,7 +15,7 @@ use b67_model::{
     GREATEST, MOST_JOBS, MOST_LIMIT, MOST_MADE, MOST_NUMBER, MOST_PARTS, MOST_SWITCHES,
 };
 use b67_model_text::{Name, Switch, Switches};
-use b67_task_tables::{JobRow, JobRows, MOST_ROWS, TaskRow, TaskState};
+use b67_task::{JobRow, JobRows, MOST_ROWS, TaskRow, TaskState};
 use b67_word::Numbers;
 use std::alloc::Global;
 

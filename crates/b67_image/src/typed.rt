@@ -12,7 +12,7 @@ use b67_backing::Sectors;
 use b67_core::Core;
 use b67_ctl::Regs;
 use b67_model_text::Switch;
-use b67_task_tables::{JobRow, Machine, TaskRow, TaskState};
+use b67_task::{JobRow, Machine, TaskRow, TaskState};
 
 fn state_is_typed(state: TaskState)
     ensures { IsState state }

@@ -20,7 +20,7 @@ use b67_backing::Sectors;
 use b67_core::{Core, to_number};
 use b67_io::Sink;
 use b67_model_text::Switch;
-use b67_task_tables::{JobRow, Machine, TaskRow};
+use b67_task::{JobRow, Machine, TaskRow};
 use b67_word::Failed;
 
 /// The text B67IMAGE.

@@ -5,8 +5,8 @@ use Rattle.std.proofs.lemmas.List.{at_drop_more}
 use Rattle.b67_word.specs.Tagged.{Tagged, bits_at}
 use Rattle.b67_stack.specs.Common.{StackPlace}
 use Rattle.b67_layout.specs.Rows as rows
-use Rattle.b67_task_tables.specs.declared.tables.TaskRow.{TaskRow}
-use Rattle.b67_task_tables.specs.Tables.{task_row}
+use Rattle.b67_task.specs.declared.tables.TaskRow.{TaskRow}
+use Rattle.b67_task.specs.Tables.{task_row}
 use Rattle.b67_layout_shown.specs.Reading.{word_seen_at}
 use Rattle.b67_layout_shown.specs.Shown.{Sight}
 use Rattle.b67_image_shape.specs.TableFacts.{row_in_slot}

@@ -13,7 +13,7 @@ use Rattle.b67_refer.specs.RunningContext.{RunningContext, IsShown}
 use Rattle.b67_refer.proofs.Scenes.{scene}
 use Rattle.b67_layout_shown.specs.Shown.{Sight, task_in, member_in, shown, placed}
 use Rattle.b67_layout_shown.specs.Machines.{sight_of}
-use Rattle.b67_task_tables.specs.declared.tables.Machine.{Machine}
+use Rattle.b67_task.specs.declared.tables.Machine.{Machine}
 use Rattle.b67_image_shape.specs.TableFacts.{TableFacts}
 use Rattle.b67_image_shape.specs.FixedWords.{FixedFacts, CriticalMarks}
 use Rattle.b67_image_shape.specs.Items.{EachTask, StackFacts, ReachFacts, CellFacts, DisplayFacts, ObjectsFacts, AreaFacts, ChainFacts, ShownItems}

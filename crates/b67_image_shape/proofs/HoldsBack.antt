@@ -11,7 +11,7 @@ use Rattle.b67_stack.specs.Common.{NoOriginalAboveTop, Storage, Represents}
 use Rattle.b67_layout.specs.Common.{Slotted, slot_of, TaskRow, JobRow, TaskShows, JobsShow, RunningRow, TablesShow, parent_slot, vector_word, DictionariesFollow, RowHomes, RepresentsDictionary, RepresentsVector, RepresentsCritical, RepresentsTask, IsRunning, critical_mark, SessionHolds}
 use Rattle.b67_layout_shown.specs.Shown.{Sight, Top, top_by, top_in, parents_by, segments_from, row_cells, segment_cells, dictionary_from, segments_of, task_in, member_in, members_from, shown, placed}
 use Rattle.b67_layout_shown.specs.Machines.{sight_of, RepresentsShown}
-use Rattle.b67_task_tables.specs.declared.tables.Machine.{Machine}
+use Rattle.b67_task.specs.declared.tables.Machine.{Machine}
 use Rattle.b67_image_shape.specs.TableFacts.{row_in_slot, BornBy, TableFacts}
 use Rattle.b67_image_shape.specs.FixedWords.{DictionaryFacts, DictionariesStandIn, link_to, vector_of, FixedFacts, CriticalMarks}
 use Rattle.b67_image_shape.specs.Held.{view_in}

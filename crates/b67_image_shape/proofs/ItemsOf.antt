@@ -2,7 +2,7 @@
 use Rattle.b67_layout_shown.specs.Areas.{DirectoriesAreRead}
 use Rattle.b67_layout_shown.specs.Laws.{StacksAreRead}
 use Rattle.b67_layout_shown.specs.Machines.{sight_of, RepresentsShown}
-use Rattle.b67_task_tables.specs.declared.tables.Machine.{Machine}
+use Rattle.b67_task.specs.declared.tables.Machine.{Machine}
 use Rattle.b67_image_shape.specs.Items.{ShownItems}
 use Rattle.b67_image_shape.proofs.TablesOf.{tables_of}
 use Rattle.b67_image_shape.proofs.FixedOf.{fixed_of}

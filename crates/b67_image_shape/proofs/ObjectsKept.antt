@@ -7,7 +7,7 @@ use Rattle.b67_backing.specs.Held.{sectors_for}
 use Rattle.b67_backing.specs.Links.{links_in, AreLinksOf, TellChains}
 use Rattle.b67_lemmas.specs.Lists.{Has}
 use Rattle.b67_stack.specs.Common.{Location, PagedObject}
-use Rattle.b67_task_tables.specs.declared.tables.Machine.{Machine}
+use Rattle.b67_task.specs.declared.tables.Machine.{Machine}
 use Rattle.b67_image_shape.specs.Held.{view_of, location_in}
 use Rattle.b67_image_shape.specs.Items.{HasChainSectors, Chained}
 use Rattle.b67_image_shape.specs.ObjectMarks.{AreMarked, AreKept, desc_at, HasChainOr}

@@ -12,7 +12,7 @@ use Rattle.b67_layout.specs.Common.{SessionHolds, TablesShow, JobRow}
 use Rattle.b67_layout_shown.specs.Areas.{DirectoriesAreRead}
 use Rattle.b67_layout_shown.specs.Shown.{Sight, member_in, members_from, shown, placed}
 use Rattle.b67_layout_shown.specs.Machines.{sight_of, RepresentsShown}
-use Rattle.b67_task_tables.specs.declared.tables.Machine.{Machine}
+use Rattle.b67_task.specs.declared.tables.Machine.{Machine}
 use Rattle.b67_image_shape.specs.TableFacts.{EachJob}
 use Rattle.b67_image_shape.specs.Held.{view_in, held_of, spans_of}
 use Rattle.b67_image_shape.specs.Items.{ObjectFacts, JobObjectFacts, ObjectsFacts, info_seen, AreaFacts, HasChainSectors, Chained, ChainFacts}

@@ -9,7 +9,7 @@ use Rattle.b67_backing.specs.Links.{links_in, AreInside, TellChains}
 use Rattle.b67_backing.proofs.Heads.{inside_of}
 use Rattle.b67_backing.proofs.Linkings.{links_in-length}
 use Rattle.b67_layout_shown.specs.Machines.{sight_of, RepresentsOne, MachinesAreShown}
-use Rattle.b67_task_tables.specs.declared.tables.Machine.{Machine}
+use Rattle.b67_task.specs.declared.tables.Machine.{Machine}
 use Rattle.b67_image_shape.specs.CellWalk.{AreSmall}
 use Rattle.b67_image_shape.specs.Deciding.{Decides}
 use Rattle.b67_image_shape.specs.FixedWords.{FixedFacts, CriticalMarks}

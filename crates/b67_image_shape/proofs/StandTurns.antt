@@ -6,9 +6,9 @@ use Rattle.std.proofs.lemmas.Option.{same_Some}
 use Rattle.std.proofs.Math.Nat.{mul-le-mul_right, suc-mul}
 use Rattle.b67_lemmas.specs.Lists.{Has}
 use Rattle.b67_layout.specs.Rows as rows
-use Rattle.b67_task_tables.specs.declared.tables.TaskRow.{TaskRow}
-use Rattle.b67_task_tables.specs.declared.tables.JobRow.{JobRow}
-use Rattle.b67_task_tables.specs.Tables.{task_row, job_row}
+use Rattle.b67_task.specs.declared.tables.TaskRow.{TaskRow}
+use Rattle.b67_task.specs.declared.tables.JobRow.{JobRow}
+use Rattle.b67_task.specs.Tables.{task_row, job_row}
 use Rattle.b67_layout_shown.specs.Shown.{Sight}
 use Rattle.b67_image_shape.specs.TableFacts.{TableFacts}
 use Rattle.b67_image_shape.specs.FixedWords.{FixedFacts}

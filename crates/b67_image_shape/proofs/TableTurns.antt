@@ -8,9 +8,9 @@ use Rattle.b67_word.specs.Tagged.{Tagged, word}
 use Rattle.b67_lemmas.specs.Lists.{Has}
 use Rattle.b67_lemmas.proofs.Members.{keyed_has}
 use Rattle.b67_layout.specs.Rows as rows
-use Rattle.b67_task_tables.specs.declared.tables.TaskRow.{TaskRow}
-use Rattle.b67_task_tables.specs.declared.tables.JobRow.{JobRow}
-use Rattle.b67_task_tables.specs.Tables.{task_row, job_row}
+use Rattle.b67_task.specs.declared.tables.TaskRow.{TaskRow}
+use Rattle.b67_task.specs.declared.tables.JobRow.{JobRow}
+use Rattle.b67_task.specs.Tables.{task_row, job_row}
 use Rattle.b67_layout_shown.specs.Reading.{word_seen_at}
 use Rattle.b67_layout_shown.specs.Shown.{Sight, top_in}
 use Rattle.b67_image_shape.specs.TableFacts.{row_in_slot}

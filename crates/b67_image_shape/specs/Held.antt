@@ -6,7 +6,7 @@ use Rattle.b67_area.specs.Spans.{Span}
 use Rattle.b67_stack.specs.Shapes.{Location, Locations, nowhere}
 use Rattle.b67_stack.specs.MachineView.{PagedObject, MachineView}
 use Rattle.b67_layout.specs.Layout.{machine_view}
-use Rattle.b67_task_tables.specs.declared.tables.Machine.{Machine}
+use Rattle.b67_task.specs.declared.tables.Machine.{Machine}
 use Rattle.b67_layout_shown.specs.Reading.{word_seen_at, is_set}
 use Rattle.b67_layout_shown.specs.Areas.{spans_in}
 use Rattle.b67_layout_shown.specs.Shown.{Sight, shown, placed}

@@ -17,7 +17,7 @@ use Rattle.b67_stack.specs.Common.{Locations, Activation, IsStack, words, toscw_
 use Rattle.b67_layout.specs.Common.{TaskRow, JobRow, critical_disp, IsRunning, ShowsDisplay}
 use Rattle.b67_layout.specs.Rows as rows
 use Rattle.b67_layout.specs.Layout.{stack_of_task}
-use Rattle.b67_task_tables.specs.declared.tables.Machine.{Machine}
+use Rattle.b67_task.specs.declared.tables.Machine.{Machine}
 use Rattle.b67_layout_shown.specs.Shown.{Sight, stack_of_row, constants_in, job_seen, task_in, shown, placed}
 use Rattle.b67_layout_shown.specs.Machines.{sight_of}
 use Rattle.b67_image_shape.specs.TableFacts.{EachJob, TableFacts}

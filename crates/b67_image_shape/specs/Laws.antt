@@ -4,7 +4,7 @@ use Rattle.b67_lemmas.specs.Lists.{Has}
 use Rattle.b67_layout.specs.Common.{spots}
 use Rattle.b67_layout.specs.Rows.{TaskRow, JobRow}
 use Rattle.b67_layout.specs.Session.{RowsFit}
-use Rattle.b67_task_tables.specs.declared.tables.Machine.{Machine}
+use Rattle.b67_task.specs.declared.tables.Machine.{Machine}
 use Rattle.b67_layout_shown.specs.Shown.{Sight, frame_seen, task_in, job_seen, shown, placed}
 use Rattle.b67_layout_shown.specs.Seen.{Seen, seen_by}
 use Rattle.b67_layout_shown.specs.Machines.{sight_of, RepresentsShown}

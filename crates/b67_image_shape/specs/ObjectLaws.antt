@@ -4,7 +4,7 @@ use Rattle.b67_backing.specs.Shelf.{Shelf, IsShelf}
 use Rattle.b67_backing.specs.Links.{links_in}
 use Rattle.b67_lemmas.specs.Lists.{Has}
 use Rattle.b67_stack.specs.Common.{PagedObject}
-use Rattle.b67_task_tables.specs.declared.tables.Machine.{Machine}
+use Rattle.b67_task.specs.declared.tables.Machine.{Machine}
 use Rattle.b67_layout_shown.specs.Machines.{sight_of}
 use Rattle.b67_image_shape.specs.Held.{view_of}
 use Rattle.b67_image_shape.specs.Items.{ObjectFacts, AreaFacts, ChainFacts}

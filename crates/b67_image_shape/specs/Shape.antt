@@ -1,7 +1,7 @@
 -- When the display shows the frames of the running task, and how that is told.
 use Rattle.std.specs.Prelude.{◌≡◌, ◌≢◌}
 use Rattle.b67_ctl.specs.declared.registers.TheConstants.{NO_SLOT}
-use Rattle.b67_task_tables.specs.declared.tables.Machine.{Machine}
+use Rattle.b67_task.specs.declared.tables.Machine.{Machine}
 use Rattle.b67_refer.specs.RunningContext.{RunningContext, IsShown}
 use Rattle.b67_layout_shown.specs.Machines.{sight_of}
 use Rattle.b67_image_shape.specs.Items.{DisplayFacts}

@@ -1,5 +1,5 @@
 -- What the tests before those of cells, objects and the display tell of a machine.
-use Rattle.b67_task_tables.specs.declared.tables.Machine.{Machine}
+use Rattle.b67_task.specs.declared.tables.Machine.{Machine}
 use Rattle.b67_layout_shown.specs.Machines.{sight_of}
 use Rattle.b67_image_shape.specs.TableFacts.{TableFacts}
 use Rattle.b67_image_shape.specs.FixedWords.{FixedFacts, CriticalMarks}

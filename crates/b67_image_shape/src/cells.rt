@@ -3,7 +3,7 @@
 ghost use Rattle.std.specs.Prelude.{◌≡◌, ◌&&◌, nat_lt, nat_le, ◌+◌, ◌-◌, ◌*◌, ◌<◌, ◌≤◌, ◌^◌, map, option_map, slice_get, slice_index, IfOk};
 ghost use Rattle.b67_layout_shown.specs.Reading.{word_seen_at, home_by};
 ghost use Rattle.b67_layout_shown.specs.Machines.{sight_of};
-ghost use Rattle.b67_task_tables.specs.Tables.{task_row, job_row};
+ghost use Rattle.b67_task.specs.Tables.{task_row, job_row};
 ghost use Rattle.b67_image_shape.specs.Deciding.{Decides};
 ghost use Rattle.b67_image_shape.specs.TableFacts.{row_in_slot, TableFacts};
 ghost use Rattle.b67_image_shape.specs.FixedWords.{FixedFacts};
@@ -21,7 +21,7 @@ use b67_ctl::{DICTIONARY_STACKS, DataDesc, MCP_STACK, Mscw, Regs};
 use b67_layout_shown::laws::reach_is_seen;
 use b67_layout_shown::seeing::{top_of, word_seen_at};
 use b67_model::MOST_TASKS;
-use b67_task_tables::{JobRow, Machine, TaskRow};
+use b67_task::{JobRow, Machine, TaskRow};
 use b67_word::Word;
 use std::alloc::{AllocError, Global};
 

@@ -2,12 +2,12 @@
 
 ghost use Rattle.std.specs.Prelude.{◌≡◌, ◌≤◌, ◌<◌, length, map};
 ghost use Rattle.b67_ctl.specs.declared.map.TheConstants.{SLOTS};
-ghost use Rattle.b67_task_tables.specs.Tables.{task_row};
+ghost use Rattle.b67_task.specs.Tables.{task_row};
 ghost use Rattle.b67_image_shape.specs.FixedTests.{all_below, mark_test, critical_test};
 ghost use Rattle.b67_image_shape.specs.FixedWords.{greatest};
 
 use b67_ctl::SLOTS;
-use b67_task_tables::TaskRow;
+use b67_task::TaskRow;
 
 /// The greatest critical displacement of the tasks whose parent lives in a slot, 0 for none.
 fn greatest_of(rows: &[TaskRow], n: u8) -> u16

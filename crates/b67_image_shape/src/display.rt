@@ -10,7 +10,7 @@ ghost use Rattle.b67_image_shape.specs.Shape.{ShowsRunning, IsToldDisplay};
 use b67_core::Core;
 use b67_ctl::{NO_SLOT, Regs};
 use b67_refer::rebuild;
-use b67_task_tables::Machine;
+use b67_task::Machine;
 
 /// Whether two displays are alike at the first levels.
 fn are_alike(display: &[u32; 32], shown: &[u32; 32], levels: u8) -> bool

@@ -4,7 +4,7 @@ ghost use Rattle.std.specs.Prelude.{◌≡◌, ◌+◌, ◌*◌, ◌<◌, ◌≤
 ghost use Rattle.b67_word.specs.Tagged.{word};
 ghost use Rattle.b67_ctl.specs.declared.map.TheConstants.{FIRST_DICTIONARY, SLOTS};
 ghost use Rattle.b67_layout_shown.specs.Machines.{sight_of};
-ghost use Rattle.b67_task_tables.specs.Tables.{task_row, job_row};
+ghost use Rattle.b67_task.specs.Tables.{task_row, job_row};
 ghost use Rattle.b67_image_shape.specs.TableFacts.{row_in_slot};
 ghost use Rattle.b67_image_shape.specs.FixedWords.{link_to, vector_of};
 ghost use Rattle.b67_image_shape.specs.FixedTests.{word_is, all_below, is_intrinsic, mcp_test, dictionary_test, dictionaries_test, slot_test, base_test, room_test, fixed_test};
@@ -15,7 +15,7 @@ use b67_core::Core;
 use b67_ctl::{FIRST_DICTIONARY, FIRST_TASK, MCP_STACK, Regs, SLOTS, STACK_VECTOR};
 use b67_layout_shown::seeing::slot_start;
 use b67_model::{LEAST_STACK, MOST_PARTS, MOST_STACK};
-use b67_task_tables::{JobRow, Machine, TaskRow};
+use b67_task::{JobRow, Machine, TaskRow};
 
 /// The mark of a dictionary: entered, over the MCP, at level 1.
 const DICTIONARY_MARK: u64 = 0xC000_0000_4000 + MCP_STACK as u64 * 0x10_0000_0000;

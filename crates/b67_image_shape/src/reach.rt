@@ -4,7 +4,7 @@ ghost use Rattle.std.specs.Prelude.{◌≡◌, ◌+◌, ◌-◌, ◌<◌, ◌≤
 ghost use Rattle.std.specs.List.{list_all};
 ghost use Rattle.b67_layout_shown.specs.Machines.{sight_of};
 ghost use Rattle.b67_layout.specs.Rows as rows;
-ghost use Rattle.b67_task_tables.specs.Tables.{state_of, task_row, job_row};
+ghost use Rattle.b67_task.specs.Tables.{state_of, task_row, job_row};
 ghost use Rattle.b67_image_shape.specs.TableFacts.{row_in_slot};
 ghost use Rattle.b67_image_shape.specs.Reaching.{has_mark, marked_at, entered_at, kept_at, outside_at, is_dictionary, reached_at, is_kept, waits_within, row_reaches, reaches, ReachesAreDecided};
 
@@ -14,7 +14,7 @@ use b67_core::Core;
 use b67_layout_shown::laws::reach_is_seen;
 use b67_layout_shown::seeing::{top_of, word_seen_at};
 use b67_model::MOST_TASKS;
-use b67_task_tables::{JobRow, Machine, TaskRow, TaskState};
+use b67_task::{JobRow, Machine, TaskRow, TaskState};
 
 /// Whether one of at most so many marks from the one at f down stands at an address.
 fn has_mark(core: &Core, turns: u32, mark: u64, at: u64) -> bool

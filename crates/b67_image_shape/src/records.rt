@@ -2,7 +2,7 @@
 
 ghost use Rattle.std.specs.Prelude.{◌≡◌, ◌+◌, ◌<◌, ◌^◌, length, map, slice_set, IfOk};
 ghost use Rattle.b67_layout_shown.specs.Machines.{sight_of};
-ghost use Rattle.b67_task_tables.specs.Tables.{task_row};
+ghost use Rattle.b67_task.specs.Tables.{task_row};
 ghost use Rattle.b67_image_shape.specs.TableFacts.{TableFacts};
 ghost use Rattle.b67_image_shape.specs.FixedWords.{FixedFacts};
 ghost use Rattle.b67_image_shape.specs.NearStacks.{NearStacks};
@@ -11,7 +11,7 @@ ghost use Rattle.b67_image_shape.specs.RecordTable.{IsRecordTable, filled_range,
 use crate::fixed_words::base_of;
 use b67_core::Core;
 use b67_layout_shown::seeing::{top_of, word_seen_at};
-use b67_task_tables::{Machine, TaskRow};
+use b67_task::{Machine, TaskRow};
 use b67_word::Word;
 use std::alloc::{AllocError, Global};
 

@@ -28,7 +28,7 @@ use crate::walk_laws::{near_stacks_suffice, stacks_are_near};
 use crate::walk_tasks::stacks_stand;
 use b67_backing::sectors_tell_chains;
 use b67_layout_shown::laws::machines_are_shown;
-use b67_task_tables::Machine;
+use b67_task::Machine;
 use std::alloc::{AllocError, Global};
 
 /// Whether a machine's tables, fixed words and stacks stand, and what its tasks name is in their reach.

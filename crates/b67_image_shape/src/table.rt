@@ -2,7 +2,7 @@
 
 ghost use Rattle.std.specs.Prelude.{◌≡◌, ℕ, ◌+◌, ◌*◌, ◌<◌, ◌≤◌, ◌^◌, length, map, option_map, IfOk, slice_index};
 ghost use Rattle.b67_layout_shown.specs.Machines.{sight_of};
-ghost use Rattle.b67_task_tables.specs.Tables.{task_row, job_row};
+ghost use Rattle.b67_task.specs.Tables.{task_row, job_row};
 ghost use Rattle.b67_image_shape.specs.TableFacts.{row_in_slot};
 ghost use Rattle.b67_image_shape.specs.ObjectTable.{mark_in_dictionary, mark_at, is_original_word, has_entry_at};
 ghost use Rattle.b67_image_shape.specs.TableMarks.{end_by, AreEnds, HaveSlots, IsTable};
@@ -10,7 +10,7 @@ ghost use Rattle.b67_image_shape.specs.TableMarks.{end_by, AreEnds, HaveSlots, I
 use b67_core::Core;
 use b67_ctl::SLOTS;
 use b67_layout_shown::seeing::{row_in_slot, top_of};
-use b67_task_tables::{JobRow, Machine, TaskRow};
+use b67_task::{JobRow, Machine, TaskRow};
 use b67_word::Word;
 use std::alloc::{AllocError, Global};
 

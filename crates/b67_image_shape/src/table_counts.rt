@@ -6,11 +6,11 @@ ghost use Rattle.b67_lemmas.specs.Lists.{total};
 ghost use Rattle.b67_model.specs.Schedule as schedule;
 ghost use Rattle.b67_layout.specs.Rows as rows;
 ghost use Rattle.b67_layout_shown.specs.Machines.{sight_of};
-ghost use Rattle.b67_task_tables.specs.Tables.{task_row, job_row, switch_of};
+ghost use Rattle.b67_task.specs.Tables.{task_row, job_row, switch_of};
 ghost use Rattle.b67_image_shape.specs.TableTests.{rise_from, rise_test, running_test, counts_test};
 
 use b67_model_text::Switch;
-use b67_task_tables::{JobRow, Machine, NO_ROW, TaskRow};
+use b67_task::{JobRow, Machine, NO_ROW, TaskRow};
 
 /// Whether a switch comes before the next one.
 fn rises(a: Switch, more: &[Switch]) -> bool

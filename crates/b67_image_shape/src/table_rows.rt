@@ -5,7 +5,7 @@ ghost use Rattle.std.specs.List.{list_all, list_any};
 ghost use Rattle.b67_model.specs.declared.limits.TheConstants.{MOST_JOBS};
 ghost use Rattle.b67_ctl.specs.declared.map.TheConstants.{SLOTS};
 ghost use Rattle.b67_layout_shown.specs.Machines.{sight_of};
-ghost use Rattle.b67_task_tables.specs.Tables.{state_of, task_row, job_row};
+ghost use Rattle.b67_task.specs.Tables.{state_of, task_row, job_row};
 ghost use Rattle.b67_image_shape.specs.TableFacts.{row_in_slot, rows_in};
 ghost use Rattle.b67_image_shape.specs.TableTests.{are_apart, rows_apart, state_ready, row_ready, may_go_on, is_read, job_test, jobs_pass, born_test, of_job_test, row_test, tables_test};
 
@@ -13,7 +13,7 @@ use crate::table::find_row;
 use crate::table_counts::counts_pass;
 use b67_ctl::{Regs, SLOTS};
 use b67_model::{MOST_JOBS, MOST_LIMIT, MOST_TASKS};
-use b67_task_tables::{JobRow, Machine, NO_PARENT, TaskRow, TaskState};
+use b67_task::{JobRow, Machine, NO_PARENT, TaskRow, TaskState};
 
 /// Whether two rows are of different slots and of different tasks.
 fn are_apart(a: TaskRow, b: TaskRow) -> bool

@@ -5,7 +5,7 @@ ghost use Rattle.std.specs.Bool.{OnTrue, OnFalse};
 ghost use Rattle.b67_model.specs.declared.limits.TheConstants.{MOST_STACK};
 ghost use Rattle.b67_layout_shown.specs.Machines.{sight_of};
 ghost use Rattle.b67_layout_shown.specs.Shown.{top_in};
-ghost use Rattle.b67_task_tables.specs.Tables.{task_row, job_row};
+ghost use Rattle.b67_task.specs.Tables.{task_row, job_row};
 ghost use Rattle.b67_image_shape.specs.TableFacts.{TableFacts};
 ghost use Rattle.b67_image_shape.specs.FixedWords.{FixedFacts};
 ghost use Rattle.b67_image_shape.specs.NearStacks.{NearStacks};
@@ -16,7 +16,7 @@ use crate::fixed_words::base_of;
 use crate::walk::{same, walk_down};
 use b67_ctl::{Regs, Toscw};
 use b67_layout_shown::seeing::{top_of, word_seen_at};
-use b67_task_tables::{JobRow, Machine, TaskRow};
+use b67_task::{JobRow, Machine, TaskRow};
 use b67_word::{Place, Word};
 
 /// The level at a task's top.

@@ -8,7 +8,7 @@ use Rattle.b67_image.specs.Image.{image_text}
 use Rattle.b67_image.proofs.Chunks.{TookPart-then, TookPart-longer}
 use Rattle.b67_layout.specs.Machine.{Says, content_after}
 use Rattle.b67_model.specs.Common.{Session, StepResult}
-use Rattle.b67_task_tables.specs.declared.tables.Machine.{Machine}
+use Rattle.b67_task.specs.declared.tables.Machine.{Machine}
 use Rattle.b67_session.specs.Stops.{Stop}
 use Rattle.b67_session.specs.Stops as stops
 use Rattle.b67_session.specs.declared.slices.Progress.{Progress}

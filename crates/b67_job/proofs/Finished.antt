@@ -1,7 +1,7 @@
 -- The texts of runs that are done or halt, as the run alone gives them.
 use Rattle.std.proofs.Common.{◌≡◌, ◌<◌, ℕ, zero, suc, List, ◌++◌, ap, ◌∙◌, subst, arith, refl}
 use Rattle.b67_io.specs.Line.{ended}
-use Rattle.b67_task_tables.specs.declared.tables.Machine.{Machine}
+use Rattle.b67_task.specs.declared.tables.Machine.{Machine}
 use Rattle.b67_model.specs.Common.{run_text, Task, SessionJob, Session, RunLine, live_tasks, number_of}
 use Rattle.b67_law.specs.Turns.{IsNext}
 use Rattle.b67_lemmas.proofs.Members.{keyed_has}

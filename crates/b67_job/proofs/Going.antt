@@ -10,9 +10,9 @@ use Rattle.b67_io.specs.Causes.{Rose}
 use Rattle.b67_io.specs.Line.{ended}
 use Rattle.b67_model.specs.Common.{Session}
 use Rattle.b67_model_text.specs.Deck.{Refusal}
-use Rattle.b67_task_tables.specs.declared.tables.Machine.{Machine}
-use Rattle.b67_task_tables.specs.Tables.{AreCountable}
-use Rattle.b67_task_tables.proofs.Keeping.{halt_kept}
+use Rattle.b67_task.specs.declared.tables.Machine.{Machine}
+use Rattle.b67_task.specs.Tables.{AreCountable}
+use Rattle.b67_task.proofs.Keeping.{halt_kept}
 use Rattle.b67_layout.specs.Machine.{Says, DeviceAfterCalls, content_after}
 use Rattle.b67_session_lines.specs.Stops.{Run, IsFinished}
 use Rattle.b67_session.specs.Slices.{StandsAt, IsOpen, Keeps}

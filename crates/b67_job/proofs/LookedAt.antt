@@ -8,8 +8,8 @@ use Rattle.b67_io.specs.Causes.{Rose}
 use Rattle.b67_codefile.specs.declared.file.Codefile.{Codefile}
 use Rattle.b67_codefile.specs.Meaning.{program_of}
 use Rattle.b67_layout.specs.Machine.{Says, DeviceAfterCalls, content_after}
-use Rattle.b67_task_tables.specs.declared.tables.Machine.{Machine}
-use Rattle.b67_task_tables.specs.Tables.{Given}
+use Rattle.b67_task.specs.declared.tables.Machine.{Machine}
+use Rattle.b67_task.specs.Tables.{Given}
 use Rattle.b67_job_admit.specs.declared.programs.Loaded.{Loaded}
 use Rattle.b67_job_admit.specs.Meets.{LoadsDeck, prepared_of}
 use Rattle.b67_session_open.specs.Decks.{IsLoaded}
@@ -26,7 +26,7 @@ use Rattle.b67_job.proofs.Opened.{known_after}
 use Rattle.b67_job.proofs.Decks.{still_told}
 use Rattle.b67_job.proofs.Served.{loaded_in_range, prepared_is}
 use Rattle.b67_model.specs.Common.{Session, Run}
-use Rattle.b67_task_tables.specs.declared.tables.Tasks.{Tasks}
+use Rattle.b67_task.specs.declared.tables.Tasks.{Tasks}
 use Rattle.b67_session.specs.Search.{IsSearched, FindsLeast, ComesTo, StopsUnfound}
 use Rattle.b67_session.specs.declared.seeking.CodePlace.{CodePlace}
 use Rattle.b67_session.specs.declared.seeking.Sought.{Sought}

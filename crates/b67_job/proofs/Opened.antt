@@ -9,7 +9,7 @@ use Rattle.b67_law.specs.Runs.{RunsAdmitted}
 use Rattle.b67_law.proofs.RunSessions.{runs_stay_in_order, sessions_stay_in_order}
 use Rattle.b67_law.proofs.Makers.{runs_make_their_words, sessions_keep_or_make_their_words}
 use Rattle.b67_layout.specs.Machine.{content_after}
-use Rattle.b67_task_tables.specs.Tables.{switch_of}
+use Rattle.b67_task.specs.Tables.{switch_of}
 use Rattle.b67_session_open.specs.Decks.{openings_of, session_of, DeckInRange, IsLoaded}
 use Rattle.b67_session_open.proofs.Decks.{deck_within}
 use Rattle.b67_session.proofs.FoundLeast.{stays_ordered}

@@ -16,7 +16,7 @@ use Rattle.b67_session.specs.Stops as stops
 use Rattle.b67_law.specs.Turns.{IsNext}
 use Rattle.b67_law.proofs.Limits.{no_last}
 use Rattle.b67_law.proofs.TurnRuns.{Came}
-use Rattle.b67_task_tables.specs.declared.tables.Machine.{Machine}
+use Rattle.b67_task.specs.declared.tables.Machine.{Machine}
 use Rattle.b67_session.specs.declared.slices.Progress.{Progress}
 use Rattle.b67_session.specs.declared.slices.Progress.TheVariants as progress
 use Rattle.b67_law.proofs.FewMade.{made_few}

@@ -13,7 +13,7 @@ use Rattle.b67_model_text.specs.Placing.{stand, may_stand, lacks_program, is_rep
 use Rattle.b67_model_text.specs.Deck.{Said, Refusal, of_card, command_in, said_after, sayings, is_between, number_of_last}
 use Rattle.b67_model_text.proofs.Answers.{after_both, after_needs, err-ok}
 use Rattle.b67_model.specs.InOrder.{SwitchesRise}
-use Rattle.b67_task_tables.specs.Tables.{switch_of}
+use Rattle.b67_task.specs.Tables.{switch_of}
 use Rattle.b67_job.proofs.Commands.{CommandInRange, said_in_range}
 use Rattle.b67_model.specs.declared.limits.TheConstants.{MOST_JOBS, MOST_SWITCHES}
 

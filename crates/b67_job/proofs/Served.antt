@@ -10,7 +10,7 @@ use Rattle.b67_io.specs.Told.{GaveAll}
 use Rattle.b67_codefile.specs.Meaning.{program_of}
 use Rattle.b67_model_text.specs.Deck.{limit, deck_of}
 use Rattle.b67_card.specs.Reading.{GaveFirst}
-use Rattle.b67_task_tables.specs.declared.tables.Machine.{Machine}
+use Rattle.b67_task.specs.declared.tables.Machine.{Machine}
 use Rattle.b67_job_admit.specs.declared.refusal.Refusal.{Refusal}
 use Rattle.b67_job_admit.specs.declared.refusal.Refusal.TheVariants as refusals
 use Rattle.b67_job_admit.specs.declared.fault.AdmitFault.{AdmitFault}

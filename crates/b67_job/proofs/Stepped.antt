@@ -3,8 +3,8 @@ use Rattle.std.proofs.Common.{◌≡◌, ◌≢◌, ◌⊎◌, inl, inr, ℕ, �
 use Rattle.std.proofs.lemmas.Option.{none-some}
 use Rattle.b67_io.specs.Causes.{Rose}
 use Rattle.b67_model.specs.Common.{Session}
-use Rattle.b67_task_tables.specs.declared.tables.Machine.{Machine}
-use Rattle.b67_task_tables.proofs.Keeping.{halt_kept}
+use Rattle.b67_task.specs.declared.tables.Machine.{Machine}
+use Rattle.b67_task.proofs.Keeping.{halt_kept}
 use Rattle.b67_layout.specs.Machine.{Says, DeviceAfterCalls, content_after}
 use Rattle.b67_session_lines.specs.Moments.{last_part}
 use Rattle.b67_law.proofs.Limits.{no_last}

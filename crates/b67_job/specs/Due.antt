@@ -7,7 +7,7 @@ use Rattle.b67_io.specs.Causes.{Rose, Stayed}
 use Rattle.b67_model_text.specs.Deck.{limit}
 use Rattle.b67_model.specs.Common.{Task, SessionJob, need_next, after, Session}
 use Rattle.b67_law.specs.Turns.{IsNext}
-use Rattle.b67_task_tables.specs.declared.tables.Machine.{Machine}
+use Rattle.b67_task.specs.declared.tables.Machine.{Machine}
 use Rattle.b67_job_admit.specs.declared.refusal.Refusal.{Refusal}
 use Rattle.b67_job_admit.specs.declared.fault.AdmitFault.{AdmitFault}
 use Rattle.b67_job_admit.specs.declared.fault.AdmitFault.TheVariants as admits

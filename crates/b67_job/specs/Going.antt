@@ -5,7 +5,7 @@ use Rattle.b67_model.specs.Common.{Session}
 use Rattle.b67_layout.specs.Machine.{Says}
 use Rattle.b67_session_lines.specs.Stops.{Run}
 use Rattle.b67_session.specs.Slices.{StandsAt, Keeps}
-use Rattle.b67_task_tables.specs.declared.tables.Machine.{Machine}
+use Rattle.b67_task.specs.declared.tables.Machine.{Machine}
 use Rattle.b67_image.specs.Meaning.{IsImageRead}
 use Rattle.b67_job.specs.declared.command.CommandLine.TheVariants as lines
 use Rattle.b67_job.specs.declared.summaries.Closing.TheVariants as closings

@@ -13,7 +13,7 @@ use Rattle.b67_job_admit.specs.Admitting.{Prepared}
 pub use Rattle.b67_job_admit.specs.Admitting.{run_of}
 use Rattle.b67_session_open.specs.Decks.{deck_given, given_of}
 use Rattle.b67_session_open.specs.Opens.{need_of, sectors_of_all}
-use Rattle.b67_task_tables.specs.declared.tables.Machine.{Machine}
+use Rattle.b67_task.specs.declared.tables.Machine.{Machine}
 pub use Rattle.b67_session.specs.Slices.{StandsAt, IsLimited}
 pub use Rattle.b67_session.specs.Slices.{Between, TakesOn, MovesItsWants, IsOnward, by_a_step, in_a_turn, FollowEach, HasPaged, PagesByStep, goes_well, stops_in}
 pub use Rattle.b67_session.specs.Stops.{Stop}

@@ -4,7 +4,7 @@ use Rattle.b67_io.specs.Told.{GaveAll}
 use Rattle.b67_io.specs.Causes.{Rose}
 use Rattle.b67_codefile.specs.Meaning.{program_of}
 use Rattle.b67_model.specs.Common.{Run}
-use Rattle.b67_task_tables.specs.declared.tables.Machine.{Machine}
+use Rattle.b67_task.specs.declared.tables.Machine.{Machine}
 use Rattle.b67_job_admit.specs.Admitting.{Prepared}
 use Rattle.b67_job_admit.specs.Meets.{LoadsDeck, prepared_of}
 use Rattle.b67_job_admit.specs.declared.programs.Loaded.{Loaded}

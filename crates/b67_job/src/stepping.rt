@@ -4,8 +4,8 @@ ghost use Rattle.std.specs.Prelude.{◌≡◌, ◌≢◌, ◌+◌, ℕ, List, le
 ghost use Rattle.b67_layout.specs.Machine.{DeviceAfterCalls};
 ghost use Rattle.b67_model.specs.Schedule.{Session};
 ghost use Rattle.b67_session.specs.Slices.{StandsAt};
-ghost use Rattle.b67_task_tables.specs.Tables.{AreCountable};
-ghost use Rattle.b67_task_tables.specs.declared.tables.Machine as machine;
+ghost use Rattle.b67_task.specs.Tables.{AreCountable};
+ghost use Rattle.b67_task.specs.declared.tables.Machine as machine;
 ghost use Rattle.b67_job.specs.Device.{device_of};
 ghost use Rattle.b67_job.specs.Going.{HasGoneOn};
 ghost use Rattle.b67_job.specs.Passed.{AreTyped, parts_of};
@@ -18,7 +18,7 @@ use b67_backing::Backing;
 use b67_image::{machine_is_typed, read_image};
 use b67_io::{Sink, Source};
 use b67_session::{Progress, Stop, slice};
-use b67_task_tables::Machine;
+use b67_task::Machine;
 use std::alloc::Global;
 
 /// The same answer, and that a run halts where all its steps were made.

@@ -9,7 +9,7 @@ use Rattle.b67_stack.specs.MachineView.{PagedObject}
 use Rattle.b67_stack.specs.Represents.{Storage}
 use Rattle.b67_layout.specs.Common.{Placement, array_object, code_objects, objects_of, machine_view, TaskRow, JobRow, JobCounts, JobShows, JobsShow, TablesShow, RepresentsSession}
 use Rattle.b67_layout.proofs.Weaker.{but_counts}
-use Rattle.b67_task_tables.specs.Tables.{task_row, job_row, counts_of}
+use Rattle.b67_task.specs.Tables.{task_row, job_row, counts_of}
 use Rattle.b67_layout_shown.specs.Shown.{Sight, numbers_read, segments_from, row_cells, segment_cells, member_in, members_from, shown}
 use Rattle.b67_layout_shown.specs.ButNames.{IsJobButNames, AreJobsButNames, IsSessionButNames, MachinesShowTheirSessions}
 use Rattle.b67_layout_shown.proofs.Contents.{dictionary_is, AreShown, segments_read, array_fits}

@@ -5,8 +5,8 @@ use Rattle.std.proofs.lemmas.Bool.{ne_eqb, eq-eqb}
 use Rattle.std.proofs.lemmas.List.{at_drop_more, drop_all}
 use Rattle.b67_model.specs.Keyed.{keyed}
 use Rattle.b67_layout.specs.Rows as rows
-use Rattle.b67_task_tables.specs.declared.tables.TaskRow.{TaskRow}
-use Rattle.b67_task_tables.specs.Tables.{task_row}
+use Rattle.b67_task.specs.declared.tables.TaskRow.{TaskRow}
+use Rattle.b67_task.specs.Tables.{task_row}
 use Rattle.b67_layout_shown.specs.Shown.{Sight, top_by, top_in}
 
 module _ {A : Type 0} (key : A → ℕ) where

@@ -5,8 +5,8 @@ use Rattle.b67_lemmas.specs.Lists.{Has}
 use Rattle.b67_model.specs.Common.{Array, Segment, SessionJob, Session, IsInOrderButPlaces}
 use Rattle.b67_stack.specs.Represents.{Storage}
 use Rattle.b67_layout.specs.Placement.{Placement}
-use Rattle.b67_task_tables.specs.declared.tables.Machine.{Machine}
-use Rattle.b67_task_tables.specs.Tables.{MachineRepresents}
+use Rattle.b67_task.specs.declared.tables.Machine.{Machine}
+use Rattle.b67_task.specs.Tables.{MachineRepresents}
 use Rattle.b67_layout_shown.specs.Places.{job_placed}
 use Rattle.b67_layout_shown.specs.Shown.{shown}
 use Rattle.b67_layout_shown.specs.Machines.{sight_of}

@@ -3,14 +3,14 @@
 ghost use Rattle.std.specs.Prelude.{◌≡◌, ◌+◌, ◌*◌, ◌<◌, ◌^◌, map, option_map};
 ghost use Rattle.b67_model.specs.Keyed.{keyed};
 ghost use Rattle.b67_layout.specs.Rows as layout;
-ghost use Rattle.b67_task_tables.specs.Tables.{task_row};
+ghost use Rattle.b67_task.specs.Tables.{task_row};
 ghost use Rattle.b67_layout_shown.specs.Reading.{word_seen_at};
 ghost use Rattle.b67_layout_shown.specs.Shown.{top_in};
 ghost use Rattle.b67_layout_shown.specs.Machines.{sight_of};
 
 use b67_core::Core;
 use b67_ctl::Regs;
-use b67_task_tables::{Machine, TaskRow};
+use b67_task::{Machine, TaskRow};
 use b67_word::{Place, Word};
 
 /// The word at an address: beyond the end of core one of tag 0 and no bits.

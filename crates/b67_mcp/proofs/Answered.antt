@@ -6,8 +6,8 @@ use Rattle.b67_layout.specs.Common.{IsInOrderButCounts, Placement, TablesShow, I
 use Rattle.b67_mcp.specs.Printed.{MayCut}
 use Rattle.b67_mcp.specs.Declaring.{job_declared, with_home}
 use Rattle.b67_mcp.proofs.OriginalTables.{tables-there}
-use Rattle.b67_task_tables.specs.declared.tables.Tasks.{Tasks}
-use Rattle.b67_task_tables.specs.Tables.{task_row, job_row, counts_of, TasksShow}
+use Rattle.b67_task.specs.declared.tables.Tasks.{Tasks}
+use Rattle.b67_task.specs.Tables.{task_row, job_row, counts_of, TasksShow}
 use Rattle.b67_mcp.proofs.Passed.{jobs_kept, tables_after, replaces_answered, waits_answered}
 
 module _ (plan : Placement) (s : Session) (m : SessionJob) (t : Task) (o : IsInOrderButCounts s) (runs : IsRunning plan s.jobs m t) (may : MayCut m t) (q : Place) (length at : ℕ) where

@@ -23,17 +23,17 @@ use Rattle.b67_mcp.specs.Calls.{MayCut}
 use Rattle.b67_mcp.specs.Answered.{job_answered}
 use Rattle.b67_mcp.proofs.Cuts.{Cut, cut_of}
 use Rattle.b67_fetch.proofs.Values.{here_scene}
-use Rattle.b67_task_need.specs.Needing.{need_with}
-use Rattle.b67_task_need.proofs.Needs.{follow_all}
-use Rattle.b67_task_start.specs.Opening.{IsLowestFree, slot_end}
-use Rattle.b67_task_start.specs.Starts.{MayStart, arguments, child, with_child}
-use Rattle.b67_task_start.proofs.Begins.{has_slot}
-use Rattle.b67_task_start.proofs.Opens.{lowest_low}
-use Rattle.b67_task_start.proofs.Starting.{found_cell}
-use Rattle.b67_task_start_stack.specs.Born.{with_task_at}
-use Rattle.b67_task_start_stack.proofs.OneMore.{slot_of-other}
-use Rattle.b67_task_tables.specs.declared.tables.Machine.{Machine}
-use Rattle.b67_task_tables.specs.Tables.{MachineRepresents}
+use Rattle.b67_task.specs.Needing.{need_with}
+use Rattle.b67_task.proofs.Needs.{follow_all}
+use Rattle.b67_task.specs.Opening.{IsLowestFree, slot_end}
+use Rattle.b67_task.specs.Starts.{MayStart, arguments, child, with_child}
+use Rattle.b67_task.proofs.Begins.{has_slot}
+use Rattle.b67_task.proofs.Opens.{lowest_low}
+use Rattle.b67_task.proofs.Starting.{found_cell}
+use Rattle.b67_task.specs.Born.{with_task_at}
+use Rattle.b67_task.proofs.OneMore.{slot_of-other}
+use Rattle.b67_task.specs.declared.tables.Machine.{Machine}
+use Rattle.b67_task.specs.Tables.{MachineRepresents}
 use Rattle.b67_mcp.specs.Asked.{job_started}
 use Rattle.b67_mcp.specs.Begins.{StandsMoved}
 use Rattle.b67_mcp.proofs.Cells.{cell_order}

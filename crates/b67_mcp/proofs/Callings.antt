@@ -10,7 +10,7 @@ use Rattle.b67_exec_cells.specs.Called as operators
 use Rattle.b67_exec_cells.specs.Called.{called_in}
 use Rattle.b67_layout.specs.Meets.{here}
 use Rattle.b67_mcp.specs.Printed.{IsCall, CallSome}
-use Rattle.b67_task_tables.specs.declared.tables.Machine.{Machine}
+use Rattle.b67_task.specs.declared.tables.Machine.{Machine}
 use Rattle.b67_mcp.specs.Called.{CallsSome}
 use Rattle.b67_mcp.specs.Running.{StandsAtEntr}
 

@@ -21,9 +21,9 @@ use Rattle.b67_layout_step.proofs.Mapped.{put_task, keyed_put, critical_put}
 use Rattle.b67_layout_step.proofs.Stored.{RepresentsSession-store, still_runs}
 use Rattle.b67_refer.specs.Cells.{IsCellAt}
 use Rattle.b67_refer.proofs.Scenes as Scenes
-use Rattle.b67_task_tables.specs.declared.tables.Machine.{Machine}
-use Rattle.b67_task_tables.specs.declared.tables.Tasks.{Tasks}
-use Rattle.b67_task_tables.specs.Tables.{MachineRepresents}
+use Rattle.b67_task.specs.declared.tables.Machine.{Machine}
+use Rattle.b67_task.specs.declared.tables.Tasks.{Tasks}
+use Rattle.b67_task.specs.Tables.{MachineRepresents}
 use Rattle.b67_mcp.specs.Calls.{MayCut, job_cut}
 use Rattle.b67_mcp.proofs.Standing.{machine_cut}
 use Rattle.b67_mcp.specs.declared.cell_given.CellFound.{CellFound}

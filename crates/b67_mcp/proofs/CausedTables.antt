@@ -18,11 +18,11 @@ use Rattle.b67_layout.specs.Rows as rows
 use Rattle.b67_layout.proofs.Common.{running_in_order, member-same, change-has, change-kept, live_in_order}
 use Rattle.b67_layout_step.proofs.Frames.{put_job, put_spot}
 use Rattle.b67_layout_step.proofs.Mapped.{put_task, keyed_put, spots_put}
-use Rattle.b67_task_tables.specs.declared.tables.TaskRow.{TaskRow}
-use Rattle.b67_task_tables.specs.declared.tables.TaskState.{TaskState}
-use Rattle.b67_task_tables.specs.declared.tables.TaskState.TheVariants.{Ready, Awaits, WaitsAt}
-use Rattle.b67_task_tables.specs.declared.tables.Tasks.{Tasks}
-use Rattle.b67_task_tables.specs.Tables.{state_of, task_row, job_row, TasksShow}
+use Rattle.b67_task.specs.declared.tables.TaskRow.{TaskRow}
+use Rattle.b67_task.specs.declared.tables.TaskState.{TaskState}
+use Rattle.b67_task.specs.declared.tables.TaskState.TheVariants.{Ready, Awaits, WaitsAt}
+use Rattle.b67_task.specs.declared.tables.Tasks.{Tasks}
+use Rattle.b67_task.specs.Tables.{state_of, task_row, job_row, TasksShow}
 use Rattle.b67_mcp.proofs.CallTables.{jobs_kept}
 use Rattle.b67_mcp.specs.Woken.{woken_state, woken_row}
 use Rattle.b67_mcp.proofs.Addresses.{tells_frames}
@@ -161,7 +161,7 @@ module _ (x : Storage) (cpu : Cpu) (plan : Placement) (s : Session) (m : Session
     pub tables_caused : (tasks new : Tasks) → new ≡ record tasks { rows = new.rows } → new.rows.items ≡ map (woken_row m.constants.number mark offset) tasks.rows.items → TasksShow plan s tasks → TasksShow plan s2 new
     tables_caused tasks new rest items k =
         let ρ = woken_row m.constants.number mark offset in
-        let Q : Tasks → List TaskRow → Type 0 = λ z l. rows.TablesShow plan s2 (map task_row l) (map job_row z.jobs) (Rattle.b67_task_tables.specs.Tables.counts_of z) in
+        let Q : Tasks → List TaskRow → Type 0 = λ z l. rows.TablesShow plan s2 (map task_row l) (map job_row z.jobs) (Rattle.b67_task.specs.Tables.counts_of z) in
         let base : Q tasks (map ρ tasks.rows.items) = record {
           tasks = λ row i.
               let a = has_map_back task_row (map ρ tasks.rows.items) row i in

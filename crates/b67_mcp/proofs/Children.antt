@@ -8,7 +8,7 @@ use Rattle.b67_model.specs.Common.{Word, Frame, Entered, Array, Ready, Task, Job
 use Rattle.b67_law.proofs.Reaches.{Alike, alike_has, alike_same, alike_under, alike_numbers, Follows, Births, outer_alike, word_wider}
 use Rattle.b67_law.proofs.Replaced.{task_kept, job_fresh}
 use Rattle.b67_law.proofs.RowSteps.{originals, plain_above}
-use Rattle.b67_task_start.specs.Starts.{with_child}
+use Rattle.b67_task.specs.Starts.{with_child}
 
 -- what a task may name below its call
 abbrev pub under_call : Job → Task → Frame → List Frame → List Known

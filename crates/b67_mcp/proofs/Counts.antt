@@ -14,9 +14,9 @@ use Rattle.b67_law.proofs.Numbered.{keyed_member}
 use Rattle.b67_layout.specs.Common.{IsInOrderButCounts, Placement, slot_of, Differ, RowsFit}
 use Rattle.b67_layout.specs.Rows as rows
 use Rattle.b67_layout.proofs.Common.{not_more, slots_of, jobs_differ}
-use Rattle.b67_task_tables.specs.declared.tables.TaskRow.{TaskRow}
-use Rattle.b67_task_tables.specs.declared.tables.Tasks.{Tasks}
-use Rattle.b67_task_tables.specs.Tables.{task_row, TasksShow}
+use Rattle.b67_task.specs.declared.tables.TaskRow.{TaskRow}
+use Rattle.b67_task.specs.declared.tables.Tasks.{Tasks}
+use Rattle.b67_task.specs.Tables.{task_row, TasksShow}
 use Rattle.b67_mcp.specs.Begins.{counts_for, rows_of_job}
 
 -- the slots of the rows of a job

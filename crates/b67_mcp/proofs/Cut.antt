@@ -6,9 +6,9 @@ use Rattle.b67_model.specs.Common.{Task, SessionJob, answered, Session}
 use Rattle.b67_layout.specs.Common.{IsInOrderButCounts, Placement, IsRunning, RepresentsStorage, here, with_job}
 use Rattle.b67_stack.specs.Represents.{Storage}
 use Rattle.b67_mcp.specs.Printed.{MayCut, job_cut}
-use Rattle.b67_task_tables.specs.declared.tables.Machine.{Machine}
-use Rattle.b67_task_tables.specs.declared.tables.Tasks.{Tasks}
-use Rattle.b67_task_tables.specs.Tables.{task_row, job_row, counts_of, TasksShow}
+use Rattle.b67_task.specs.declared.tables.Machine.{Machine}
+use Rattle.b67_task.specs.declared.tables.Tasks.{Tasks}
+use Rattle.b67_task.specs.Tables.{task_row, job_row, counts_of, TasksShow}
 use Rattle.b67_mcp.proofs.Passed.{jobs_kept, tables_after, replaces_cut, waits_cut}
 
 module _ (plan : Placement) (s : Session) (m : SessionJob) (t : Task) (o : IsInOrderButCounts s) (runs : IsRunning plan s.jobs m t) (may : MayCut m t) (q : Place) where

@@ -10,8 +10,8 @@ use Rattle.b67_layout.proofs.Awaits.{with_job-twice}
 use Rattle.b67_layout_step.proofs.Arrays.{Renumbers}
 use Rattle.b67_law.proofs.Calls.{length_replicate, zeros_low}
 use Rattle.b67_mcp.specs.Printed.{MayCut, CutSome, job_cut}
-use Rattle.b67_task_tables.specs.declared.tables.Machine.{Machine}
-use Rattle.b67_task_tables.specs.Tables.{MachineRepresents}
+use Rattle.b67_task.specs.declared.tables.Machine.{Machine}
+use Rattle.b67_task.specs.Tables.{MachineRepresents}
 use Rattle.b67_mcp.proofs.Cut.{tables_cut, storage_same}
 use Rattle.b67_mcp.proofs.Ordered.{order_renumbered}
 use Rattle.b67_mcp.proofs.Renumbered.{still_runs}

@@ -22,9 +22,9 @@ use Rattle.b67_mcp.proofs.PassedSpans.{copies_of, view_of}
 use Rattle.b67_layout_step.proofs.Arrays.{Renumbers}
 use Rattle.b67_exec_cells.proofs.Replaced.{array_object-has}
 use Rattle.b67_mcp.proofs.PassedSpans.{short_full, within}
-use Rattle.b67_task_tables.specs.declared.tables.Machine.{Machine}
-use Rattle.b67_task_tables.specs.Tables.{MachineRepresents}
-use Rattle.b67_task_need.specs.Needing.{StandsOrdered}
+use Rattle.b67_task.specs.declared.tables.Machine.{Machine}
+use Rattle.b67_task.specs.Tables.{MachineRepresents}
+use Rattle.b67_task.specs.Needing.{StandsOrdered}
 use Rattle.b67_mcp.specs.Lengths.{IsArray, zeroed, cut_to, grown_to, emptied, shorter, OthersStay, LengthenMeets}
 use Rattle.b67_mcp.specs.declared.ends.Stop.{Stop}
 use Rattle.b67_mcp.specs.declared.ends.Stop.TheVariants as stops

@@ -5,12 +5,12 @@ use Rattle.b67_word.specs.declared.faults.Fault.TheVariants.{CriticalBlock}
 use Rattle.b67_model.specs.Common.{Word, Frame, Task, SessionJob, height, top, below_top, with_top_cells, Goes, is_critical, answers, Session}
 use Rattle.b67_stack.specs.Represents.{Storage}
 use Rattle.b67_layout.specs.Common.{IsInOrderButCounts, Placement, IsRunning, RunsSome, here}
-use Rattle.b67_task_tables.specs.declared.tables.Machine.{Machine}
-use Rattle.b67_task_tables.specs.Runs.{RunsTask}
-use Rattle.b67_task_end.specs.Lives.{HasJob}
+use Rattle.b67_task.specs.declared.tables.Machine.{Machine}
+use Rattle.b67_task.specs.Runs.{RunsTask}
+use Rattle.b67_task.specs.Lives.{HasJob}
 use Rattle.b67_mcp.specs.Calls.{StandsAtCall, CallSome, job_cut}
 use Rattle.b67_mcp.specs.Answered.{job_answered}
-use Rattle.b67_task_tables.specs.Tables.{MachineRepresents}
+use Rattle.b67_task.specs.Tables.{MachineRepresents}
 use Rattle.b67_lemmas.proofs.Members.{keyed_has}
 
 abbrev pub runs_some : (k : Machine) → RunsTask k → RunsSome k.cpu

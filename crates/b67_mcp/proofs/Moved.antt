@@ -15,8 +15,8 @@ use Rattle.b67_overlay.specs.Spans.{MachineCanPage}
 use Rattle.b67_layout.proofs.Untold.{untold}
 use Rattle.b67_overlay.specs.AreasEvicted.{AreasEvicted}
 use Rattle.b67_layout_spans.proofs.Sessions.{copies_of}
-use Rattle.b67_task_tables.specs.declared.tables.Machine.{Machine}
-use Rattle.b67_task_tables.specs.Tables.{MachineRepresents}
+use Rattle.b67_task.specs.declared.tables.Machine.{Machine}
+use Rattle.b67_task.specs.Tables.{MachineRepresents}
 
 pub same_jobs : (ms : List SessionJob) → AllAlike ms ms
 same_jobs [] = tt

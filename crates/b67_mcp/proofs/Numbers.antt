@@ -10,9 +10,9 @@ use Rattle.b67_model.specs.Common.{Word, Operand, Task, SessionJob, top, below_t
 use Rattle.b67_layout.specs.Common.{IsInOrderButCounts, Placement, JobShows, TablesShow, IsRunning, here, with_job}
 use Rattle.b67_layout.specs.Rows as rows
 use Rattle.b67_mcp.specs.Reads.{job_read, NumberIsRead, ReadMeets}
-use Rattle.b67_task_tables.specs.declared.tables.JobRow.{JobRow}
-use Rattle.b67_task_tables.specs.declared.tables.Tasks.{Tasks}
-use Rattle.b67_task_tables.specs.Tables.{task_row, job_row, counts_of, TasksShow, job_given}
+use Rattle.b67_task.specs.declared.tables.JobRow.{JobRow}
+use Rattle.b67_task.specs.declared.tables.Tasks.{Tasks}
+use Rattle.b67_task.specs.Tables.{task_row, job_row, counts_of, TasksShow, job_given}
 use Rattle.b67_layout.proofs.LiveTasks.{job_at}
 use Rattle.b67_mcp.proofs.Passed.{jobs_put, tables_after, replaces_answered, waits_answered}
 use Rattle.b67_law.proofs.Numbered.{numbered_low}

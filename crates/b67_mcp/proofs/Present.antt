@@ -7,7 +7,7 @@ use Rattle.b67_stack.specs.Represents.{Storage}
 use Rattle.b67_layout.specs.Placement.{Placement}
 use Rattle.b67_layout.specs.Meets.{here}
 use Rattle.b67_mcp.specs.RowCalls.{CopiesPresent}
-use Rattle.b67_task_tables.specs.declared.tables.Machine.{Machine}
+use Rattle.b67_task.specs.declared.tables.Machine.{Machine}
 use Rattle.b67_mcp.specs.Called.{ArrayIsThere, TouchesPresent, CallTouches}
 use Rattle.b67_mcp.specs.Answers.{AnswerMeets, call_end_of}
 use Rattle.b67_mcp.proofs.Callings.{Calling}

@@ -14,7 +14,7 @@ use Rattle.b67_layout.specs.Tops.{cells}
 use Rattle.b67_mcp.specs.Calls.{IsCall}
 use Rattle.b67_mcp.proofs.Answering.{no_higher}
 use Rattle.b67_entry.proofs.Firsts.{same_follow}
-use Rattle.b67_task_start.specs.Starts.{child}
+use Rattle.b67_task.specs.Starts.{child}
 use Rattle.b67_mcp.specs.Asked.{answer_by, admits}
 use Rattle.b67_mcp.proofs.FirstWords.{take_front, any_turned, turned_two}
 

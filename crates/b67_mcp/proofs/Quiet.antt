@@ -6,7 +6,7 @@ use Rattle.b67_word.specs.declared.faults.Fault.{Fault}
 use Rattle.b67_model.specs.Common.{Task, Job, SessionJob, Line, Goes, step, live_tasks, Session}
 use Rattle.b67_stack.specs.Represents.{Storage}
 use Rattle.b67_layout.specs.Placement.{Placement}
-use Rattle.b67_task_tables.specs.declared.tables.Machine.{Machine}
+use Rattle.b67_task.specs.declared.tables.Machine.{Machine}
 use Rattle.b67_exec_cells.specs.Called.{called_in}
 use Rattle.b67_mcp.specs.Called.{StartsTask, CallMeets, CallFits}
 use Rattle.b67_mcp.specs.Answers.{AnswerMeets, SilentMeets, call_end_of}

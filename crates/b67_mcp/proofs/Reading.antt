@@ -5,8 +5,8 @@ use Rattle.b67_word.specs.Tagged.{Tagged, word}
 use Rattle.b67_word.specs.declared.faults.Fault.TheVariants.{InvalidOperand, CriticalBlock}
 use Rattle.b67_model.specs.Common.{Word, Task, SessionJob, height, top, is_critical, is_original, read_from, read}
 use Rattle.b67_layout.specs.Common.{Placement, JobShows, here, cells}
-use Rattle.b67_task_tables.specs.declared.tables.JobRow.{JobRow}
-use Rattle.b67_task_tables.specs.Tables.{job_row}
+use Rattle.b67_task.specs.declared.tables.JobRow.{JobRow}
+use Rattle.b67_task.specs.Tables.{job_row}
 use Rattle.b67_exec_cells.specs.Tops.{NoOriginals}
 use Rattle.b67_mcp.specs.Printed.{IsCall}
 use Rattle.b67_mcp.specs.Reads.{left_in, ReadMeets}

@@ -19,8 +19,8 @@ use Rattle.b67_layout.proofs.Devices.{says_of}
 use Rattle.b67_layout.proofs.Untold.{untold}
 use Rattle.b67_layout_step.proofs.Arrays.{Renumbers, slots_same}
 use Rattle.b67_layout_step.proofs.Objects.{old_object, replaces}
-use Rattle.b67_task_tables.specs.declared.tables.Machine.{Machine}
-use Rattle.b67_task_tables.specs.Tables.{task_row, job_row, counts_of, TasksShow, MachineRepresents}
+use Rattle.b67_task.specs.declared.tables.Machine.{Machine}
+use Rattle.b67_task.specs.Tables.{task_row, job_row, counts_of, TasksShow, MachineRepresents}
 use Rattle.b67_mcp.proofs.Moved.{same_jobs}
 use Rattle.b67_mcp.proofs.Passed.{WaitsThere, jobs_kept, tables_after}
 

@@ -9,8 +9,8 @@ use Rattle.b67_exec_cells.specs.Running.{code_area}
 use Rattle.b67_layout.specs.Common.{IsInOrderButCounts, Placement, IsRunning}
 use Rattle.b67_mcp.specs.Lengthening.{ResizeMeets, job_resized}
 use Rattle.b67_mcp.specs.declared.resize.Resizing.TheVariants as resizing
-use Rattle.b67_task_tables.specs.declared.tables.Machine.{Machine}
-use Rattle.b67_task_tables.specs.Tables.{MachineRepresents}
+use Rattle.b67_task.specs.declared.tables.Machine.{Machine}
+use Rattle.b67_task.specs.Tables.{MachineRepresents}
 use Rattle.b67_mcp.specs.declared.ends.CallEnd.TheVariants as ends
 use Rattle.b67_mcp.specs.declared.ends.Stop.{Stop}
 use Rattle.b67_mcp.specs.declared.ends.Stop.TheVariants as stops

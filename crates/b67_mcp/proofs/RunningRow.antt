@@ -7,9 +7,9 @@ use Rattle.b67_stack.specs.declared.Cpu.{Cpu}
 use Rattle.b67_stack.specs.Represents.{Storage}
 use Rattle.b67_layout.specs.Rows as rows
 use Rattle.b67_layout.proofs.Common.{slot_below, running_only, live_in_order}
-use Rattle.b67_task_tables.specs.declared.tables.TaskRow.{TaskRow}
-use Rattle.b67_task_tables.specs.declared.tables.Tasks.{Tasks}
-use Rattle.b67_task_tables.specs.Tables.{task_row, TasksShow}
+use Rattle.b67_task.specs.declared.tables.TaskRow.{TaskRow}
+use Rattle.b67_task.specs.declared.tables.Tasks.{Tasks}
+use Rattle.b67_task.specs.Tables.{task_row, TasksShow}
 use Rattle.b67_lemmas.proofs.Members.{has_get, keyed_has}
 use Rattle.b67_lemmas.proofs.Places.{mapped_at}
 use Rattle.b67_law.proofs.Numbered.{keyed_member}

@@ -13,8 +13,8 @@ use Rattle.b67_stack.specs.declared.Cpu.{Cpu}
 use Rattle.b67_stack.specs.Common.{stack_words, MachineView, slot_base, stack_of, Storage}
 use Rattle.b67_layout.specs.Common.{IsInOrderButCounts, Placement, machine_view, RepresentsSession, with_job}
 use Rattle.b67_overlay.proofs.Turning.{slot_high}
-use Rattle.b67_task_need.specs.Sums.{sectors_at, core_sectors_from, sectors_of_slots}
-use Rattle.b67_task_need.proofs.Sessions.{session_kept}
+use Rattle.b67_task.specs.Sums.{sectors_at, core_sectors_from, sectors_of_slots}
+use Rattle.b67_task.proofs.Sessions.{session_kept}
 
 -- its first numbers; its numbers, with zeros behind them; and so many
 pub resized_cut : (n : ℕ) (xs : List ℕ) → n ≤ length xs → take n xs ++ replicate (n - length xs) 0 ≡ take n xs

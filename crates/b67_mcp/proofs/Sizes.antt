@@ -5,9 +5,9 @@ use Rattle.b67_stack.specs.declared.Cpu.{Cpu}
 use Rattle.b67_stack.specs.Represents.{Storage}
 use Rattle.b67_layout.specs.Placement.{Placement}
 use Rattle.b67_layout.specs.Session.{RepresentsSession}
-use Rattle.b67_task_tables.specs.declared.tables.Machine.{Machine}
-use Rattle.b67_task_tables.specs.Runs.{Keeps}
-use Rattle.b67_task_tables.proofs.Keeping.{keeps_same}
+use Rattle.b67_task.specs.declared.tables.Machine.{Machine}
+use Rattle.b67_task.specs.Runs.{Keeps}
+use Rattle.b67_task.proofs.Keeping.{keeps_same}
 
 -- core has the size that the spans of its directory have
 pub same_size : (x y : Storage) (old new : Cpu) (plan there : Placement) (s z : Session) → RepresentsSession x old plan s → RepresentsSession y new there z → y.low ≡ x.low → y.spans ≡ x.spans → length new.core ≡ length old.core

@@ -16,8 +16,8 @@ use Rattle.b67_layout.proofs.Fresh.{running_in_order}
 use Rattle.b67_exec_cells.proofs.Replaced.{array_object-has, member_objects, before}
 use Rattle.b67_exec_cells.specs.Running.{code_area}
 use Rattle.b67_exec_cells.proofs.Codes.{code_object}
-use Rattle.b67_task_need.specs.Needing.{array_area, need_with}
-use Rattle.b67_task_need.proofs.Needs.{follow_all}
+use Rattle.b67_task.specs.Needing.{array_area, need_with}
+use Rattle.b67_task.proofs.Needs.{follow_all}
 use Rattle.b67_mcp.specs.Spaces.{HasSpace, PresentFits}
 use Rattle.b67_mcp.proofs.Areas.{one_fits, two_fit}
 

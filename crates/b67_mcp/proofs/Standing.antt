@@ -6,9 +6,9 @@ use Rattle.b67_model.specs.Common.{Word, Task, SessionJob, top, below_top, answe
 use Rattle.b67_stack.specs.declared.Cpu.{Cpu}
 use Rattle.b67_stack.specs.Represents.{Storage}
 use Rattle.b67_layout.specs.Common.{IsInOrderButCounts, Placement, IsRunning, RepresentsSession, RepresentsStorage, here, with_job}
-use Rattle.b67_task_tables.specs.declared.tables.Machine.{Machine}
-use Rattle.b67_task_tables.specs.declared.tables.Tasks.{Tasks}
-use Rattle.b67_task_tables.specs.Tables.{task_row, job_row, counts_of, TasksShow, MachineRepresents}
+use Rattle.b67_task.specs.declared.tables.Machine.{Machine}
+use Rattle.b67_task.specs.declared.tables.Tasks.{Tasks}
+use Rattle.b67_task.specs.Tables.{task_row, job_row, counts_of, TasksShow, MachineRepresents}
 use Rattle.b67_mcp.specs.Calls.{MayCut, job_cut}
 use Rattle.b67_mcp.specs.Answered.{job_answered}
 use Rattle.b67_mcp.proofs.CallTables.{jobs_kept, tables_after}

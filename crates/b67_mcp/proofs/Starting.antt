@@ -14,10 +14,10 @@ use Rattle.b67_layout.specs.Common.{IsInOrderButCounts, array_object, machine_vi
 use Rattle.b67_stack.specs.Common.{PagedObject, Storage, Content, KeptChain}
 use Rattle.b67_exec_cells.proofs.Replaced.{array_object-has}
 use Rattle.b67_exec_cells.specs.Running.{code_area}
-use Rattle.b67_task_need.specs.Needing.{need_with, StandsOrdered}
-use Rattle.b67_task_tables.specs.declared.tables.Machine.{Machine}
-use Rattle.b67_task_tables.specs.Tables.{MachineRepresents}
-use Rattle.b67_task_tables.specs.Shortage.{IsShortOf}
+use Rattle.b67_task.specs.Needing.{need_with, StandsOrdered}
+use Rattle.b67_task.specs.declared.tables.Machine.{Machine}
+use Rattle.b67_task.specs.Tables.{MachineRepresents}
+use Rattle.b67_task.specs.Shortage.{IsShortOf}
 use Rattle.b67_mcp.proofs.PassedSpans.{short_full}
 use Rattle.b67_mcp.specs.Process.{StartsOne, ProcessMeets, ProcessWrites, ProcessFits}
 use Rattle.b67_exec_cells.specs.Called.{called_in}

@@ -14,12 +14,12 @@ use Rattle.b67_model.specs.Common.{Word, Operand, Task, Job, SessionJob, Goes, n
 use Rattle.b67_layout.specs.Common.{IsInOrderButCounts, Placement, IsRunning, here, with_job, cells, session_moved}
 use Rattle.b67_stack.specs.Represents.{Storage}
 use Rattle.b67_mcp.specs.Answered.{job_answered}
-use Rattle.b67_task_need.specs.Needing.{need_with}
-use Rattle.b67_task_start.specs.Opening.{IsLowestFree, slot_end}
-use Rattle.b67_task_start.specs.Starts.{MayStart, arguments, child}
-use Rattle.b67_task_start.proofs.Rows.{job_row_of}
-use Rattle.b67_task_tables.specs.declared.tables.Machine.{Machine}
-use Rattle.b67_task_tables.specs.Tables.{MachineRepresents}
+use Rattle.b67_task.specs.Needing.{need_with}
+use Rattle.b67_task.specs.Opening.{IsLowestFree, slot_end}
+use Rattle.b67_task.specs.Starts.{MayStart, arguments, child}
+use Rattle.b67_task.proofs.Rows.{job_row_of}
+use Rattle.b67_task.specs.declared.tables.Machine.{Machine}
+use Rattle.b67_task.specs.Tables.{MachineRepresents}
 use Rattle.b67_mcp.specs.Asked.{job_started, job_full, answer_by, Asks}
 use Rattle.b67_mcp.specs.Begins.{StandsMoved}
 use Rattle.b67_mcp.specs.Process.{CanNumber, StartsOne, IsProcessed, StartIsStopped, IsStoppedShort, ProcessMeets, ProcessWrites, ProcessFits}

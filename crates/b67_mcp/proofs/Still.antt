@@ -5,8 +5,8 @@ use Rattle.b67_model.specs.Words.{whole}
 use Rattle.b67_law.proofs.Posts.{Post, post_err, post_any, post_then, post_at}
 use Rattle.b67_layout.specs.Common.{Placement, here, with_job, session_moved}
 use Rattle.b67_stack.specs.Represents.{Storage}
-use Rattle.b67_task_tables.specs.declared.tables.Machine.{Machine}
-use Rattle.b67_task_tables.specs.Tables.{MachineRepresents}
+use Rattle.b67_task.specs.declared.tables.Machine.{Machine}
+use Rattle.b67_task.specs.Tables.{MachineRepresents}
 use Rattle.b67_mcp.specs.Called.{StartsTask}
 use Rattle.b67_mcp.proofs.Callings.{Calling}
 use Rattle.b67_mcp.proofs.Apart.{IsApart, apart_row}

@@ -11,7 +11,7 @@ use Rattle.b67_io.specs.Told.{Continues}
 use Rattle.b67_session_lines.specs.Parts.{TookRest, TookMore}
 use Rattle.b67_model.specs.Common.{task_name, value_text, line_text, Task, SessionJob, Value, Values}
 use Rattle.b67_mcp.specs.Texts.{values_of}
-use Rattle.b67_task_tables.specs.declared.tables.Machine.{Machine}
+use Rattle.b67_task.specs.declared.tables.Machine.{Machine}
 use Rattle.b67_mcp.specs.Called.{printed_text}
 use Rattle.b67_mcp.specs.Running.{ForRuns}
 

@@ -5,8 +5,8 @@ use Rattle.b67_word.specs.declared.faults.Fault.{Fault}
 use Rattle.b67_model.specs.Common.{Answer, Task, Job, SessionJob, Done, Goes, Leaves, Waits, Call, step, Session}
 use Rattle.b67_layout.specs.Common.{IsInOrderButCounts, Placement, here}
 use Rattle.b67_stack.specs.Represents.{Storage}
-use Rattle.b67_task_tables.specs.declared.tables.TaskState.{TaskState}
-use Rattle.b67_task_tables.specs.declared.tables.Machine.{Machine}
+use Rattle.b67_task.specs.declared.tables.TaskState.{TaskState}
+use Rattle.b67_task.specs.declared.tables.Machine.{Machine}
 use Rattle.b67_mcp.specs.Events.{GoesOn, WaitMeets, DoneMeets}
 use Rattle.b67_mcp.specs.declared.ends.CallEnd.{CallEnd}
 use Rattle.b67_mcp.specs.declared.ends.CallEnd.TheVariants as ends

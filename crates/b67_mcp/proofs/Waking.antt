@@ -13,8 +13,8 @@ use Rattle.b67_stack.specs.Common.{StackPlace, Activation, Slot, Running, Waitin
 use Rattle.b67_layout.specs.Common.{Slotted, Placement, slot_of, spots, address_of, stack_of_task, slot_with, slot_in, slot_by, slot_at, machine_view, RowsFit, DictionariesFollow, RowHomes, PlanFits, RepresentsDictionary, vector_word, critical_mark, RepresentsTask, IsRunning, ShowsDisplay, SessionHolds, RepresentsSession, with_job}
 use Rattle.b67_layout.proofs.Common.{with_course, member-same, member-other, change-has, change-kept, running_only, same_frame_at}
 use Rattle.b67_layout.proofs.MachineViews.{objects-after}
-use Rattle.b67_task_start_stack.specs.Likes.{Like}
-use Rattle.b67_task_start_stack.proofs.AlikePlans.{stack-twin, spots-twin, name_all}
+use Rattle.b67_task.specs.Likes.{Like}
+use Rattle.b67_task.proofs.AlikePlans.{stack-twin, spots-twin, name_all}
 
 -- each task with another condition
 abbrev pub wake_task : (Condition → Condition) → Task → Task

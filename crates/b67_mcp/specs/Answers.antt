@@ -8,10 +8,10 @@ use Rattle.b67_stack.specs.Represents.{Storage}
 use Rattle.b67_layout.specs.Common.{Placement, JobShows, ForEach, with_job, session_moved}
 use Rattle.b67_mcp.specs.Printed.{IsCall}
 use Rattle.b67_mcp.specs.Reads.{ReadMeets}
-use Rattle.b67_task_tables.specs.declared.tables.JobRow.{JobRow}
-use Rattle.b67_task_tables.specs.declared.tables.Machine.{Machine}
-use Rattle.b67_task_tables.specs.Tables.{job_row, MachineRepresents}
-use Rattle.b67_task_tables.specs.declared.tables.TaskState.{TaskState}
+use Rattle.b67_task.specs.declared.tables.JobRow.{JobRow}
+use Rattle.b67_task.specs.declared.tables.Machine.{Machine}
+use Rattle.b67_task.specs.Tables.{job_row, MachineRepresents}
+use Rattle.b67_task.specs.declared.tables.TaskState.{TaskState}
 use Rattle.b67_mcp.specs.Called.{WaitsSo, StaysInPlace, IsUnstarted, IsUnstartedFull, LacksCore}
 use Rattle.b67_mcp.specs.declared.ends.CallEnd.{CallEnd}
 use Rattle.b67_mcp.specs.declared.ends.CallEnd.TheVariants as ends

@@ -9,7 +9,7 @@ use Rattle.b67_model.specs.Common.{Answer, ◌>>◌, needs, Word, Operand, Task,
 use Rattle.b67_stack.specs.declared.Cpu.{Cpu}
 use Rattle.b67_layout.specs.Common.{Placement, RunsSome, here, cells}
 use Rattle.b67_mcp.specs.Calls.{MayCut}
-use Rattle.b67_task_start.specs.Starts.{IsProcCell, child, with_child}
+use Rattle.b67_task.specs.Starts.{IsProcCell, child, with_child}
 use Rattle.b67_mcp.specs.declared.process_asked.Asked.{Asked}
 
 -- the running task's top activation record has so many cells

@@ -9,11 +9,11 @@ use Rattle.b67_stack.specs.Represents.{Storage}
 use Rattle.b67_layout.specs.Placement.{Placement}
 use Rattle.b67_mcp.specs.Calls.{MayCut}
 use Rattle.b67_layout.specs.Moved.{session_moved}
-use Rattle.b67_task_start.specs.Starts.{StartsSome}
-use Rattle.b67_task_tables.specs.declared.tables.TaskRow.{TaskRow}
-use Rattle.b67_task_tables.specs.declared.tables.Machine.{Machine}
-use Rattle.b67_task_tables.specs.Tables.{MachineRepresents}
-use Rattle.b67_task_tables.specs.Runs.{RunsTask}
+use Rattle.b67_task.specs.Starts.{StartsSome}
+use Rattle.b67_task.specs.declared.tables.TaskRow.{TaskRow}
+use Rattle.b67_task.specs.declared.tables.Machine.{Machine}
+use Rattle.b67_task.specs.Tables.{MachineRepresents}
+use Rattle.b67_task.specs.Runs.{RunsTask}
 use Rattle.b67_mcp.specs.Asked.{Asks}
 
 -- how many rows are of tasks of a job

@@ -12,12 +12,12 @@ use Rattle.b67_exec_cells.specs.Running.{code_area}
 use Rattle.b67_exec_cells.specs.Called.{called_in}
 use Rattle.b67_law.specs.Turns.{task_lines}
 use Rattle.b67_session_lines.specs.Parts.{TookRest, TookMore}
-use Rattle.b67_task_tables.specs.declared.tables.TaskState.{TaskState}
-use Rattle.b67_task_tables.specs.declared.tables.Machine.{Machine}
-use Rattle.b67_task_tables.specs.Tables.{MachineRepresents, state_of}
-pub use Rattle.b67_task_tables.specs.Tables.{AreCountable}
-use Rattle.b67_task_tables.specs.Runs.{RunsTask}
-pub use Rattle.b67_task_tables.specs.Shortage.{Lengthens, IsShortOf, IsShortAt}
+use Rattle.b67_task.specs.declared.tables.TaskState.{TaskState}
+use Rattle.b67_task.specs.declared.tables.Machine.{Machine}
+use Rattle.b67_task.specs.Tables.{MachineRepresents, state_of}
+pub use Rattle.b67_task.specs.Tables.{AreCountable}
+use Rattle.b67_task.specs.Runs.{RunsTask}
+pub use Rattle.b67_task.specs.Shortage.{Lengthens, IsShortOf, IsShortAt}
 use Rattle.b67_mcp.specs.declared.ends.CallEnd.{CallEnd}
 use Rattle.b67_mcp.specs.declared.ends.CallEnd.TheVariants as ends
 use Rattle.b67_mcp.specs.declared.ends.Stop.{Stop}

@@ -10,8 +10,8 @@ use Rattle.b67_arith.specs.OnWords.{operand_bits}
 use Rattle.b67_stack.specs.declared.Cpu.{Cpu}
 use Rattle.b67_stack.specs.Represents.{Storage}
 use Rattle.b67_layout.specs.Common.{Placement, RunsSome, here, GivesTop}
-use Rattle.b67_task_tables.specs.declared.tables.Machine.{Machine}
-use Rattle.b67_task_tables.specs.Runs.{RunsTask, ForEachRun}
+use Rattle.b67_task.specs.declared.tables.Machine.{Machine}
+use Rattle.b67_task.specs.Runs.{RunsTask, ForEachRun}
 
 -- the cells of a call from the first one up: the reference and the arguments
 pub record IsCall (t : Task) (reference : Word) (arguments : List Word) : Type 0 where

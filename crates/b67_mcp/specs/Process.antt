@@ -10,11 +10,11 @@ use Rattle.b67_io.specs.Causes.{Rose}
 use Rattle.b67_stack.specs.Represents.{Storage}
 use Rattle.b67_layout.specs.Machine.{Says, DeviceAfterCalls, content_after}
 use Rattle.b67_layout.specs.Common.{Placement, here, session_moved}
-use Rattle.b67_task_need.specs.Needing.{need_with}
-use Rattle.b67_task_tables.specs.declared.tables.JobRow.{JobRow}
-use Rattle.b67_task_tables.specs.declared.tables.Machine.{Machine}
-use Rattle.b67_task_tables.specs.Tables.{MachineRepresents}
-use Rattle.b67_task_tables.specs.Shortage.{IsShortOf}
+use Rattle.b67_task.specs.Needing.{need_with}
+use Rattle.b67_task.specs.declared.tables.JobRow.{JobRow}
+use Rattle.b67_task.specs.declared.tables.Machine.{Machine}
+use Rattle.b67_task.specs.Tables.{MachineRepresents}
+use Rattle.b67_task.specs.Shortage.{IsShortOf}
 
 -- each job's next task can be numbered, and then the one after it
 abbrev pub CanNumber : List JobRow → Type 0

@@ -7,8 +7,8 @@ use Rattle.b67_word.specs.declared.faults.Fault.{Fault}
 use Rattle.b67_model.specs.Common.{Word, Operand, Task, Job, SessionJob, Goes, read_from, read}
 use Rattle.b67_stack.specs.declared.Cpu.{Cpu}
 use Rattle.b67_layout.specs.Common.{Placement, JobShows, here}
-use Rattle.b67_task_tables.specs.declared.tables.JobRow.{JobRow}
-use Rattle.b67_task_tables.specs.Tables.{job_row}
+use Rattle.b67_task.specs.declared.tables.JobRow.{JobRow}
+use Rattle.b67_task.specs.Tables.{job_row}
 use Rattle.b67_mcp.specs.Printed.{CallSome, MayCut}
 use Rattle.b67_mcp.specs.Answered.{job_answered}
 

@@ -8,10 +8,10 @@ use Rattle.b67_model.specs.Common.{Array, Task, Job, SessionJob, Goes, with_arra
 use Rattle.b67_stack.specs.Represents.{Storage}
 use Rattle.b67_layout.specs.Machine.{HasHole}
 use Rattle.b67_layout.specs.Common.{IsInOrderButCounts, Placement, with_job, area_held}
-use Rattle.b67_task_tables.specs.declared.tables.Machine.{Machine}
-use Rattle.b67_task_tables.specs.Tables.{MachineRepresents}
-use Rattle.b67_task_tables.specs.Runs.{RunsTask, ForEachRun}
-use Rattle.b67_task_tables.specs.Shortage.{IsShortOf}
+use Rattle.b67_task.specs.declared.tables.Machine.{Machine}
+use Rattle.b67_task.specs.Tables.{MachineRepresents}
+use Rattle.b67_task.specs.Runs.{RunsTask, ForEachRun}
+use Rattle.b67_task.specs.Shortage.{IsShortOf}
 use Rattle.b67_mcp.specs.Called.{StaysInPlace, TouchesAbsent, IsFull, IsRefused}
 use Rattle.b67_mcp.specs.declared.ends.CallEnd.{CallEnd}
 use Rattle.b67_mcp.specs.declared.ends.CallEnd.TheVariants as ends

@@ -9,10 +9,10 @@ use Rattle.b67_layout.specs.Placement.{Placement}
 use Rattle.b67_exec_cells.specs.Running.{code_area}
 use Rattle.b67_mcp.specs.Printed.{MayCut}
 pub use Rattle.b67_mcp.specs.Process.{CanNumber}
-use Rattle.b67_task_tables.specs.declared.tables.JobRow.{JobRow}
-use Rattle.b67_task_tables.specs.declared.tables.Machine.{Machine}
-use Rattle.b67_task_tables.specs.Runs.{RunsTask, ForEachRun}
-pub use Rattle.b67_task_tables.specs.Runs.{Keeps}
+use Rattle.b67_task.specs.declared.tables.JobRow.{JobRow}
+use Rattle.b67_task.specs.declared.tables.Machine.{Machine}
+use Rattle.b67_task.specs.Runs.{RunsTask, ForEachRun}
+pub use Rattle.b67_task.specs.Runs.{Keeps}
 use Rattle.b67_exec_cells.specs.Called.{called_in}
 use Rattle.b67_io.specs.Causes.{Rose}
 use Rattle.b67_mcp.specs.declared.ends.Stop.{Stop}

@@ -6,7 +6,7 @@ use Rattle.b67_stack.specs.declared.Cpu.{Cpu}
 use Rattle.b67_stack.specs.Represents.{Storage}
 use Rattle.b67_layout.specs.Common.{Placement, area_held, ForEach}
 use Rattle.b67_exec_cells.specs.Running.{code_area}
-use Rattle.b67_task_need.specs.Needing.{need_with}
+use Rattle.b67_task.specs.Needing.{need_with}
 
 -- a core of so many words has room for the running segment beside the MCP, the dictionaries and the stacks, and for each
 -- present array of the running task's job with it

@@ -5,8 +5,8 @@ ghost use Rattle.b67_model.specs.Intrinsics as rows;
 ghost use Rattle.std.specs.Prelude.{◌≡◌, ◌<◌, ℕ, List, Some, pos};
 ghost use Rattle.b67_ctl.specs.Layout.{IsPlace};
 ghost use Rattle.b67_layout.specs.Meets.{ForEach};
-ghost use Rattle.b67_task_tables.specs.Runs.{RunsTask, ForEachRun, Keeps};
-ghost use Rattle.b67_task_tables.specs.declared.tables.TaskState.TheVariants.{Awaits};
+ghost use Rattle.b67_task.specs.Runs.{RunsTask, ForEachRun, Keeps};
+ghost use Rattle.b67_task.specs.declared.tables.TaskState.TheVariants.{Awaits};
 ghost use Rattle.b67_mcp.specs.Calls.{StandsAtCall, ForCall, CallSome, IsCall};
 ghost use Rattle.b67_mcp.specs.Arguments.{number_given};
 ghost use Rattle.b67_mcp.specs.Events.{WaitMeets, DoneMeets};
@@ -15,8 +15,7 @@ use crate::call::{answer_call, cut_call, only_argument};
 use crate::number::whole;
 use b67_entry::is_critical;
 use b67_stack::Cpu;
-use b67_task_end::{lives, status};
-use b67_task_tables::{Machine, TaskState};
+use b67_task::{Machine, TaskState, lives, status};
 use b67_word::{Fault, Place, Word};
 
 /// The number of the running task's job.

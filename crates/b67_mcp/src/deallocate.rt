@@ -27,7 +27,7 @@ use b67_entry::is_critical;
 use b67_exec_cells::array_descriptor;
 use b67_overlay::search_copies;
 use b67_stack::Cpu;
-use b67_task_tables::Machine;
+use b67_task::Machine;
 use b67_word::Fault;
 
 /// The array that a call of DEALLOCATE on the running stack empties, by the address of its original, or the call's fault.

@@ -18,7 +18,7 @@ use crate::running::next_place;
 use b67_ctl::DataDesc;
 use b67_entry::is_critical;
 use b67_stack::Cpu;
-use b67_task_tables::Machine;
+use b67_task::Machine;
 use b67_word::{Fault, Place, Word};
 
 /// The length that a word says: INVALID OPERAND where it is no operand, EXPONENT where it isn't whole, INVALID INDEX where

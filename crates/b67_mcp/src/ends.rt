@@ -1,7 +1,7 @@
 //! What a call of an intrinsic answers, and why a run stops short.
 
 use b67_stack::What;
-use b67_task_tables::TaskState;
+use b67_task::TaskState;
 use b67_word::Fault;
 
 /// A call that was made; that touches an absent array; whose row faults; or that makes its task wait, in this state.

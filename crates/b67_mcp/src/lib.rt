@@ -48,7 +48,7 @@ use crate::waits::wait_for;
 use b67_backing::Backing;
 use b67_io::Sink;
 use b67_model::{ARRAYDEC, DEALLOCATE, PRINT, PRINTROW, PROCESS, READ, RESIZE};
-use b67_task_tables::Machine;
+use b67_task::Machine;
 use b67_word::Fault;
 pub use ends::{CallEnd, Stop};
 pub use stopping::stop_for;

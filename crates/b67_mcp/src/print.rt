@@ -20,7 +20,7 @@ use b67_entry::is_critical;
 use b67_io::Sink;
 use b67_session_lines::{put_rest, value_line};
 use b67_stack::Cpu;
-use b67_task_tables::Machine;
+use b67_task::Machine;
 use b67_word::{Failed, Fault, Word};
 
 /// The value that a call of PRINT on the running stack prints, or the call's fault. Nothing is changed: the line is printed

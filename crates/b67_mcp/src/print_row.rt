@@ -28,7 +28,7 @@ use b67_exec_cells::array_descriptor;
 use b67_io::Sink;
 use b67_refer::owner;
 use b67_stack::{Cpu, What};
-use b67_task_tables::Machine;
+use b67_task::Machine;
 use b67_word::{Failed, Fault, Word};
 
 /// The row that a call prints: so many words from an address on; or the array whose original has this address is absent.

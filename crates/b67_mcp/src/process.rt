@@ -3,7 +3,7 @@
 ghost use Rattle.std.specs.Prelude.{◌≡◌, ◌+◌, length};
 ghost use Rattle.b67_ctl.specs.Layout.{IsPlace};
 ghost use Rattle.b67_mcp.specs.Calls.{StandsAtCall, ForCall};
-ghost use Rattle.b67_task_tables.specs.Runs.{Keeps};
+ghost use Rattle.b67_task.specs.Runs.{Keeps};
 ghost use Rattle.b67_mcp.specs.Process.{CanNumber, ProcessRow, ProcessFits, ProcessServed};
 ghost use Rattle.b67_model.specs.declared.intrinsics.TheConstants.{PROCESS};
 ghost use Rattle.b67_layout.specs.Machine.{Says, DeviceAfterCalls, content_after};
@@ -18,7 +18,7 @@ use crate::stopping::stop_for;
 use crate::{CallEnd, Stop, silent};
 use b67_backing::{Backing, SpaceFault};
 use b67_model::MOST_TASKS;
-use b67_task_tables::Machine;
+use b67_task::Machine;
 use b67_word::{Fault, Place};
 
 /// PROCESS: starts a child of the running task, with copies of the call's words, and answers its number; or 0 where [`MOST_TASKS`]

@@ -18,7 +18,7 @@ use b67_entry::is_critical;
 use b67_exec_cells::count_cells;
 use b67_refer::{End, chase, enclosure_of};
 use b67_stack::Cpu;
-use b67_task_start::procedure_at;
+use b67_task::procedure_at;
 use b67_word::{Fault, Word};
 
 /// A task that is to be started: the address of its procedure's cell, and how many words it gets.

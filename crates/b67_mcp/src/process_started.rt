@@ -14,9 +14,9 @@ ghost use Rattle.b67_layout.specs.Session.{IsRunning};
 ghost use Rattle.b67_layout.specs.Meets.{with_job};
 ghost use Rattle.b67_mcp.specs.Calls.{MayCut};
 ghost use Rattle.b67_mcp.specs.Answered.{job_answered};
-ghost use Rattle.b67_task_start.specs.Starts.{MayStart, child};
-ghost use Rattle.b67_task_tables.specs.Runs.{ForEachRun, Keeps, RunsTask};
-ghost use Rattle.b67_task_tables.specs.Tables.{MachineRepresents};
+ghost use Rattle.b67_task.specs.Starts.{MayStart, child};
+ghost use Rattle.b67_task.specs.Runs.{ForEachRun, Keeps, RunsTask};
+ghost use Rattle.b67_task.specs.Tables.{MachineRepresents};
 ghost use Rattle.b67_mcp.specs.Asked.{Asks, job_started};
 ghost use Rattle.b67_mcp.specs.Begins.{counts_for, rows_of_job, AnswersSome, BeginsSome, AsksSome, StandsMoved};
 ghost use Rattle.b67_mcp.specs.Process.{CanNumber, ProcessRow, ProcessFits, ProcessServed};
@@ -25,9 +25,7 @@ use crate::call::answer_call;
 use crate::process_asked::Asked;
 use b67_backing::{Backing, SpaceFault};
 use b67_overlay::claim;
-use b67_task_need::need;
-use b67_task_start::{next_slot_end, start};
-use b67_task_tables::{Machine, TaskRow};
+use b67_task::{Machine, TaskRow, need, next_slot_end, start};
 use b67_word::{Fault, Place, Word};
 
 /// 1 for the row of a task of a job, 0 for another.

@@ -6,11 +6,11 @@ ghost use Rattle.b67_word.specs.Tagged.{word};
 ghost use Rattle.b67_model.specs.Intrinsics.{read_from};
 ghost use Rattle.b67_layout.specs.Rows.{JobShows};
 ghost use Rattle.b67_layout.specs.Meets.{ForEach};
-ghost use Rattle.b67_task_tables.specs.Tables.{job_row};
+ghost use Rattle.b67_task.specs.Tables.{job_row};
 ghost use Rattle.b67_mcp.specs.Printed.{IsCall};
 ghost use Rattle.b67_mcp.specs.Reads.{left_in, AreOperands, ReadSome, ReadMeets};
 ghost use Rattle.b67_model.specs.declared.intrinsics.TheConstants.{READ};
-ghost use Rattle.b67_task_tables.specs.declared.tables.JobRow.{JobRow};
+ghost use Rattle.b67_task.specs.declared.tables.JobRow.{JobRow};
 ghost use Rattle.b67_mcp.specs.Answers.{AnswerMeets, Takes};
 ghost use Rattle.b67_mcp.specs.Called.{AreCountable, CallsSome, ChangesStack};
 ghost use Rattle.b67_mcp.specs.Running.{ForCalls, Keeps};
@@ -20,7 +20,7 @@ use crate::running::{next_place, running_row};
 use b67_entry::is_critical;
 use b67_exec_cells::count_cells;
 use b67_stack::Cpu;
-use b67_task_tables::{JobRow, Machine, Tasks};
+use b67_task::{JobRow, Machine, Tasks};
 use b67_word::{Fault, Word};
 
 /// Takes the next of the numbers that are left to read, as an operand; #800000000000 where none is left.

@@ -18,7 +18,7 @@ ghost use Rattle.b67_backing.specs.declared.refusals.SpaceFault.TheVariants.{NoC
 ghost use Rattle.b67_mcp.specs.Called.{CallsSome, CallTouches, CallWrites};
 ghost use Rattle.b67_mcp.specs.Resizing.{HasArray, ForArrays, StopsAt, LengthSet, ResizeAnswers};
 ghost use Rattle.b67_mcp.specs.Running.{ForCalls, Keeps, SilentCauses};
-ghost use Rattle.b67_task_need.specs.Needing.{StandsOrdered};
+ghost use Rattle.b67_task.specs.Needing.{StandsOrdered};
 
 use crate::call::cut_call;
 use crate::declare::length_in;
@@ -33,8 +33,7 @@ use b67_entry::is_critical;
 use b67_exec_cells::{array_descriptor, count_cells, two_cells};
 use b67_overlay::overlay;
 use b67_stack::{Cpu, What};
-use b67_task_need::sector_sum;
-use b67_task_tables::Machine;
+use b67_task::{Machine, sector_sum};
 use b67_word::Fault;
 
 /// What a call of RESIZE does: the array whose original has this address gets `after` words in place of `before`; or that

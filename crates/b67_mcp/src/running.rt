@@ -6,12 +6,12 @@ ghost use Rattle.b67_ctl.specs.Layout.{IsPlace};
 ghost use Rattle.b67_layout.specs.Meets.{with_job};
 ghost use Rattle.b67_mcp.specs.Printed.{MayCut, job_cut};
 ghost use Rattle.b67_word.specs.declared.couples.Place.{Place};
-ghost use Rattle.b67_task_tables.specs.Tables.{MachineRepresents};
+ghost use Rattle.b67_task.specs.Tables.{MachineRepresents};
 ghost use Rattle.b67_mcp.specs.Called.{ChangesStack};
 ghost use Rattle.b67_mcp.specs.Running.{ForRuns, IsBehind, StandsAtEntr, CutsSome, Keeps};
 
 use crate::call::cut_call;
-use b67_task_tables::{Machine, TaskRow};
+use b67_task::{Machine, TaskRow};
 use b67_word::Place;
 
 /// The place one syllable behind another.

@@ -1,12 +1,11 @@
 //! How a step stops for lack of space.
 
-ghost use Rattle.b67_task_need.specs.Needing.{StandsOrdered};
+ghost use Rattle.b67_task.specs.Needing.{StandsOrdered};
 ghost use Rattle.b67_mcp.specs.Stopping.{StopsFor};
 
 use crate::Stop;
 use b67_backing::SpaceFault;
-use b67_task_need::sector_sum;
-use b67_task_tables::Machine;
+use b67_task::{Machine, sector_sum};
 
 /// How a step stops for lack of space: if too few sectors are free, with the sectors that the session takes and those of the
 /// device.

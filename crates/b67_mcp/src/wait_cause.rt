@@ -4,7 +4,7 @@ ghost use Rattle.b67_model.specs.Intrinsics as rows;
 ghost use Rattle.std.specs.Prelude.{◌≡◌};
 ghost use Rattle.b67_ctl.specs.Layout.{IsPlace};
 ghost use Rattle.b67_mcp.specs.Calls.{StandsAtCall, ForCall};
-ghost use Rattle.b67_task_tables.specs.Runs.{Keeps};
+ghost use Rattle.b67_task.specs.Runs.{Keeps};
 ghost use Rattle.b67_mcp.specs.Events.{WaitMeets, DoneMeets};
 
 use crate::await_status::running_job;
@@ -12,7 +12,7 @@ use crate::call::cut_call;
 use crate::cell_given::cell_given;
 use crate::woken::wake_rows;
 use b67_entry::is_critical;
-use b67_task_tables::{Machine, TaskState};
+use b67_task::{Machine, TaskState};
 use b67_word::{Fault, Place, Word};
 
 /// WAIT: where the cell holds 0, the running task is to wait at it, with nothing changed; else the call is cut. Its fault

@@ -11,7 +11,7 @@ use crate::running::next_place;
 use crate::wait_cause::{cause, wait_at};
 use crate::{CallEnd, silent};
 use b67_model::{AWAIT, STATUS, WAIT};
-use b67_task_tables::{Machine, TaskState};
+use b67_task::{Machine, TaskState};
 use b67_word::Fault;
 
 /// The end of a call that may make its task wait.

@@ -4,7 +4,7 @@ ghost use Rattle.b67_mcp.specs.Woken as woken;
 ghost use Rattle.std.specs.Prelude.{◌≡◌, map};
 
 use arrayvec::ArrayVec;
-use b67_task_tables::{MOST_ROWS, TaskRow, TaskState};
+use b67_task::{MOST_ROWS, TaskRow, TaskState};
 
 /// The state once a cell is caused: who waited at it is ready.
 fn woken_state(state: TaskState, mark: u32, offset: u16) -> TaskState

@@ -10,9 +10,9 @@ use Rattle.b67_overlay.specs.Spans.{MachineCanPage}
 use Rattle.b67_layout.specs.Common.{IsInOrderButCounts, Placement, machine_view, RepresentsSession}
 use Rattle.b67_layout_spans.proofs.Sessions.{copies_of}
 use Rattle.b67_layout.proofs.Paged.{RepresentsSession-over}
-use Rattle.b67_task_tables.specs.declared.tables.Tasks.{Tasks}
-use Rattle.b67_task_tables.specs.declared.tables.Machine.{Machine}
-use Rattle.b67_task_tables.specs.Tables.{MachineRepresents}
+use Rattle.b67_task.specs.declared.tables.Tasks.{Tasks}
+use Rattle.b67_task.specs.declared.tables.Machine.{Machine}
+use Rattle.b67_task.specs.Tables.{MachineRepresents}
 use Rattle.b67_presence.specs.Bringing.{StandsOver, StandsAgain}
 use Rattle.b67_layout_step.proofs.MoreOtherNumbers.{others_alike}
 use Rattle.b67_presence.proofs.Others.{others_show}

@@ -13,7 +13,7 @@ use Rattle.b67_overlay.specs.Spans.{MachineCanPage}
 use Rattle.b67_stack.proofs.Helds.{held-same}
 use Rattle.b67_presence.specs.Brought.{brought}
 use Rattle.b67_presence.specs.Brings.{ReadIn, PlacedAfterEviction, StandsEvicted, BothIn, MayWait}
-use Rattle.b67_task_tables.specs.declared.tables.Machine.{Machine}
+use Rattle.b67_task.specs.declared.tables.Machine.{Machine}
 use Rattle.b67_presence.specs.Bringing.{StandsOver, StandsAgain, Brings, IsArrayWanted}
 use Rattle.b67_presence.proofs.Seen.{Sees, sees_none, sees_read, sees_both, fitting, object_bits}
 use Rattle.b67_presence.proofs.Again.{machine_of, again}

@@ -8,8 +8,8 @@ use Rattle.b67_model.specs.Common.{Array, Segment, Condition, Task, SessionJob, 
 use Rattle.b67_layout.specs.Common.{JobInOrderButCounts, IsInOrderButCounts, Placement, TaskRow, JobRow, shown, critical_disp, TaskShows, JobShows, JobsShow}
 use Rattle.b67_law.specs.Weaker.{Renumbers, Recoded, Refilled, OtherNumbers, AllOtherNumbers}
 use Rattle.b67_law.proofs.Sessions.{recoded_count}
-use Rattle.b67_task_tables.specs.declared.tables.Tasks.{Tasks}
-use Rattle.b67_task_tables.specs.Tables.{job_row, TasksShow}
+use Rattle.b67_task.specs.declared.tables.Tasks.{Tasks}
+use Rattle.b67_task.specs.Tables.{job_row, TasksShow}
 
 -- a session in order has the same numbers as itself
 recoded_same : (xs : List Segment) → AllByRecursion SegmentInOrder xs → Recoded xs xs

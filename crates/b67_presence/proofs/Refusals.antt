@@ -19,11 +19,11 @@ use Rattle.b67_overlay.proofs.Shedding.{AreasEvicted-none}
 use Rattle.b67_exec_cells.specs.Running.{code_area}
 use Rattle.b67_presence.specs.Brought.{brought}
 use Rattle.b67_presence.specs.Brings.{IsReadable, ReadIn, StandsEvicted, MayWait, IsCode}
-use Rattle.b67_task_tables.specs.declared.tables.Machine.{Machine}
+use Rattle.b67_task.specs.declared.tables.Machine.{Machine}
 use Rattle.b67_presence.specs.Bringing.{StandsOver, IsArrayWanted, IsWanted, Lacks, StillLacks, HasNoRoom, RefusedFull, IsShortOf, AreasStay, StaysIn, BringsInPlace, IsUntouched, words_wanted}
 use Rattle.b67_presence.proofs.Again.{machine_of, view_stands}
 use Rattle.b67_presence.proofs.Ends.{waits_again, may_again, read_again, stays_again}
-use Rattle.b67_task_need.proofs.Shortage.{short_of}
+use Rattle.b67_task.proofs.Shortage.{short_of}
 use Rattle.b67_presence.proofs.Seen.{readable}
 use Rattle.b67_presence.proofs.Wants.{CodeObject, code_found, array_absent}
 

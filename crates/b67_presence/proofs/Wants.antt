@@ -16,10 +16,10 @@ use Rattle.b67_layout.proofs.Fresh.{running_in_order}
 use Rattle.b67_exec_cells.proofs.Replaced.{array_object-has, member_objects, before}
 use Rattle.b67_exec_cells.specs.Running.{code_area}
 use Rattle.b67_exec_cells.proofs.Codes.{code_object, at-is, at-small, bound}
-use Rattle.b67_task_need.specs.Needing.{array_area, need_with}
-use Rattle.b67_task_need.proofs.Needs.{need_above_low}
+use Rattle.b67_task.specs.Needing.{array_area, need_with}
+use Rattle.b67_task.proofs.Needs.{need_above_low}
 use Rattle.b67_presence.specs.Brings.{IsCode, need_one, need_both}
-use Rattle.b67_task_tables.specs.declared.tables.Machine.{Machine}
+use Rattle.b67_task.specs.declared.tables.Machine.{Machine}
 use Rattle.b67_presence.proofs.Resort.{room_beside}
 use Rattle.b67_presence.specs.Bringing.{StandsOver, IsArrayWanted, IsWanted, IsUntouched, Brings, words_wanted}
 use Rattle.b67_presence.proofs.Again.{view_stands}

@@ -8,14 +8,14 @@ use Rattle.b67_stack.specs.declared.What.TheVariants as what
 use Rattle.b67_stack.specs.Represents.{Storage}
 use Rattle.b67_exec_cells.specs.Running.{code_area}
 use Rattle.b67_law.specs.Weaker.{AllOtherNumbers}
-use Rattle.b67_task_tables.specs.declared.tables.Machine.{Machine}
-use Rattle.b67_task_tables.specs.Tables.{MachineRepresents}
-pub use Rattle.b67_task_tables.specs.Shortage.{IsShortOf}
+use Rattle.b67_task.specs.declared.tables.Machine.{Machine}
+use Rattle.b67_task.specs.Tables.{MachineRepresents}
+pub use Rattle.b67_task.specs.Shortage.{IsShortOf}
 use Rattle.b67_layout.specs.Machine.{Says, HasHole, content_after}
 use Rattle.b67_backing.specs.Held.{Becomes}
 use Rattle.b67_backing.specs.declared.SpaceFault.{SpaceFault}
 use Rattle.b67_backing.specs.declared.SpaceFault.TheVariants.{NoCore, BackingFull}
-use Rattle.b67_task_need.specs.Needing.{need_with}
+use Rattle.b67_task.specs.Needing.{need_with}
 
 -- the whole machine over a device that tells this: what the storage says of the sectors, if anything, is what the device
 -- tells

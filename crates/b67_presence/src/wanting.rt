@@ -17,8 +17,7 @@ use crate::paging::AbsentObject;
 use crate::way::start_of;
 use b67_backing::{Backing, SpaceFault};
 use b67_stack::What;
-use b67_task_need::need;
-use b67_task_tables::Machine;
+use b67_task::{Machine, need};
 
 /// The words of the array that is wanted; 0 for the running segment.
 fn words_of(machine: &Machine, absent: What) -> u32

@@ -6,7 +6,7 @@ use denote.Ref.{Bor}
 use Rattle.b67_io.specs.Causes.{Rose, Stayed}
 use Rattle.b67_io.specs.Free.{free_left, free_told, free_faults}
 use Rattle.b67_io.specs.declared.free.FreeTape.{FreeTape}
-use Rattle.b67_task_tables.specs.declared.tables.Machine.{Machine}
+use Rattle.b67_task.specs.declared.tables.Machine.{Machine}
 use Rattle.b67_model_text.proofs.Answers.{err-ok}
 use Rattle.b67_session_lines.specs.Ends.{EndsPrinting, all_printed, cut_off}
 use Rattle.b67_job.specs.Command.{command_line_of}

@@ -7,7 +7,7 @@ use Rattle.b67_io.specs.declared.free.FreeTape.{FreeTape}
 use Rattle.b67_backing.specs.Memory.{memory_sectors, memory_told, memory_faults, failing_reads, failing_writes}
 use Rattle.b67_backing.specs.Held.{blank}
 use Rattle.b67_backing.specs.declared.memory.MemoryBacking.{MemoryBacking}
-use Rattle.b67_task_tables.specs.declared.tables.Machine.{Machine}
+use Rattle.b67_task.specs.declared.tables.Machine.{Machine}
 use Rattle.b67_session_lines.specs.Ends.{EndsPrinting}
 use Rattle.b67_job.specs.Command.{command_line_of, backing_path}
 use Rattle.b67_job.specs.declared.command.CommandLine.{CommandLine}

@@ -18,7 +18,7 @@ use Rattle.b67_model_text.specs.Asm.{version_of}
 use Rattle.b67_model_text.specs.Deck as deck_text
 use Rattle.b67_model_text.specs.Deck.{Said, body, bytes_in, program_at}
 use Rattle.b67_model_text.specs.declared.deck.Body.TheVariants.{Cards, Bytes}
-use Rattle.b67_task_tables.specs.declared.tables.Machine.{Machine}
+use Rattle.b67_task.specs.declared.tables.Machine.{Machine}
 use Rattle.b67_job_admit.specs.declared.refusal.Refusal.{Refusal}
 use Rattle.b67_job_admit.specs.Admitting.{Prepared, program_in, first_broken_rule, deck_prepared}
 use Rattle.b67_job_admit.specs.Verdicts.{Verdict, job_lines, codefile_of, hex_lines, asm_verdict, convert_verdict, bind_verdict, check_verdict}

@@ -6,7 +6,7 @@ use denote.Ref.{Bor}
 use Rattle.b67_io.specs.Told.{Took, GaveAll}
 use Rattle.b67_io.specs.Causes.{Rose}
 use Rattle.b67_model.specs.Common.{Session}
-use Rattle.b67_task_tables.specs.declared.tables.Machine.{Machine}
+use Rattle.b67_task.specs.declared.tables.Machine.{Machine}
 use Rattle.b67_bind.specs.declared.pairs.Pair.{Pair}
 use Rattle.b67_job_admit.specs.declared.refusal.Refusal.{Refusal}
 use Rattle.b67_job_admit.specs.Admitting.{Prepared}

@@ -8,8 +8,8 @@ use Rattle.b67_model.specs.Common.{RunLine, run_text}
 use Rattle.b67_model_text.specs.Hex.{hex_text}
 use Rattle.b67_model_text.specs.Deck.{Refusal}
 use Rattle.b67_session_lines.specs.Stops.{halted_line}
-use Rattle.b67_task_tables.specs.declared.tables.Machine.{Machine}
-use Rattle.b67_task_tables.specs.declared.tables.JobRow.{JobRow}
+use Rattle.b67_task.specs.declared.tables.Machine.{Machine}
+use Rattle.b67_task.specs.declared.tables.JobRow.{JobRow}
 use Rattle.b67_image.specs.Parts.{ImageParts, parts_of}
 use Rattle.b67_image.specs.Spelling.{image_bytes}
 use Rattle.b67_image.specs.Text.{limit, card_lines, image_text_of, bytes_of}

@@ -11,7 +11,7 @@ use Rattle.b67_backing.specs.Links.{links_in}
 use Rattle.b67_backing.proofs.Linkings.{links_in-length}
 use Rattle.b67_layout_shown.specs.Machines.{RepresentsOne}
 use Rattle.b67_job.proofs.Passed.{stands_untold}
-use Rattle.b67_task_tables.specs.declared.tables.Machine.{Machine}
+use Rattle.b67_task.specs.declared.tables.Machine.{Machine}
 use Rattle.b67_job_admit.specs.Admitting.{Prepared, deck_prepared}
 use Rattle.b67_image.specs.Text.{limit}
 use Rattle.b67_image.specs.Parts.{parts_of}

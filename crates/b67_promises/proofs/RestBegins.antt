@@ -8,7 +8,7 @@ use Rattle.b67_io.specs.Told.{Took}
 use Rattle.b67_model.specs.Common.{Session, RunLine, run_text, lines, after}
 use Rattle.b67_job.specs.Runs.{StandsAt}
 use Rattle.b67_session_lines.specs.Stops.{live_after, halted_line}
-use Rattle.b67_task_tables.specs.declared.tables.Machine.{Machine}
+use Rattle.b67_task.specs.declared.tables.Machine.{Machine}
 use Rattle.b67_image.specs.Text.{limit, first_card, last_card, card_lines}
 use Rattle.b67_image.specs.Image.{image_text}
 use Rattle.b67_image.specs.Spelling.{image_bytes}

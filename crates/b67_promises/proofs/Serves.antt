@@ -17,7 +17,7 @@ use Rattle.b67_job.specs.Judgement.{judgement, reads_text, text_limit}
 use Rattle.b67_job.specs.Lines.{memory_text}
 use Rattle.b67_job.specs.Texts.{PrintsAndAnswers, all_taken, cut_short, only}
 use Rattle.std.specs.Prelude.{is_some}
-use Rattle.b67_task_tables.specs.declared.tables.Machine.{Machine}
+use Rattle.b67_task.specs.declared.tables.Machine.{Machine}
 use Rattle.b67_program.specs.Input.{IsTakenIn}
 use Rattle.b67_program.specs.Opening.{Finds}
 use Rattle.b67_program.specs.Served.{IsCarriedOut, IsAnswered, carried_out, reading_failed, text_wants_memory, IsServed, over_file, over_memory, sectors_want_memory}

@@ -8,7 +8,7 @@ use Rattle.b67_model_text.specs.Deck as deck
 use Rattle.b67_session_lines.specs.Ends.{EndsPrinting}
 use Rattle.b67_session_lines.specs.Stops.{live_after}
 use Rattle.b67_session_lines.proofs.Statuses.{after-add}
-use Rattle.b67_task_tables.specs.declared.tables.Machine.{Machine}
+use Rattle.b67_task.specs.declared.tables.Machine.{Machine}
 use Rattle.b67_image.specs.Text as image
 use Rattle.b67_image.specs.Laws.{PartsTellSessions}
 use Rattle.b67_image.specs.Parts.{parts_of}

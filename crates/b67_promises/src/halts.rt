@@ -3,7 +3,7 @@
 ghost use Rattle.std.specs.Prelude.{◌≡◌, ◌≢◌, ◌≤◌, ◌<◌, ◌^◌, ◌++◌, ℕ, List, length, Option, Some, None};
 ghost use Rattle.b67_model.specs.declared.limits.TheConstants.{MOST_STACKS};
 ghost use Rattle.b67_io.specs.Causes.{Stayed};
-ghost use Rattle.b67_task_tables.specs.declared.tables.Machine.{Machine};
+ghost use Rattle.b67_task.specs.declared.tables.Machine.{Machine};
 ghost use Rattle.std.specs.Process.{exit_status};
 ghost use Rattle.b67_model_text.specs.Deck as deck;
 ghost use Rattle.b67_image.specs.Text.{limit};

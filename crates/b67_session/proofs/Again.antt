@@ -3,7 +3,7 @@ use Rattle.std.proofs.Common.{ℕ, List, length, Option, Result, Ok, Err, inl, i
 use Rattle.b67_model.specs.Common.{Task, SessionJob, StepResult, IsInOrderButPlaces, Session}
 use Rattle.b67_law.specs.Turns.{IsNext}
 use Rattle.b67_layout.specs.Machine.{Says}
-use Rattle.b67_task_tables.specs.declared.tables.Machine.{Machine}
+use Rattle.b67_task.specs.declared.tables.Machine.{Machine}
 use Rattle.b67_session.specs.AttemptPassed.{AreCountable}
 use Rattle.b67_session.specs.AttemptStops.{Stop}
 use Rattle.b67_session.specs.AttemptStops as stops

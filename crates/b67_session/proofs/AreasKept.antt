@@ -13,13 +13,13 @@ use Rattle.b67_stack.specs.Represents.{Storage}
 use Rattle.b67_stack.specs.Shapes.{Location}
 use Rattle.b67_layout.specs.Common.{Placement, objects_gone}
 use Rattle.b67_exec_cells.specs.Called.{called_in}
-use Rattle.b67_task_release.specs.Released.{HasHome}
-use Rattle.b67_task_tables.specs.declared.tables.Tasks.{Tasks}
-use Rattle.b67_task_tables.specs.declared.tables.Machine.{Machine}
-use Rattle.b67_task_tables.specs.Tables.{MachineRepresents}
-use Rattle.b67_task_switch.specs.declared.counting.Chosen.{Chosen}
-use Rattle.b67_task_switch.specs.Counted.{choice_of}
-use Rattle.b67_task_switch.specs.Turns.{with_running}
+use Rattle.b67_task.specs.Released.{HasHome}
+use Rattle.b67_task.specs.declared.tables.Tasks.{Tasks}
+use Rattle.b67_task.specs.declared.tables.Machine.{Machine}
+use Rattle.b67_task.specs.Tables.{MachineRepresents}
+use Rattle.b67_task.specs.declared.counting.Chosen.{Chosen}
+use Rattle.b67_task.specs.Counted.{choice_of}
+use Rattle.b67_task.specs.Turns.{with_running}
 use Rattle.b67_session_ends.specs.Counts.{IsCounted}
 use Rattle.b67_session_ends.specs.Ends.{Finishes}
 use Rattle.b67_mcp.specs.Called.{IsCalled, HoldsOther, is_emptied, is_resized, is_new}

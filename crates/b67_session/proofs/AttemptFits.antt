@@ -15,9 +15,9 @@ use Rattle.b67_stack.specs.Represents.{Storage}
 use Rattle.b67_exec_cells.specs.Running.{code_area}
 use Rattle.b67_exec_cells.specs.Called as operators
 use Rattle.b67_exec_cells.specs.Called.{called_in}
-use Rattle.b67_task_tables.specs.declared.tables.TaskState.{TaskState}
-use Rattle.b67_task_tables.specs.declared.tables.Machine.{Machine}
-use Rattle.b67_task_tables.specs.Tables.{MachineRepresents}
+use Rattle.b67_task.specs.declared.tables.TaskState.{TaskState}
+use Rattle.b67_task.specs.declared.tables.Machine.{Machine}
+use Rattle.b67_task.specs.Tables.{MachineRepresents}
 use Rattle.b67_layout_step.proofs.Laws.{touches_arrays}
 use Rattle.b67_session.specs.Fits.{IsArrayOfJob}
 use Rattle.b67_session.proofs.FittingMade.{made_fit}

@@ -6,8 +6,8 @@ use Rattle.b67_stack.specs.declared.Cpu.{Cpu}
 use Rattle.b67_stack.specs.declared.Step.{Step}
 use Rattle.b67_stack.specs.declared.Step.TheVariants.{Done}
 use Rattle.b67_exec.specs.Near.{StopsHere}
-use Rattle.b67_task_tables.specs.declared.tables.Machine.{Machine}
-use Rattle.b67_task_tables.specs.Runs.{RunsTask}
+use Rattle.b67_task.specs.declared.tables.Machine.{Machine}
+use Rattle.b67_task.specs.Runs.{RunsTask}
 use Rattle.b67_session.specs.Makes.{MakesOne, MakesEach}
 use Rattle.b67_session.specs.InTurn.{BeginsWith, SaysWhyFewer}
 

@@ -11,9 +11,9 @@ use Rattle.b67_layout.specs.Placement.{Placement}
 use Rattle.b67_law.specs.Orders.{IsInOrderButLimit}
 use Rattle.b67_law.specs.Turns.{OrderAfter}
 use Rattle.b67_law.proofs.Limits.{last_parts_restore_order}
-use Rattle.b67_task_tables.specs.declared.tables.Tasks.{Tasks}
-use Rattle.b67_task_tables.specs.declared.tables.Machine.{Machine}
-use Rattle.b67_task_tables.specs.Tables.{MachineRepresents}
+use Rattle.b67_task.specs.declared.tables.Tasks.{Tasks}
+use Rattle.b67_task.specs.declared.tables.Machine.{Machine}
+use Rattle.b67_task.specs.Tables.{MachineRepresents}
 use Rattle.b67_session.specs.AttemptStops.{Stop}
 use Rattle.b67_session_ends.specs.Ends.{Finishes}
 use Rattle.b67_session_ends.specs.Machines.{StandsAt}

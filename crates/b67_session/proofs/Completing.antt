@@ -5,13 +5,13 @@ use Rattle.b67_io.specs.Causes.{Stayed}
 use Rattle.b67_model.specs.Common.{need, need_next, StepResult, after, Session}
 use Rattle.b67_law.specs.Turns.{IsNext}
 use Rattle.b67_law.proofs.Limits.{no_last}
-use Rattle.b67_task_tables.specs.declared.tables.Machine.{Machine}
+use Rattle.b67_task.specs.declared.tables.Machine.{Machine}
 use Rattle.b67_session.specs.Attempts.{TakesSectors}
 use Rattle.b67_session.specs.AttemptPassed.{CallCauses}
 use Rattle.b67_session.specs.AttemptStops.{Stop}
 use Rattle.b67_session.specs.AttemptStops as stops
 use Rattle.b67_session.specs.declared.slices.Progress.{Progress}
-use Rattle.b67_task_tables.proofs.Keeping.{halt_kept}
+use Rattle.b67_task.proofs.Keeping.{halt_kept}
 use Rattle.b67_session.specs.Slices.{StandsAt, IsLimited, Keeps, StopsBefore, SliceMeets, Slices, Resumes}
 use Rattle.b67_session.specs.Complete.{SetsOut, at_once, after_limit, IsToMake, Suffices}
 use Rattle.b67_session.proofs.Tells.{takes_of}

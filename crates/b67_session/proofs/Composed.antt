@@ -12,10 +12,10 @@ use Rattle.b67_stack.specs.Common.{Location, Storage}
 use Rattle.b67_layout.specs.Machine.{Says, HasHole, content_after}
 use Rattle.b67_exec_cells.specs.Running.{code_area}
 use Rattle.b67_layout_step.proofs.OtherNumbers.{others_in_order}
-use Rattle.b67_task_tables.specs.declared.tables.TaskState.{TaskState}
-use Rattle.b67_task_tables.specs.declared.tables.Machine.{Machine}
-use Rattle.b67_task_tables.specs.declared.tables.Tasks.{Tasks}
-use Rattle.b67_task_tables.specs.Tables.{MachineRepresents}
+use Rattle.b67_task.specs.declared.tables.TaskState.{TaskState}
+use Rattle.b67_task.specs.declared.tables.Machine.{Machine}
+use Rattle.b67_task.specs.declared.tables.Tasks.{Tasks}
+use Rattle.b67_task.specs.Tables.{MachineRepresents}
 use Rattle.b67_mcp.specs.Called.{IsCalled, OnlyPrinted, IsFull, IsRefused, IsUnstarted, IsUnstartedFull, CallsDevice, MayWrite}
 use Rattle.b67_mcp.specs.declared.ends.Stop.{Stop}
 use Rattle.b67_mcp.specs.declared.ends.Stop.TheVariants as stops

@@ -5,8 +5,8 @@ use Rattle.b67_stack.specs.declared.Step.TheVariants as answers
 use Rattle.b67_stack.specs.Represents.{Storage}
 use Rattle.b67_layout.specs.Common.{IsInOrderButCounts, IsRunning, Placement}
 use Rattle.b67_exec_cells.specs.Running.{code_area}
-use Rattle.b67_task_tables.specs.declared.tables.Machine.{Machine}
-use Rattle.b67_task_tables.specs.Tables.{MachineRepresents}
+use Rattle.b67_task.specs.declared.tables.Machine.{Machine}
+use Rattle.b67_task.specs.Tables.{MachineRepresents}
 use Rattle.b67_mcp.specs.Called.{IsCalled}
 use Rattle.b67_mcp.proofs.Told.{told_is}
 use Rattle.b67_session.specs.declared.tries.Tried.TheVariants.{Made}

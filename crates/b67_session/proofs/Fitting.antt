@@ -3,7 +3,7 @@ use Rattle.std.proofs.Common.{◌≡◌, ◌≢◌, ℕ, zero, suc, ◌+◌, ◌
 use Rattle.std.specs.Prelude.{◌⊎◌}
 use Rattle.b67_model.specs.Run.{after}
 use Rattle.b67_model.specs.Schedule.{Session}
-use Rattle.b67_task_tables.specs.declared.tables.Machine.{Machine}
+use Rattle.b67_task.specs.declared.tables.Machine.{Machine}
 use Rattle.b67_session.specs.Slices.{PrintsWhole, NextFits, StepsFit}
 
 pub below : (k n : ℕ) → k < n + 1 → (k < n) ⊎ (k ≡ n)

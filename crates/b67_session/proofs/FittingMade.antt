@@ -10,8 +10,8 @@ use Rattle.b67_stack.specs.declared.Cpu.{Cpu}
 use Rattle.b67_stack.specs.Represents.{Storage}
 use Rattle.b67_layout.proofs.Fresh.{running_in_order}
 use Rattle.b67_exec_cells.specs.Running.{code_area}
-use Rattle.b67_task_need.specs.Needing.{need_with, touched_words, HasWords}
-use Rattle.b67_task_need.proofs.Needs.{need_whole}
+use Rattle.b67_task.specs.Needing.{need_with, touched_words, HasWords}
+use Rattle.b67_task.proofs.Needs.{need_whole}
 use Rattle.b67_session.specs.Fits.{HasSpace, IsArrayOfJob, MadeFits}
 use Rattle.b67_mcp.proofs.Space.{has_space}
 

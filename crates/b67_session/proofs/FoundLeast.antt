@@ -8,9 +8,9 @@ use Rattle.b67_law.proofs.RunSessions.{sessions_stay_in_order_but_places}
 use Rattle.b67_law.specs.Turns.{IsNext}
 use Rattle.b67_session_lines.proofs.Statuses.{over-stays}
 use Rattle.b67_layout.specs.Machine.{Says, DeviceAfterCalls}
-use Rattle.b67_task_tables.specs.declared.tables.TaskRow.{TaskRow}
-use Rattle.b67_task_tables.specs.declared.tables.Machine.{Machine}
-use Rattle.b67_task_tables.proofs.Keeping.{halt_kept, countable_kept}
+use Rattle.b67_task.specs.declared.tables.TaskRow.{TaskRow}
+use Rattle.b67_task.specs.declared.tables.Machine.{Machine}
+use Rattle.b67_task.proofs.Keeping.{halt_kept, countable_kept}
 use Rattle.b67_session.specs.AttemptPassed.{AreCountable}
 use Rattle.b67_session.specs.AttemptStops.{Stop}
 use Rattle.b67_session.specs.AttemptStops as stops

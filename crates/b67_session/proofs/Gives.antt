@@ -9,10 +9,10 @@ use Rattle.b67_stack.specs.declared.Step.TheVariants.{Done}
 use Rattle.b67_stack.specs.MachineView.{PagedObject}
 use Rattle.b67_stack.specs.Represents.{Storage}
 use Rattle.b67_layout.proofs.Fresh.{running_in_order}
-use Rattle.b67_task_tables.specs.declared.tables.Machine.{Machine}
-use Rattle.b67_task_tables.specs.Tables.{TasksShow, task_row, job_row, counts_of, MachineRepresents, given_of}
-use Rattle.b67_task_release.specs.Left.{IsLeft, AreReleased}
-use Rattle.b67_task_tables.specs.Runs.{RunsTask, Keeps}
+use Rattle.b67_task.specs.declared.tables.Machine.{Machine}
+use Rattle.b67_task.specs.Tables.{TasksShow, task_row, job_row, counts_of, MachineRepresents, given_of}
+use Rattle.b67_task.specs.LeftArrays.{IsLeft, AreReleased}
+use Rattle.b67_task.specs.Runs.{RunsTask, Keeps}
 use Rattle.b67_session.specs.Makes.{OperatorMade, MakesInSegment}
 use Rattle.b67_session.proofs.Inversion.{LeftFrame}
 use Rattle.b67_exec_cells.specs.Running.{code_area}

@@ -7,15 +7,15 @@ use Rattle.b67_lemmas.proofs.Members.{all_in, has_flat}
 use Rattle.b67_model.specs.Common.{is_ready, IsSegment, JobInOrder, IsInOrderButPlaces, Task, SessionJob, RunLine, next, after, lines, live_tasks, Session, Choice, choice, ready_of, ready, Who}
 use Rattle.b67_law.specs.Turns.{IsNext}
 use Rattle.b67_law.proofs.Choices.{chosen_tasks_are_ready}
-use Rattle.b67_task_switch.proofs.Rooms.{none_ready}
-use Rattle.b67_task_switch.proofs.ReadyTasks.{of_tasks}
+use Rattle.b67_task.proofs.Rooms.{none_ready}
+use Rattle.b67_task.proofs.ReadyTasks.{of_tasks}
 use Rattle.b67_session_lines.specs.Moments.{first_part, due}
 use Rattle.b67_session_lines.proofs.Statuses.{after-add}
 use Rattle.b67_layout.specs.Machine.{Says}
 use Rattle.b67_law.proofs.TurnRuns.{Came, came-none, came-more}
-use Rattle.b67_task_tables.specs.declared.tables.TaskRow.{TaskRow}
-use Rattle.b67_task_tables.specs.declared.tables.Machine.{Machine}
-use Rattle.b67_task_tables.specs.Tables.{task_row}
+use Rattle.b67_task.specs.declared.tables.TaskRow.{TaskRow}
+use Rattle.b67_task.specs.declared.tables.Machine.{Machine}
+use Rattle.b67_task.specs.Tables.{task_row}
 use Rattle.b67_session.specs.AttemptPassed.{CallCauses}
 use Rattle.b67_session.specs.AttemptStops.{Stop}
 use Rattle.b67_session.specs.AttemptStops as stops
@@ -23,7 +23,7 @@ use Rattle.b67_session.specs.declared.slices.Progress.{Progress}
 use Rattle.b67_session.specs.declared.slices.Progress.TheVariants as progress
 use Rattle.b67_session.specs.Attempts.{IsNotFull}
 use Rattle.b67_session.proofs.Tells.{tells_weaker}
-use Rattle.b67_task_tables.proofs.Keeping.{keeps_then, halt_kept}
+use Rattle.b67_task.proofs.Keeping.{keeps_then, halt_kept}
 use Rattle.b67_session.specs.Slices.{StandsAt, LivesOn, RepresentsWithoutTasks, Keeps, StepsReach, in_whole_steps, but_limit, Prints, PrintsWhole, NextFits, StepsFit, StopsWithRoom, IfPresent, StopsBefore, SliceMeets, Slices}
 use Rattle.b67_session.specs.Steps.{StepGives, StepLeads, stays, makes, halves, Steps, GoesOnInTurn}
 use Rattle.b67_session.proofs.Printing.{prints_none, prints_then, prints_before}

@@ -19,11 +19,11 @@ use Rattle.b67_session_lines.specs.Moments.{first_part, text_of, due}
 use Rattle.b67_session_lines.specs.Parts.{TookRest}
 use Rattle.b67_layout.specs.Common.{Placement, with_job, session_moved}
 use Rattle.b67_layout.proofs.Weaker.{but_counts}
-use Rattle.b67_task_tables.specs.declared.tables.TaskState.{TaskState}
-use Rattle.b67_task_tables.specs.declared.tables.Tasks.{Tasks}
-use Rattle.b67_task_tables.specs.declared.tables.Machine.{Machine}
-use Rattle.b67_task_switch.specs.declared.counting.Chosen.{Chosen}
-use Rattle.b67_task_switch.specs.Counted.{choice_of, CountsHaveRoom}
+use Rattle.b67_task.specs.declared.tables.TaskState.{TaskState}
+use Rattle.b67_task.specs.declared.tables.Tasks.{Tasks}
+use Rattle.b67_task.specs.declared.tables.Machine.{Machine}
+use Rattle.b67_task.specs.declared.counting.Chosen.{Chosen}
+use Rattle.b67_task.specs.Counted.{choice_of, CountsHaveRoom}
 use Rattle.b67_law.proofs.FewMade.{made_few, all_few}
 use Rattle.b67_session.specs.AttemptPassed.{IsCalled, WaitsSo, printed_text}
 use Rattle.b67_session.specs.Tries.{EndsSo}

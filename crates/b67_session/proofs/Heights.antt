@@ -9,8 +9,8 @@ use Rattle.b67_layout.specs.Common.{Placement, slot_of, activations, stack_of_ta
 use Rattle.b67_layout.proofs.Frames.{height-is}
 use Rattle.b67_layout.proofs.Rows.{slot_below}
 use Rattle.b67_layout.proofs.Starts.{runs_here}
-use Rattle.b67_task_switch.specs.Turns.{WaitsOn, WaitsInOne}
-use Rattle.b67_task_switch.proofs.Replans.{slot_here}
+use Rattle.b67_task.specs.Turns.{WaitsOn, WaitsInOne}
+use Rattle.b67_task.proofs.Replans.{slot_here}
 use Rattle.b67_law.specs.Turns.{IsNext}
 use Rattle.b67_session.specs.Search.{mark_height}
 use Rattle.b67_session.proofs.Next.{in_session, in_job, found, task_found}

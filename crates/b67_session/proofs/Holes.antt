@@ -19,8 +19,8 @@ use Rattle.b67_stack.specs.declared.Cpu.{Cpu}
 use Rattle.b67_stack.specs.Common.{Location, LieUpward, PagedObject, MachineView, object_words, Storage, Represents, Content, info_of}
 use Rattle.b67_stack.proofs.Unchanged.{area_of_object}
 use Rattle.b67_layout.specs.Common.{Placement, machine_view, with_objects, RepresentsStorage}
-use Rattle.b67_task_release.specs.Left.{IsLeft, AreReleased}
-use Rattle.b67_task_release.proofs.Settled.{are_left}
+use Rattle.b67_task.specs.LeftArrays.{IsLeft, AreReleased}
+use Rattle.b67_task.proofs.Settled.{are_left}
 use Rattle.b67_session.specs.Makes.{MayFree}
 
 -- an area's words, its head and its tail are as they were

@@ -3,8 +3,8 @@ use Rattle.std.proofs.Common.{◌≡◌, ◌≤◌, ℕ, ◌+◌, ◌-◌, List,
 use Rattle.std.proofs.lemmas.Bool.{cases_lt}
 use Rattle.b67_model.specs.Common.{after, lines, Session}
 use Rattle.b67_session_lines.proofs.Statuses.{after-add}
-use Rattle.b67_task_tables.specs.declared.tables.Machine.{Machine}
-use Rattle.b67_task_tables.proofs.Keeping.{halt_kept}
+use Rattle.b67_task.specs.declared.tables.Machine.{Machine}
+use Rattle.b67_task.proofs.Keeping.{halt_kept}
 use Rattle.b67_session.specs.Slices.{NextFits, Keeps}
 use Rattle.b67_session.specs.Steps.{GoesOnInTurn}
 

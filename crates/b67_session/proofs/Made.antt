@@ -17,11 +17,11 @@ use Rattle.b67_law.proofs.Halves.{open_lines}
 use Rattle.b67_stack.specs.Represents.{Storage}
 use Rattle.b67_layout.specs.Placement.{Placement}
 use Rattle.b67_layout.specs.Moved.{session_moved}
-use Rattle.b67_task_tables.specs.declared.tables.Tasks.{Tasks}
-use Rattle.b67_task_tables.specs.declared.tables.Machine.{Machine}
-use Rattle.b67_task_tables.specs.Tables.{MachineRepresents}
-use Rattle.b67_task_switch.specs.declared.counting.Chosen.{Chosen}
-use Rattle.b67_task_switch.specs.Counted.{choice_of}
+use Rattle.b67_task.specs.declared.tables.Tasks.{Tasks}
+use Rattle.b67_task.specs.declared.tables.Machine.{Machine}
+use Rattle.b67_task.specs.Tables.{MachineRepresents}
+use Rattle.b67_task.specs.declared.counting.Chosen.{Chosen}
+use Rattle.b67_task.specs.Counted.{choice_of}
 use Rattle.b67_session_ends.specs.Counts.{IsCounted}
 use Rattle.b67_session_ends.proofs.Counted.{counted_stands}
 use Rattle.b67_session_ends.proofs.Stuck.{one_not}

@@ -10,9 +10,9 @@ use Rattle.b67_stack.specs.Represents.{Storage}
 use Rattle.b67_exec.specs.declared.apart.Went.TheVariants as wents
 use Rattle.b67_exec.specs.Operators.{CutsRecord}
 use Rattle.b67_exec.specs.Near.{FarMade, LeftMade, StopsHere}
-use Rattle.b67_task_release.specs.Left.{IsLeft, AreReleased}
-use Rattle.b67_task_tables.specs.declared.tables.Machine.{Machine}
-use Rattle.b67_task_tables.specs.Runs.{RunsTask, Keeps}
+use Rattle.b67_task.specs.LeftArrays.{IsLeft, AreReleased}
+use Rattle.b67_task.specs.declared.tables.Machine.{Machine}
+use Rattle.b67_task.specs.Runs.{RunsTask, Keeps}
 use Rattle.b67_session.specs.Makes.{MakesInSegment, ForEachReady}
 use Rattle.b67_session.proofs.Gives.{Lefts, upto_fits, asks, in_turn, kept_after, gives}
 use Rattle.b67_session.proofs.OperatorsMade.{operator_made, not_made, operator_length}

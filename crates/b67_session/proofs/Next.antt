@@ -16,13 +16,13 @@ use Rattle.b67_layout.specs.Common.{Placement, slot_of, TaskShows, RowsFit, IsRu
 use Rattle.b67_layout.proofs.Sessions.{running_only}
 use Rattle.b67_layout.proofs.Alike.{rows_alike}
 use Rattle.b67_layout_step.proofs.MoreOtherNumbers.{others_alike, others_running}
-use Rattle.b67_task_switch.specs.Turns.{with_running}
-use Rattle.b67_task_tables.specs.declared.tables.TaskRow.{TaskRow}
-use Rattle.b67_task_tables.specs.declared.tables.Tasks.{Tasks}
-use Rattle.b67_task_tables.specs.Tables.{task_row, TasksShow}
-use Rattle.b67_task_switch.specs.declared.counting.Chosen.{Chosen}
-use Rattle.b67_task_switch.specs.Counted.{choice_of}
-use Rattle.b67_task_switch.specs.Chosen.{who_of, IsReadyAt}
+use Rattle.b67_task.specs.Turns.{with_running}
+use Rattle.b67_task.specs.declared.tables.TaskRow.{TaskRow}
+use Rattle.b67_task.specs.declared.tables.Tasks.{Tasks}
+use Rattle.b67_task.specs.Tables.{task_row, TasksShow}
+use Rattle.b67_task.specs.declared.counting.Chosen.{Chosen}
+use Rattle.b67_task.specs.Counted.{choice_of}
+use Rattle.b67_task.specs.Chosen.{who_of, IsReadyAt}
 use Rattle.b67_session.specs.Slices.{NextFits}
 
 module _ (s : Session) (m : SessionJob) (t : Task) (n : IsNext s m t) where

@@ -6,9 +6,9 @@ use Rattle.std.proofs.lemmas.Option.{none-some}
 use Rattle.b67_model.specs.Common.{SessionJob, Task, Session, choice, after, height, IsInOrderButPlaces}
 use Rattle.b67_law.specs.Turns.{IsNext}
 use Rattle.b67_law.proofs.Choices.{chosen_tasks_are_ready}
-use Rattle.b67_task_tables.specs.declared.tables.Machine.{Machine}
+use Rattle.b67_task.specs.declared.tables.Machine.{Machine}
 use Rattle.b67_layout.specs.Session.{IsRunning}
-use Rattle.b67_task_switch.specs.Lasting.{TurnLasts}
+use Rattle.b67_task.specs.Lasting.{TurnLasts}
 use Rattle.b67_session.specs.Slices.{StandsAt}
 use Rattle.b67_session.specs.Steps.{GoesOnInTurn}
 use Rattle.b67_session.specs.declared.seeking.CodePlace.{CodePlace}

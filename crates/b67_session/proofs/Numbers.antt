@@ -11,10 +11,10 @@ use Rattle.b67_stack.specs.Represents.{Storage, info_of}
 use Rattle.b67_layout.proofs.Fresh.{running_in_order}
 use Rattle.b67_exec_cells.specs.Running.{code_area}
 use Rattle.b67_exec_cells.proofs.Codes.{area-inside}
-use Rattle.b67_task_need.specs.Needing.{array_area, need_with}
-use Rattle.b67_task_need.proofs.Needs.{need_above_low}
-use Rattle.b67_task_tables.specs.declared.tables.Machine.{Machine}
-use Rattle.b67_task_tables.specs.Tables.{MachineRepresents}
+use Rattle.b67_task.specs.Needing.{array_area, need_with}
+use Rattle.b67_task.proofs.Needs.{need_above_low}
+use Rattle.b67_task.specs.declared.tables.Machine.{Machine}
+use Rattle.b67_task.specs.Tables.{MachineRepresents}
 use Rattle.b67_presence.specs.Bringing.{IsWanted}
 use Rattle.b67_presence.proofs.Wants.{array_area-some}
 use Rattle.b67_session.specs.Tries.{IsWantedByStep}

@@ -3,7 +3,7 @@ use Rattle.std.proofs.Common.{◌≡◌, ◌≢◌, ◌≤◌, ℕ, ◌+◌, Lis
 use Rattle.b67_model.specs.Common.{Session, next, after}
 use Rattle.b67_law.proofs.TurnRuns.{came-more}
 use Rattle.b67_layout.specs.Machine.{Says, DeviceAfterCalls, content_after}
-use Rattle.b67_task_tables.specs.declared.tables.Machine.{Machine}
+use Rattle.b67_task.specs.declared.tables.Machine.{Machine}
 use Rattle.b67_session.specs.AttemptStops.{Stop}
 use Rattle.b67_session.specs.AttemptStops as stops
 use Rattle.b67_session.specs.Slices.{StandsAt, Keeps, Slices}

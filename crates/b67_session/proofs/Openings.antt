@@ -8,9 +8,9 @@ use Rattle.b67_model.specs.Common.{Session, IsInOrderButPlaces}
 use Rattle.b67_law.proofs.Opens.{opens_in_order}
 use Rattle.b67_law.proofs.Sessions.{starts_are_segments}
 use Rattle.b67_layout.specs.Machine.{content_after, Says}
-use Rattle.b67_task_tables.specs.declared.tables.TaskRow.{TaskRow}
-use Rattle.b67_task_tables.specs.declared.tables.Machine.{Machine}
-use Rattle.b67_task_tables.specs.Tables.{switch_of, AreCountable}
+use Rattle.b67_task.specs.declared.tables.TaskRow.{TaskRow}
+use Rattle.b67_task.specs.declared.tables.Machine.{Machine}
+use Rattle.b67_task.specs.Tables.{switch_of, AreCountable}
 use Rattle.b67_session_open.specs.Decks.{openings_of, session_of, DeckInRange, IsLoaded}
 use Rattle.b67_session_open.specs.Opens.{OpensAs}
 use Rattle.b67_session_open.proofs.Decks.{deck_within}

@@ -14,11 +14,11 @@ use Rattle.b67_exec_cells.specs.Running.{code_area}
 use Rattle.b67_exec_cells.specs.Called.{called_in, called_by_reading}
 use Rattle.b67_exec.specs.Operators.{CallsOrMeets, OperatorAt, OperatorMeets, leaves_record}
 use Rattle.b67_layout_step.specs.Keeping.{is_leaving}
-use Rattle.b67_task_tables.specs.declared.tables.Machine.{Machine}
-use Rattle.b67_task_tables.specs.Tables.{TasksShow, task_row, job_row, counts_of, MachineRepresents}
+use Rattle.b67_task.specs.declared.tables.Machine.{Machine}
+use Rattle.b67_task.specs.Tables.{TasksShow, task_row, job_row, counts_of, MachineRepresents}
 use Rattle.b67_session.specs.Makes.{OperatorMade, StepMakes, CallsOrMakes, MakesAt, MakesInSegment}
-use Rattle.b67_task_release.specs.Released.{HasHome, Released}
-use Rattle.b67_task_release.proofs.Remaining.{Released-none}
+use Rattle.b67_task.specs.Released.{HasHome, Released}
+use Rattle.b67_task.proofs.Remaining.{Released-none}
 use Rattle.b67_session.proofs.Read.{step_read}
 use Rattle.b67_session.proofs.Releasing.{same_length, storage_over}
 use Rattle.b67_session.proofs.AttemptSteps.{row_kept}

@@ -4,7 +4,7 @@ use Rattle.b67_layout.specs.Machine.{Says, content_after}
 use Rattle.b67_layout.proofs.Retold.{retold-same}
 use Rattle.b67_model.specs.Common.{RunLine, Session, after}
 use Rattle.b67_law.proofs.TurnRuns.{Came, came-none, came-more}
-use Rattle.b67_task_tables.specs.declared.tables.Machine.{Machine}
+use Rattle.b67_task.specs.declared.tables.Machine.{Machine}
 use Rattle.b67_session.specs.AttemptStops.{Stop}
 use Rattle.b67_session.specs.AttemptStops as stops
 use Rattle.b67_session.proofs.Resuming.{next_row, limited_row}

@@ -2,7 +2,7 @@
 use Rattle.std.proofs.Common.{◌≡◌, ◌≢◌, ℕ, ◌≤◌, List, Option, Some, None, Ok, arith}
 use Rattle.b67_layout.specs.Machine.{Says, DeviceAfterCalls, content_after}
 use Rattle.b67_model.specs.Schedule.{Session}
-use Rattle.b67_task_tables.specs.declared.tables.Machine.{Machine}
+use Rattle.b67_task.specs.declared.tables.Machine.{Machine}
 use Rattle.b67_session.specs.declared.slices.Progress.{Progress}
 use Rattle.b67_session.specs.declared.slices.Progress.TheVariants as progress
 use Rattle.b67_session.specs.Slices.{Pauses, Slices}

@@ -10,8 +10,8 @@ use Rattle.b67_stack.specs.Common.{Shape, StackPlace, Activation, size, PagedObj
 use Rattle.b67_stack.proofs.Pushes.{Room, room_of}
 use Rattle.b67_stack.proofs.Slots.{running_slot}
 use Rattle.b67_layout.proofs.Rows.{runs_on, slot_below}
-use Rattle.b67_task_release.specs.Left.{IsLeft}
-use Rattle.b67_task_release.proofs.Leavings.{new_top, left_after}
+use Rattle.b67_task.specs.LeftArrays.{IsLeft}
+use Rattle.b67_task.proofs.Leavings.{new_top, left_after}
 use Rattle.b67_session.proofs.Inversion.{IsEntered, LeftFrame}
 use Rattle.b67_session.proofs.Ordered.{frames_after}
 use Rattle.b67_lemmas.proofs.Members.{keyed_has}

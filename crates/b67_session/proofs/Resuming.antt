@@ -11,9 +11,9 @@ use Rattle.b67_law.specs.Turns.{IsNext, OrderAfter}
 use Rattle.b67_law.proofs.Limits.{limit_of, no_last, last_parts_restore_order}
 use Rattle.b67_layout.specs.Placement.{Placement}
 use Rattle.b67_session.specs.AttemptStops as stops
-use Rattle.b67_task_tables.specs.declared.tables.Tasks.{Tasks}
-use Rattle.b67_task_tables.specs.declared.tables.Machine.{Machine}
-use Rattle.b67_task_tables.specs.Tables.{TasksShow}
+use Rattle.b67_task.specs.declared.tables.Tasks.{Tasks}
+use Rattle.b67_task.specs.declared.tables.Machine.{Machine}
+use Rattle.b67_task.specs.Tables.{TasksShow}
 use Rattle.b67_session_ends.specs.Ends.{LimitEnds, HasLimited}
 use Rattle.b67_session.specs.Slices.{StandsAt, StandsSome, IsLimited, IsOpen, LivesOn, StandsLimited, HasNoTasks, RepresentsWithoutTasks, Prints, IsCutAgain}
 use Rattle.b67_session.proofs.Next.{in_session, in_job}

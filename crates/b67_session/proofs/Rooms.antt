@@ -12,12 +12,12 @@ use Rattle.b67_stack.specs.Represents.{Storage}
 use Rattle.b67_layout.specs.Common.{Placement, IsInOrderButCounts, RunningRow, TaskShows, JobsShow, IsRunning, RepresentsSession}
 use Rattle.b67_layout.specs.Rows as rows
 use Rattle.b67_layout.proofs.Common.{slot_below, running_only, job_at, live_in_order}
-use Rattle.b67_task_tables.specs.declared.tables.JobRow.{JobRow}
-use Rattle.b67_task_tables.specs.declared.tables.Tasks.{Tasks}
-use Rattle.b67_task_tables.specs.Tables.{task_row, job_row, TasksShow}
-use Rattle.b67_task_tables.specs.RowOf.{IsRowOf}
-use Rattle.b67_task_switch.specs.declared.counting.Chosen.{Chosen}
-use Rattle.b67_task_switch.specs.Counted.{CountsHaveRoom}
+use Rattle.b67_task.specs.declared.tables.JobRow.{JobRow}
+use Rattle.b67_task.specs.declared.tables.Tasks.{Tasks}
+use Rattle.b67_task.specs.Tables.{task_row, job_row, TasksShow}
+use Rattle.b67_task.specs.RowOf.{IsRowOf}
+use Rattle.b67_task.specs.declared.counting.Chosen.{Chosen}
+use Rattle.b67_task.specs.Counted.{CountsHaveRoom}
 use Rattle.b67_model.specs.declared.limits.TheConstants.{MOST_LIMIT, MOST_MADE}
 
 -- the tables show some session with a job of these counts

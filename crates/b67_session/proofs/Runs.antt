@@ -4,10 +4,10 @@ use Rattle.b67_io.specs.Causes.{Rose}
 use Rattle.b67_mcp.specs.declared.ends.Stop.{Stop}
 use Rattle.b67_mcp.specs.declared.ends.Stop.TheVariants.{BackingFault, PrintFault}
 use Rattle.b67_mcp.specs.Running.{CallCauses}
-use Rattle.b67_task_tables.specs.Runs.{Keeps}
-pub use Rattle.b67_task_tables.proofs.Keeping.{keeps_then}
-use Rattle.b67_task_tables.specs.declared.tables.Machine.{Machine}
-use Rattle.b67_task_tables.specs.Tables.{given_of}
+use Rattle.b67_task.specs.Runs.{Keeps}
+pub use Rattle.b67_task.proofs.Keeping.{keeps_then}
+use Rattle.b67_task.specs.declared.tables.Machine.{Machine}
+use Rattle.b67_task.specs.Tables.{given_of}
 use Rattle.b67_session.specs.Tries.{ReadyRuns}
 use Rattle.b67_session.specs.Attempts.{RunsOver}
 

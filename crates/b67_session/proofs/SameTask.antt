@@ -6,12 +6,12 @@ use Rattle.b67_law.specs.Turns.{IsNext}
 use Rattle.b67_model.specs.Common.{SessionJob, Task, Who, Session, Choice, choice, StepResult, next, after, after_from, number_of, afresh}
 use Rattle.b67_session.specs.declared.seeking.CodePlace.{CodePlace}
 use Rattle.b67_session.specs.declared.seeking.Sought.TheVariants as sought
-use Rattle.b67_task_tables.specs.declared.tables.Machine.{Machine}
+use Rattle.b67_task.specs.declared.tables.Machine.{Machine}
 use Rattle.b67_session.specs.Slices.{StandsAt}
 use Rattle.b67_session.specs.Steps.{GoesOnInTurn}
 use Rattle.b67_session.specs.Search.{IsSought}
 use Rattle.b67_layout.specs.Common.{Placement, IsRunning}
-use Rattle.b67_task_switch.specs.Lasting.{TurnLasts}
+use Rattle.b67_task.specs.Lasting.{TurnLasts}
 use Rattle.b67_session.proofs.Next.{found, task_found}
 
 -- a chosen task begins a turn, or it is the last one and goes on with its own

@@ -3,7 +3,7 @@ use Rattle.std.proofs.Common.{ℕ, List, Option, None, ◌⊎◌, inl, inr}
 use Rattle.b67_model.specs.Schedule.{Session}
 use Rattle.b67_model.specs.Run.{StepResult}
 use Rattle.b67_layout.proofs.Untold.{untold}
-use Rattle.b67_task_tables.specs.declared.tables.Machine.{Machine}
+use Rattle.b67_task.specs.declared.tables.Machine.{Machine}
 use Rattle.b67_session.proofs.Untold.{machine_untold}
 use Rattle.b67_session.specs.Slices.{StandsAt, LivesOn, StandsLimited, HasNoTasks, IsLimited, RepresentsWithoutTasks, IsOpen}
 use Rattle.b67_session.specs.Shaped.{IsShaped}

@@ -12,12 +12,12 @@ use Rattle.b67_stack.specs.Common.{Activation, stack_words, mark_place, MachineV
 use Rattle.b67_layout.specs.Rows as rows
 use Rattle.b67_layout.proofs.Common.{differ_at}
 use Rattle.b67_layout.proofs.Rows.{slot_below}
-use Rattle.b67_task_tables.specs.declared.tables.TaskRow.{TaskRow}
-use Rattle.b67_task_tables.specs.declared.tables.Machine.{Machine}
-use Rattle.b67_task_tables.specs.Tables.{task_row}
-use Rattle.b67_task_switch.specs.declared.counting.Chosen.{Chosen}
-use Rattle.b67_task_switch.specs.Counted.{choice_of}
-use Rattle.b67_task_switch.specs.Chosen.{who_of, IsReadyAt, Chooses}
+use Rattle.b67_task.specs.declared.tables.TaskRow.{TaskRow}
+use Rattle.b67_task.specs.declared.tables.Machine.{Machine}
+use Rattle.b67_task.specs.Tables.{task_row}
+use Rattle.b67_task.specs.declared.counting.Chosen.{Chosen}
+use Rattle.b67_task.specs.Counted.{choice_of}
+use Rattle.b67_task.specs.Chosen.{who_of, IsReadyAt, Chooses}
 use Rattle.b67_session.specs.Slices.{StandsAt}
 use Rattle.b67_session.specs.declared.seeking.CodePlace.{CodePlace}
 use Rattle.b67_session.specs.declared.seeking.Sought.{Sought}
@@ -25,7 +25,7 @@ use Rattle.b67_session.specs.declared.seeking.Sought.TheVariants as sought
 use Rattle.b67_session.specs.Search.{stands_at, mark_height, IsSought}
 use Rattle.b67_session_ends.specs.Closing.{StandsChosen, ChoseSome}
 use Rattle.b67_session.proofs.Heights.{AreHeights, running_heights, waits_in_one, waiting_heights}
-use Rattle.b67_task_switch.specs.Turns.{WaitsOn, WaitsInOne}
+use Rattle.b67_task.specs.Turns.{WaitsOn, WaitsInOne}
 use Rattle.b67_session.proofs.Next.{in_session, in_job, job_is, task_is, found, task_found, chose_row, as_next}
 use Rattle.b67_session.proofs.Turned.{who}
 

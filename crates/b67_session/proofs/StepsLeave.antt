@@ -14,12 +14,12 @@ use Rattle.b67_stack.specs.MachineView.{PagedObject}
 use Rattle.b67_stack.specs.Represents.{Storage}
 use Rattle.b67_stack.specs.Shapes.{Location}
 use Rattle.b67_layout.specs.Placement.{Placement}
-use Rattle.b67_task_tables.specs.declared.tables.Machine.{Machine}
-use Rattle.b67_task_tables.specs.Tables.{MachineRepresents}
-use Rattle.b67_task_switch.specs.declared.counting.Chosen.{Chosen}
-use Rattle.b67_task_switch.specs.Counted.{choice_of}
-use Rattle.b67_task_switch.specs.Turns.{with_running}
-use Rattle.b67_task_switch.proofs.Replans.{objects-replan}
+use Rattle.b67_task.specs.declared.tables.Machine.{Machine}
+use Rattle.b67_task.specs.Tables.{MachineRepresents}
+use Rattle.b67_task.specs.declared.counting.Chosen.{Chosen}
+use Rattle.b67_task.specs.Counted.{choice_of}
+use Rattle.b67_task.specs.Turns.{with_running}
+use Rattle.b67_task.proofs.Replans.{objects-replan}
 use Rattle.b67_session_ends.specs.Ends.{StandsInPlace, LeavesInPlace, Finishes}
 use Rattle.b67_session_ends.proofs.ByLimit.{reprinted}
 use Rattle.b67_session_ends.proofs.InPlace.{in_place_same, in_place_then}

@@ -8,10 +8,10 @@ use Rattle.b67_law.specs.Turns.{task_lines, IsNext, part_of}
 use Rattle.b67_law.proofs.Halves.{first_by}
 use Rattle.b67_session_lines.specs.Parts.{TookMore}
 use Rattle.b67_session_lines.specs.Moments.{first_part, due}
-use Rattle.b67_task_tables.specs.declared.tables.Tasks.{Tasks}
-use Rattle.b67_task_tables.specs.declared.tables.Machine.{Machine}
-use Rattle.b67_task_tables.specs.Tables.{MachineRepresents}
-use Rattle.b67_task_switch.specs.declared.counting.Chosen.{Chosen}
+use Rattle.b67_task.specs.declared.tables.Tasks.{Tasks}
+use Rattle.b67_task.specs.declared.tables.Machine.{Machine}
+use Rattle.b67_task.specs.Tables.{MachineRepresents}
+use Rattle.b67_task.specs.declared.counting.Chosen.{Chosen}
 use Rattle.b67_session.specs.AttemptStops.{Stop}
 use Rattle.b67_session.specs.AttemptStops as stops
 use Rattle.b67_session.specs.declared.tries.Tried.{Tried}

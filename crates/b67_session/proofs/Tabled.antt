@@ -1,6 +1,6 @@
 -- What a step leaves of the tables' counts.
 use Rattle.std.proofs.Common.{◌≡◌, ◌≢◌, ℕ, Err, ap, arith}
-use Rattle.b67_task_tables.specs.declared.tables.Tasks.{Tasks}
+use Rattle.b67_task.specs.declared.tables.Tasks.{Tasks}
 use Rattle.b67_session.specs.AttemptStops.{Stop}
 use Rattle.b67_session.specs.AttemptStops as stops
 use Rattle.b67_session.specs.Attempts.{TablesStay}

@@ -9,12 +9,12 @@ use Rattle.b67_stack.specs.Represents.{Storage}
 use Rattle.b67_layout.specs.Machine.{Says, content_after}
 use Rattle.b67_layout.specs.Placement.{Placement}
 use Rattle.b67_exec_cells.specs.Running.{code_area}
-use Rattle.b67_task_tables.specs.declared.tables.TaskState.{TaskState}
-use Rattle.b67_task_tables.specs.declared.tables.Tasks.{Tasks}
-use Rattle.b67_task_tables.specs.declared.tables.Machine.{Machine}
-use Rattle.b67_task_switch.specs.declared.counting.Chosen.{Chosen}
-use Rattle.b67_task_switch.specs.Counted.{choice_of, CountsHaveRoom}
-use Rattle.b67_task_switch.specs.Turns.{with_running}
+use Rattle.b67_task.specs.declared.tables.TaskState.{TaskState}
+use Rattle.b67_task.specs.declared.tables.Tasks.{Tasks}
+use Rattle.b67_task.specs.declared.tables.Machine.{Machine}
+use Rattle.b67_task.specs.declared.counting.Chosen.{Chosen}
+use Rattle.b67_task.specs.Counted.{choice_of, CountsHaveRoom}
+use Rattle.b67_task.specs.Turns.{with_running}
 use Rattle.b67_session.specs.AttemptStops.{Stop}
 use Rattle.b67_session.specs.AttemptStops as stops
 use Rattle.b67_session.specs.Attempts.{WantsNothing, AttemptFits, IsNotFull, IsAtHand}
@@ -39,7 +39,7 @@ use Rattle.b67_layout.proofs.Weaker.{but_counts}
 use Rattle.b67_session_lines.specs.Moments.{first_part}
 use Rattle.b67_session.specs.AttemptPassed.{WaitsSo}
 use Rattle.b67_layout.specs.Session.{IsRunning}
-use Rattle.b67_task_tables.specs.Tables.{MachineRepresents}
+use Rattle.b67_task.specs.Tables.{MachineRepresents}
 use Rattle.b67_session.proofs.Next.{as_next}
 use Rattle.b67_session.proofs.Stopped.{cut_steps, stop_steps}
 use Rattle.b67_session.proofs.Turned.{NextOf, Tries, Attempted, attempted, n, quiet_here, hole_here, sum_here, slot_here, areas_here, outcome_here, still_here, running_here, room_there}

@@ -10,8 +10,8 @@ use Rattle.b67_stack.specs.declared.Step.TheVariants as answers
 use Rattle.b67_stack.specs.Represents.{Storage}
 use Rattle.b67_exec_cells.specs.Running.{code_area}
 use Rattle.b67_exec_cells.specs.Called.{called_in}
-use Rattle.b67_task_tables.specs.declared.tables.Machine.{Machine}
-use Rattle.b67_task_tables.specs.declared.tables.Tasks.{Tasks}
+use Rattle.b67_task.specs.declared.tables.Machine.{Machine}
+use Rattle.b67_task.specs.declared.tables.Tasks.{Tasks}
 use Rattle.b67_layout_step.proofs.Laws.{touches_arrays}
 use Rattle.b67_session.specs.Makes.{OperatorMade, CallsOrMakes, MakesAt}
 use Rattle.b67_mcp.specs.declared.ends.Stop.{Stop}

@@ -13,15 +13,15 @@ use Rattle.b67_layout.specs.Machine.{Says, content_after}
 use Rattle.b67_layout.specs.Common.{IsInOrderButCounts, Placement, RunningRow, IsRunning}
 use Rattle.b67_layout.specs.Rows as rows
 use Rattle.b67_layout.proofs.Weaker.{but_counts}
-use Rattle.b67_task_switch.specs.Turns.{with_running}
-use Rattle.b67_task_switch.specs.Standing.{HasRow}
-use Rattle.b67_task_tables.specs.declared.tables.TaskRow.{TaskRow}
-use Rattle.b67_task_tables.specs.declared.tables.Tasks.{Tasks}
-use Rattle.b67_task_tables.specs.declared.tables.Machine.{Machine}
-use Rattle.b67_task_tables.specs.Tables.{task_row, TasksShow, MachineRepresents}
-use Rattle.b67_task_switch.specs.declared.counting.Chosen.{Chosen}
-use Rattle.b67_task_switch.specs.Counted.{choice_of, CountsHaveRoom}
-use Rattle.b67_task_switch.specs.Chosen.{Chooses}
+use Rattle.b67_task.specs.Turns.{with_running}
+use Rattle.b67_task.specs.Standing.{HasRow}
+use Rattle.b67_task.specs.declared.tables.TaskRow.{TaskRow}
+use Rattle.b67_task.specs.declared.tables.Tasks.{Tasks}
+use Rattle.b67_task.specs.declared.tables.Machine.{Machine}
+use Rattle.b67_task.specs.Tables.{task_row, TasksShow, MachineRepresents}
+use Rattle.b67_task.specs.declared.counting.Chosen.{Chosen}
+use Rattle.b67_task.specs.Counted.{choice_of, CountsHaveRoom}
+use Rattle.b67_task.specs.Chosen.{Chooses}
 use Rattle.b67_session.specs.AttemptPassed.{StandsOver, CallsDevice, WaitsSo}
 use Rattle.b67_session.specs.AttemptStops.{Stop}
 use Rattle.b67_session.specs.AttemptStops as stops

@@ -31,15 +31,15 @@ use Rattle.b67_layout.proofs.Common.{but_counts, AllAlike, SameJobs, same_machin
 use Rattle.b67_exec_cells.specs.Called as operators
 use Rattle.b67_exec_cells.specs.Called.{called_in}
 use Rattle.b67_exec_cells.specs.Running.{code_area}
-use Rattle.b67_task_tables.specs.declared.tables.Tasks.{Tasks}
-use Rattle.b67_task_tables.specs.declared.tables.Machine.{Machine}
-use Rattle.b67_task_tables.specs.Runs.{RunsTask}
-use Rattle.b67_task_tables.specs.Tables.{job_row, TasksShow, MachineRepresents}
+use Rattle.b67_task.specs.declared.tables.Tasks.{Tasks}
+use Rattle.b67_task.specs.declared.tables.Machine.{Machine}
+use Rattle.b67_task.specs.Runs.{RunsTask}
+use Rattle.b67_task.specs.Tables.{job_row, TasksShow, MachineRepresents}
 use Rattle.b67_session.specs.Makes.{OperatorMade, MakesInSegment, ForEachReady}
-use Rattle.b67_task_switch.specs.declared.counting.Chosen.{Chosen}
-use Rattle.b67_task_switch.specs.Counted.{counted_more, counted_by, TurnHasRoom}
-use Rattle.b67_task_switch.specs.Lasting.{RulesLeave, Lasts, TurnLasts, BeforeHalt}
-use Rattle.b67_task_switch.proofs.Lasting.{lasts_choice}
+use Rattle.b67_task.specs.declared.counting.Chosen.{Chosen}
+use Rattle.b67_task.specs.Counted.{counted_more, counted_by, TurnHasRoom}
+use Rattle.b67_task.specs.Lasting.{RulesLeave, Lasts, TurnLasts, BeforeHalt}
+use Rattle.b67_task.proofs.Lasting.{lasts_choice}
 use Rattle.b67_law.proofs.FewMade.{all_few}
 use Rattle.b67_session.specs.Fits.{IsArrayOfJob}
 use Rattle.b67_session.proofs.AttemptFits.{was_operator, made_touches}

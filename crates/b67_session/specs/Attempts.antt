@@ -6,20 +6,20 @@ use Rattle.b67_word.specs.declared.faults.Fault.TheVariants.{InvalidOperator}
 use Rattle.b67_lemmas.specs.Lists.{Has}
 use Rattle.b67_backing.specs.Held.{Becomes}
 use Rattle.b67_layout.specs.Machine.{HasHole, DeviceAfterCalls}
-use Rattle.b67_task_need.specs.Needing.{need_with}
+use Rattle.b67_task.specs.Needing.{need_with}
 use Rattle.b67_model.specs.declared.intrinsics.TheConstants.{PROCESS}
 use Rattle.b67_model.specs.Common.{Array, Ready, Task, Job, SessionJob, code_of, sectors, touched_of, need, step, Session}
 pub use Rattle.b67_model.specs.Common.{TakesSectors}
 use Rattle.b67_layout.specs.Common.{IsInOrderButCounts, Placement, IsRunning, area_held, with_job, objects_gone}
 use Rattle.b67_exec_cells.specs.Called.{called_in}
-use Rattle.b67_task_release.specs.Released.{HasHome}
+use Rattle.b67_task.specs.Released.{HasHome}
 use Rattle.b67_stack.specs.Represents.{Storage}
 use Rattle.b67_law.specs.Weaker.{AllOtherNumbers}
 use Rattle.b67_presence.specs.Bringing.{StandsOver}
 use Rattle.b67_exec_cells.specs.Running.{code_area}
-use Rattle.b67_task_tables.specs.declared.tables.Machine.{Machine}
-use Rattle.b67_task_tables.specs.declared.tables.Tasks.{Tasks}
-use Rattle.b67_task_tables.specs.Tables.{MachineRepresents}
+use Rattle.b67_task.specs.declared.tables.Machine.{Machine}
+use Rattle.b67_task.specs.declared.tables.Tasks.{Tasks}
+use Rattle.b67_task.specs.Tables.{MachineRepresents}
 use Rattle.b67_mcp.specs.Called.{IsCalled, HoldsOther, IsCut, IsShortAt, Lengthens, StartsTask, CallsDevice, WaitsSo}
 use Rattle.b67_mcp.specs.Running.{CallCauses, Keeps}
 use Rattle.b67_mcp.specs.declared.ends.Stop.{Stop}

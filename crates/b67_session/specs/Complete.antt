@@ -2,8 +2,8 @@
 use Rattle.std.specs.Prelude.{◌≡◌, ◌≢◌, ℕ, ◌+◌, ◌<◌, ◌≤◌, List, Option, Some}
 use Rattle.b67_model.specs.Common.{Task, SessionJob, need_next, StepResult, after, Session}
 use Rattle.b67_law.specs.Turns.{IsNext}
-use Rattle.b67_task_tables.specs.declared.tables.Tasks.{Tasks}
-use Rattle.b67_task_tables.specs.declared.tables.Machine.{Machine}
+use Rattle.b67_task.specs.declared.tables.Tasks.{Tasks}
+use Rattle.b67_task.specs.declared.tables.Machine.{Machine}
 use Rattle.b67_session.specs.Attempts.{TakesSectors}
 use Rattle.b67_session_ends.specs.Machines.{StandsAt, IsLimited}
 

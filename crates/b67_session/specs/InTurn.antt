@@ -7,11 +7,11 @@ use Rattle.b67_layout.specs.Placement.{Placement, slot_of}
 use Rattle.b67_stack.specs.declared.Cpu.{Cpu}
 use Rattle.b67_stack.specs.declared.Step.{Step}
 use Rattle.b67_exec.specs.Near.{StopsHere}
-use Rattle.b67_task_tables.specs.declared.tables.Machine.{Machine}
-use Rattle.b67_task_tables.specs.Runs.{RunsTask}
-use Rattle.b67_task_tables.specs.Tables.{MachineRepresents}
-use Rattle.b67_task_switch.specs.Counted.{counted_by, counted_more}
-use Rattle.b67_task_switch.specs.Lasting.{Lasts, TurnLasts}
+use Rattle.b67_task.specs.declared.tables.Machine.{Machine}
+use Rattle.b67_task.specs.Runs.{RunsTask}
+use Rattle.b67_task.specs.Tables.{MachineRepresents}
+use Rattle.b67_task.specs.Counted.{counted_by, counted_more}
+use Rattle.b67_task.specs.Lasting.{Lasts, TurnLasts}
 use Rattle.b67_session.specs.Makes.{MakesOne, MakesEach}
 use Rattle.b67_session.specs.Slices.{StepsFit}
 

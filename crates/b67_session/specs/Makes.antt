@@ -11,10 +11,10 @@ use Rattle.b67_layout.specs.Common.{Placement, with_job, objects_gone, FindsAbse
 use Rattle.b67_exec_cells.specs.Running.{code_area}
 use Rattle.b67_exec_cells.specs.Called.{called_in}
 use Rattle.b67_exec.specs.Operators.{leaves_record}
-use Rattle.b67_task_release.specs.Released.{HasHome, Released}
-use Rattle.b67_task_tables.specs.declared.tables.Machine.{Machine}
-use Rattle.b67_task_tables.specs.Tables.{MachineRepresents}
-use Rattle.b67_task_tables.specs.Runs.{ForEachRun}
+use Rattle.b67_task.specs.Released.{HasHome, Released}
+use Rattle.b67_task.specs.declared.tables.Machine.{Machine}
+use Rattle.b67_task.specs.Tables.{MachineRepresents}
+use Rattle.b67_task.specs.Runs.{ForEachRun}
 
 -- a word that is written as areas are given back: the directory's first, or one of a hole
 abbrev pub MayFree : Storage → ℕ → Type 0

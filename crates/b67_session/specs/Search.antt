@@ -5,8 +5,8 @@ use Rattle.b67_io.specs.Free.{tally_told}
 use Rattle.b67_lemmas.specs.Lists.{Has}
 use Rattle.b67_model.specs.Common.{Task, SessionJob, Session, Choice, choice, after, height, below_top}
 use Rattle.b67_law.specs.Turns.{IsNext}
-use Rattle.b67_task_tables.specs.declared.tables.Tasks.{Tasks}
-use Rattle.b67_task_tables.specs.declared.tables.Machine.{Machine}
+use Rattle.b67_task.specs.declared.tables.Tasks.{Tasks}
+use Rattle.b67_task.specs.declared.tables.Machine.{Machine}
 use Rattle.b67_io.specs.Causes.{Rose}
 use Rattle.b67_layout.specs.Machine.{DeviceAfterCalls}
 use Rattle.b67_session.specs.AttemptStops.{Stop}

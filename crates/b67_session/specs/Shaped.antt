@@ -1,7 +1,7 @@
 -- Which machines represent a session, whatever their device holds.
 use Rattle.std.specs.Prelude.{ℕ, List, Option, None, Result}
 use Rattle.b67_model.specs.Schedule.{Session}
-use Rattle.b67_task_tables.specs.declared.tables.Machine.{Machine}
+use Rattle.b67_task.specs.declared.tables.Machine.{Machine}
 use Rattle.b67_layout.specs.Machine.{Says, DeviceAfterCalls}
 use Rattle.b67_session.specs.AttemptPassed.{CallCauses}
 use Rattle.b67_session.specs.AttemptStops.{Stop}

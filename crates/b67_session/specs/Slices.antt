@@ -13,13 +13,13 @@ use Rattle.b67_layout.specs.Machine.{Says, content_after}
 use Rattle.b67_layout.specs.Common.{Placement, machine_view, objects_gone}
 use Rattle.b67_exec_cells.specs.Called.{called_in}
 use Rattle.b67_exec_cells.specs.Running.{code_area}
-use Rattle.b67_task_release.specs.Released.{HasHome}
+use Rattle.b67_task.specs.Released.{HasHome}
 use Rattle.b67_mcp.specs.Called.{HoldsOther}
 use Rattle.b67_law.specs.Turns.{IsNext}
-use Rattle.b67_task_tables.specs.declared.tables.Tasks.{Tasks}
-use Rattle.b67_task_tables.specs.declared.tables.Machine.{Machine}
-use Rattle.b67_task_tables.specs.Tables.{MachineRepresents}
-pub use Rattle.b67_task_tables.specs.Runs.{Keeps}
+use Rattle.b67_task.specs.declared.tables.Tasks.{Tasks}
+use Rattle.b67_task.specs.declared.tables.Machine.{Machine}
+use Rattle.b67_task.specs.Tables.{MachineRepresents}
+pub use Rattle.b67_task.specs.Runs.{Keeps}
 use Rattle.b67_session.specs.AttemptPassed.{AreCountable, IsShortAt, CallsDevice}
 use Rattle.b67_session.specs.Attempts.{IsLacking, WantsNothing, HoleFits, IsAtHand, UsesHole, KeepsAreas, AddsNoArea, CodeFits, TellsAfter, TellsSectors}
 use Rattle.b67_session.specs.AttemptStops.{Stop}

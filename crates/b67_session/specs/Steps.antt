@@ -5,13 +5,13 @@ use Rattle.b67_model.specs.Common.{RunLine, StepResult, next, after, lines, Sess
 use Rattle.b67_stack.specs.Represents.{Storage}
 use Rattle.b67_stack.specs.declared.Step.{Step}
 use Rattle.b67_layout.specs.Placement.{Placement}
-use Rattle.b67_task_tables.specs.declared.tables.Machine.{Machine}
+use Rattle.b67_task.specs.declared.tables.Machine.{Machine}
 use Rattle.b67_session.specs.AttemptStops.{Stop}
 use Rattle.b67_session.specs.AttemptStops as stops
 use Rattle.b67_word.specs.declared.faults.Failed.{Failed}
 use Rattle.b67_session_ends.specs.Ends.{Finishes}
-use Rattle.b67_task_switch.specs.Lasting.{BeforeHalt}
-use Rattle.b67_task_switch.specs.declared.counting.Chosen.{Chosen}
+use Rattle.b67_task.specs.Lasting.{BeforeHalt}
+use Rattle.b67_task.specs.declared.counting.Chosen.{Chosen}
 use Rattle.b67_session.specs.Makes.{MakesEach}
 use Rattle.b67_session.specs.Slices.{StandsAt, Prints, PrintsWhole, NextFits, StepsFit, SliceMeets}
 

@@ -11,10 +11,10 @@ use Rattle.b67_stack.specs.Represents.{Storage}
 use Rattle.b67_layout.specs.Machine.{Says, content_after}
 use Rattle.b67_layout.specs.Common.{Placement, objects_gone}
 use Rattle.b67_exec_cells.specs.Called.{called_in}
-use Rattle.b67_task_release.specs.Released.{HasHome}
+use Rattle.b67_task.specs.Released.{HasHome}
 use Rattle.b67_presence.specs.Bringing.{IsWanted}
-use Rattle.b67_task_tables.specs.declared.tables.Machine.{Machine}
-use Rattle.b67_task_tables.specs.Runs.{RunsTask}
+use Rattle.b67_task.specs.declared.tables.Machine.{Machine}
+use Rattle.b67_task.specs.Runs.{RunsTask}
 use Rattle.b67_mcp.specs.Called.{IsCalled, HoldsOther, IsCut, IsFull, IsRefused, IsUnstarted, IsUnstartedFull, LacksCore, MayWrite, OnlyPrinted, WaitsSo}
 use Rattle.b67_mcp.specs.declared.ends.Stop.{Stop}
 use Rattle.b67_mcp.specs.declared.ends.Stop.TheVariants as stops

@@ -14,7 +14,7 @@ use b67_backing::Backing;
 use b67_io::Sink;
 use b67_mcp::Stop;
 use b67_stack::Step;
-use b67_task_tables::Machine;
+use b67_task::Machine;
 use b67_word::{Ending, Fault};
 
 /// Makes the next operator, whose segment and array are present. Over a device that doesn't tell what its sectors hold, the

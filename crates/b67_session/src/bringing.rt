@@ -9,7 +9,7 @@ ghost use Rattle.b67_stack.specs.Represents.{Storage};
 ghost use Rattle.b67_layout.specs.Machine.{DeviceAfterCalls};
 ghost use Rattle.b67_layout.specs.Placement.{Placement};
 ghost use Rattle.b67_layout.specs.Session.{IsRunning};
-ghost use Rattle.b67_task_tables.specs.Runs.{Keeps};
+ghost use Rattle.b67_task.specs.Runs.{Keeps};
 ghost use Rattle.b67_presence.specs.Bringing.{StandsOver, WantsSome, IsWanted};
 ghost use Rattle.b67_mcp.specs.declared.ends.Stop.TheVariants.{BackingFault, PrintFault};
 ghost use Rattle.b67_session.specs.Brought.{BroughtRow};
@@ -18,7 +18,7 @@ use b67_backing::Backing;
 use b67_mcp::{Stop, stop_for};
 use b67_presence::bring;
 use b67_stack::What;
-use b67_task_tables::Machine;
+use b67_task::Machine;
 
 /// Brings in what the next operator wants, and evicts other areas if need be; the running segment is then present too. After
 /// a stop the machine represents the same session. If a hole has room no area moves and no sector is written.

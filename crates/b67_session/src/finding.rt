@@ -26,7 +26,7 @@ use b67_backing::Backing;
 use b67_io::Tally;
 use b67_mcp::Stop;
 use b67_stack::Step;
-use b67_task_tables::Machine;
+use b67_task::Machine;
 
 /// Goes on with the turn of the last task from the count `next` on, up to the count `most` and to an operator of which what is
 /// sought may hold, and answers the count then. If the deepest is sought, it notes each stack.

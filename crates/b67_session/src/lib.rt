@@ -27,7 +27,7 @@ mod turns;
 pub use attempting::attempt;
 pub use b67_mcp::Stop;
 pub use b67_session_open::OpenFault;
-pub use b67_task_switch::schedule;
+pub use b67_task::schedule;
 pub use finding::find;
 pub use fits::{made_fits, present_fits};
 pub use opened::{know_programs, machines_are_open, open};

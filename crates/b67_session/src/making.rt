@@ -4,13 +4,12 @@ ghost use Rattle.std.specs.Prelude.{◌≡◌, ◌≢◌};
 ghost use Rattle.b67_stack.specs.declared.Step.TheVariants.{Done};
 ghost use Rattle.b67_exec.specs.Near.{ReaderBehind, StopsHere};
 ghost use Rattle.b67_exec.specs.declared.apart.Went.TheVariants.{On, Not};
-ghost use Rattle.b67_task_tables.specs.Runs.{RunsTask, Keeps};
+ghost use Rattle.b67_task.specs.Runs.{RunsTask, Keeps};
 ghost use Rattle.b67_session.specs.Makes.{MakesInSegment, ForEachReady};
 
 use b67_exec::{Made, Reader, Went, operate};
 use b67_stack::Step;
-use b67_task_release::release;
-use b67_task_tables::Machine;
+use b67_task::{Machine, release};
 
 /// Makes the operator at the running place, at which the reader stands. Where it leaves an activation record, the areas and
 /// chains of that record's arrays are given back. Where the task goes on in the segment the reader then stands there. At `Not`

@@ -16,7 +16,7 @@ use crate::slices::{Progress, slice};
 use b67_backing::Backing;
 use b67_io::Sink;
 use b67_mcp::Stop;
-use b67_task_tables::Machine;
+use b67_task::Machine;
 use std::marker::Model;
 
 /// A machine whose session is run a slice at a time. It is seen as the machine.
@@ -26,7 +26,7 @@ pub struct Session {
 }
 
 impl Model for Session {
-    ghost use Rattle.b67_task_tables.specs.declared.tables.Machine as tables;
+    ghost use Rattle.b67_task.specs.declared.tables.Machine as tables;
 
     ghost Value = { tables.Machine };
 

@@ -11,9 +11,9 @@ ghost use Rattle.b67_stack.specs.Stacks.{Activation, stack_words, mark_place};
 ghost use Rattle.b67_layout.specs.Placement.{Placement};
 ghost use Rattle.b67_layout.specs.Session.{IsRunning};
 ghost use Rattle.b67_law.specs.Turns.{IsNext};
-ghost use Rattle.b67_task_switch.specs.Counted.{choice_of};
-ghost use Rattle.b67_task_switch.specs.Chosen.{IsReadyAt};
-ghost use Rattle.b67_task_switch.specs.Turns.{WaitsOn, WaitsInOne};
+ghost use Rattle.b67_task.specs.Counted.{choice_of};
+ghost use Rattle.b67_task.specs.Chosen.{IsReadyAt};
+ghost use Rattle.b67_task.specs.Turns.{WaitsOn, WaitsInOne};
 ghost use Rattle.b67_session_ends.specs.Closing.{StandsChosen, ChoseSome};
 ghost use Rattle.b67_session.specs.Slices.{StandsAt};
 ghost use Rattle.b67_session.specs.Steps.{IsInOrderFor};
@@ -23,8 +23,7 @@ ghost use Rattle.b67_session.specs.declared.seeking.Sought.TheVariants as sought
 
 use b67_ctl::{Regs, Toscw};
 use b67_stack::Cpu;
-use b67_task_switch::{Chosen, choose};
-use b67_task_tables::{Machine, Tasks};
+use b67_task::{Chosen, Machine, Tasks, choose};
 use b67_word::Place;
 
 /// A place in the code of a job: the displacement of a segment in the dictionary, and a place in that segment.

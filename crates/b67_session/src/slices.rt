@@ -20,7 +20,7 @@ use b67_io::Sink;
 use b67_mcp::Stop;
 use b67_session_ends::{end_by_limit, is_at_limit};
 use b67_stack::Step;
-use b67_task_tables::{Machine, Tasks};
+use b67_task::{Machine, Tasks};
 
 /// How far a slice came: no task lives; the count of the halt is reached and a task lives; all its steps were made.
 #[derive(Clone, Copy, Debug, PartialEq, Eq)]

@@ -12,9 +12,9 @@ ghost use Rattle.b67_stack.specs.declared.Step.TheVariants.{Done};
 ghost use Rattle.b67_stack.specs.Represents.{Storage};
 ghost use Rattle.b67_exec.specs.Near.{StopsHere};
 ghost use Rattle.b67_layout.specs.Placement.{Placement};
-ghost use Rattle.b67_task_tables.specs.Runs.{Keeps};
-ghost use Rattle.b67_task_tables.specs.Tables.{MachineRepresents};
-ghost use Rattle.b67_task_switch.specs.Counted.{choice_of, CountsHaveRoom};
+ghost use Rattle.b67_task.specs.Runs.{Keeps};
+ghost use Rattle.b67_task.specs.Tables.{MachineRepresents};
+ghost use Rattle.b67_task.specs.Counted.{choice_of, CountsHaveRoom};
 ghost use Rattle.b67_session_ends.specs.Closing.{StandsChosen, ChoseSome, Closes};
 ghost use Rattle.b67_session_ends.specs.Holds.{waiting_step, HoldsSo, HoldsSome};
 ghost use Rattle.b67_session_ends.specs.Ends.{StandsBetween};
@@ -31,8 +31,7 @@ use b67_io::Sink;
 use b67_mcp::Stop;
 use b67_session_ends::{close, count_one, finish, make_wait};
 use b67_stack::Step;
-use b67_task_switch::{Chosen, choose};
-use b67_task_tables::{Machine, TaskState};
+use b67_task::{Chosen, Machine, TaskState, choose};
 use b67_word::{Ending, Failed};
 
 /// The last part of a step whose operator is counted: the lines of LIMIT, if its job stands at its limit.

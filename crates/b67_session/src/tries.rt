@@ -3,7 +3,7 @@
 ghost use Rattle.std.specs.Prelude.{◌≡◌, ◌+◌, length};
 ghost use Rattle.b67_layout.specs.Machine.{DeviceAfterCalls};
 ghost use Rattle.b67_exec.specs.Near.{StopsHere};
-ghost use Rattle.b67_task_tables.specs.Runs.{Keeps};
+ghost use Rattle.b67_task.specs.Runs.{Keeps};
 ghost use Rattle.b67_mcp.specs.Running.{JobsHaveRoom, CallCauses};
 ghost use Rattle.b67_session.specs.Makes.{ForEachReady};
 ghost use Rattle.b67_session.specs.Tries.{ReadyRuns, TryRow};
@@ -13,7 +13,7 @@ use b67_backing::Backing;
 use b67_io::Sink;
 use b67_mcp::{CallEnd, Stop, intrinsic};
 use b67_stack::{Step, What};
-use b67_task_tables::{Machine, TaskState};
+use b67_task::{Machine, TaskState};
 use b67_word::Ending;
 
 /// The operator was made, with its text printed; it wants something in core; it ends its task; or it makes its task wait, in

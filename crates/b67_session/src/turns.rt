@@ -6,14 +6,14 @@ ghost use Rattle.b67_model.specs.Schedule.{Session};
 ghost use Rattle.b67_layout.specs.Orders.{IsInOrderButCounts};
 ghost use Rattle.b67_stack.specs.Represents.{Storage};
 ghost use Rattle.b67_layout.specs.Placement.{Placement};
-ghost use Rattle.b67_task_switch.specs.Turns.{with_running};
-ghost use Rattle.b67_task_tables.specs.declared.tables.TaskRow.{TaskRow};
+ghost use Rattle.b67_task.specs.Turns.{with_running};
+ghost use Rattle.b67_task.specs.declared.tables.TaskRow.{TaskRow};
 ghost use Rattle.b67_stack.specs.declared.Step.TheVariants.{Done};
 ghost use Rattle.b67_exec.specs.Near.{StopsHere};
-ghost use Rattle.b67_task_tables.specs.Runs.{RunsTask};
-ghost use Rattle.b67_task_tables.specs.Tables.{MachineRepresents};
-ghost use Rattle.b67_task_switch.specs.Standing.{HasRow};
-ghost use Rattle.b67_task_switch.specs.Lasting.{TurnLasts};
+ghost use Rattle.b67_task.specs.Runs.{RunsTask};
+ghost use Rattle.b67_task.specs.Tables.{MachineRepresents};
+ghost use Rattle.b67_task.specs.Standing.{HasRow};
+ghost use Rattle.b67_task.specs.Lasting.{TurnLasts};
 ghost use Rattle.b67_session.specs.Slices.{StandsAt, Keeps};
 ghost use Rattle.b67_session.specs.Steps.{IsInOrderFor, CountsTurn, GoesOnInTurn};
 ghost use Rattle.b67_session.specs.Makes.{MakesInSegment, MakesOne, ForEachReady};
@@ -22,8 +22,7 @@ ghost use Rattle.b67_session.specs.InTurn.{BeginsWith, MayMake, TurnBegins, HasT
 use crate::making::make_next;
 use b67_exec::{Went, reader_here};
 use b67_stack::Step;
-use b67_task_switch::{count_turn, switch_to, turn_room};
-use b67_task_tables::Machine;
+use b67_task::{Machine, count_turn, switch_to, turn_room};
 
 /// The task of a row is then the running one, if it wasn't. The session's state stays. If another task was, `why` is known no more
 /// of the operator at the running place, and is `Done`.

@@ -14,9 +14,9 @@ use Rattle.b67_session_lines.specs.Moments.{has_tasks, is_at_limit, last_part, l
 use Rattle.b67_layout.specs.Common.{Placement, JobShows, JobsShow}
 use Rattle.b67_layout.specs.Rows as rows
 use Rattle.b67_layout.proofs.LiveTasks.{job_at}
-use Rattle.b67_task_tables.specs.declared.tables.TaskRow.{TaskRow}
-use Rattle.b67_task_tables.specs.declared.tables.Tasks.{Tasks}
-use Rattle.b67_task_tables.specs.Tables.{task_row, job_row, TasksShow}
+use Rattle.b67_task.specs.declared.tables.TaskRow.{TaskRow}
+use Rattle.b67_task.specs.declared.tables.Tasks.{Tasks}
+use Rattle.b67_task.specs.Tables.{task_row, job_row, TasksShow}
 use Rattle.b67_session_ends.specs.Limits.{AtLimit}
 
 -- the job that a row of the table shows

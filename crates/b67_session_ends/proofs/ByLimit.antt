@@ -15,9 +15,9 @@ use Rattle.b67_stack.specs.Represents.{Storage}
 use Rattle.b67_layout.specs.Common.{with_job, JobInOrderButCounts, IsInOrderButCounts, Placement}
 use Rattle.b67_law.specs.Orders.{JobInOrderButLimit, IsInOrderButLimit}
 use Rattle.b67_law.proofs.Limits.{LimitOf, limit_of}
-use Rattle.b67_task_tables.specs.declared.tables.Machine.{Machine}
-use Rattle.b67_task_tables.specs.Tables.{MachineRepresents}
-use Rattle.b67_task_end.specs.Family.{TablesHold, HasSomeHead}
+use Rattle.b67_task.specs.declared.tables.Machine.{Machine}
+use Rattle.b67_task.specs.Tables.{MachineRepresents}
+use Rattle.b67_task.specs.Family.{TablesHold, HasSomeHead}
 use Rattle.b67_session_ends.specs.Ends.{StandsInPlace, JobLives, Finishes}
 use Rattle.b67_session_ends.specs.Texts.{endings_text}
 use Rattle.b67_session_ends.proofs.Ended.{part_ended, stands_ended, view_ended}

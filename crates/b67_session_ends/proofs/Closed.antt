@@ -17,13 +17,13 @@ use Rattle.b67_stack.specs.Represents.{Storage}
 use Rattle.b67_layout.specs.Common.{with_job, JobInOrderButCounts, IsInOrderButCounts, Placement}
 use Rattle.b67_layout.proofs.Sessions.{course_twice}
 use Rattle.b67_layout.proofs.Weaker.{but_counts}
-use Rattle.b67_task_tables.specs.declared.tables.Tasks.{Tasks}
-use Rattle.b67_task_tables.specs.declared.tables.Machine.{Machine}
-use Rattle.b67_task_tables.specs.Tables.{MachineRepresents, given_of}
-use Rattle.b67_task_end.specs.Family.{TablesHold, HasSomeRow, HasSomeHead, endings_of}
-use Rattle.b67_task_switch.specs.declared.counting.Chosen.{Chosen}
-use Rattle.b67_task_switch.specs.Counted.{choice_of, CountsHaveRoom}
-use Rattle.b67_task_tables.specs.Runs.{Keeps}
+use Rattle.b67_task.specs.declared.tables.Tasks.{Tasks}
+use Rattle.b67_task.specs.declared.tables.Machine.{Machine}
+use Rattle.b67_task.specs.Tables.{MachineRepresents, given_of}
+use Rattle.b67_task.specs.Family.{TablesHold, HasSomeRow, HasSomeHead, endings_of}
+use Rattle.b67_task.specs.declared.counting.Chosen.{Chosen}
+use Rattle.b67_task.specs.Counted.{choice_of, CountsHaveRoom}
+use Rattle.b67_task.specs.Runs.{Keeps}
 use Rattle.b67_session_ends.specs.Closing.{HasJobOf, StandsChosen, left_ready}
 use Rattle.b67_session_ends.specs.Counts.{IsCounted}
 use Rattle.b67_session_ends.specs.Ends.{StandsForSession, StandsInPlace, LeavesInPlace, IsFamilyOf, EndsFamily}

@@ -15,12 +15,12 @@ use Rattle.b67_law.proofs.Deepest.{others, with_stuck, is_stuck, first_endings}
 use Rattle.b67_law.proofs.FirstTasks.{emptied, each_emptied}
 use Rattle.b67_stack.specs.Represents.{Storage}
 use Rattle.b67_layout.specs.Common.{with_job, JobInOrderButCounts, IsInOrderButCounts, Placement}
-use Rattle.b67_task_tables.specs.declared.tables.TaskRow.{TaskRow}
-use Rattle.b67_task_tables.specs.declared.tables.Tasks.{Tasks}
-use Rattle.b67_task_tables.specs.declared.tables.Machine.{Machine}
-use Rattle.b67_task_tables.specs.Tables.{MachineRepresents}
-use Rattle.b67_task_end_tables.specs.Deaths.{ending_numbers}
-use Rattle.b67_task_end.specs.Family.{TablesHold}
+use Rattle.b67_task.specs.declared.tables.TaskRow.{TaskRow}
+use Rattle.b67_task.specs.declared.tables.Tasks.{Tasks}
+use Rattle.b67_task.specs.declared.tables.Machine.{Machine}
+use Rattle.b67_task.specs.Tables.{MachineRepresents}
+use Rattle.b67_task.specs.Deaths.{ending_numbers}
+use Rattle.b67_task.specs.Family.{TablesHold}
 use Rattle.b67_session_ends.specs.Closing.{is_dead_of, left_ready, others_of}
 use Rattle.b67_session_ends.specs.Ends.{StandsInPlace}
 use Rattle.b67_session_ends.proofs.AtLimits.{no_tasks, some_tasks}

@@ -11,8 +11,8 @@ use Rattle.b67_stack.specs.Common.{MachineView, NoOriginalAboveTop as Calm, Stor
 use Rattle.b67_layout.specs.Common.{Placement, machine_view, JobCounts, TaskShows, JobsShow, TablesShow, RepresentsSession, with_objects}
 use Rattle.b67_layout.specs.Rows as rows
 use Rattle.b67_layout.proofs.Common.{AllAlike, SameJobs, same_machine_view, RepresentsSession-over}
-use Rattle.b67_task_tables.specs.declared.tables.Machine.{Machine}
-use Rattle.b67_task_tables.specs.Tables.{MachineRepresents}
+use Rattle.b67_task.specs.declared.tables.Machine.{Machine}
+use Rattle.b67_task.specs.Tables.{MachineRepresents}
 
 abbrev pub Gone : Type 0
 Gone = List (ℕ × Ending)

@@ -15,11 +15,11 @@ use Rattle.b67_law.proofs.FirstTasks.{first_lives, first_emptied, each_emptied}
 use Rattle.b67_stack.specs.Represents.{Storage}
 use Rattle.b67_layout.specs.Common.{with_job, JobInOrderButCounts, IsInOrderButCounts, Placement, TaskShows}
 use Rattle.b67_layout.specs.Rows as rows
-use Rattle.b67_task_tables.specs.declared.tables.TaskRow.{TaskRow}
-use Rattle.b67_task_tables.specs.declared.tables.Machine.{Machine}
-use Rattle.b67_task_tables.specs.Tables.{task_row, MachineRepresents}
-use Rattle.b67_task_tables.specs.RowOf.{IsRowOf}
-use Rattle.b67_task_end.specs.Family.{TablesHold, HasSomeRow, endings_of}
+use Rattle.b67_task.specs.declared.tables.TaskRow.{TaskRow}
+use Rattle.b67_task.specs.declared.tables.Machine.{Machine}
+use Rattle.b67_task.specs.Tables.{task_row, MachineRepresents}
+use Rattle.b67_task.specs.RowOf.{IsRowOf}
+use Rattle.b67_task.specs.Family.{TablesHold, HasSomeRow, endings_of}
 use Rattle.b67_session_ends.specs.Ends.{StandsInPlace, IsFirstRow, IsFamilyOf, EndsFamily}
 
 module _ (x : Storage) (told : Option (List (List ℕ))) (k : Machine) (plan : Placement) (s : Session) (m : SessionJob) (o : IsInOrderButCounts s) (h : MachineRepresents x told k plan s) (among : Has s.jobs m) where

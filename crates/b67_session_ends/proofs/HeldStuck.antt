@@ -9,10 +9,10 @@ use Rattle.b67_lemmas.specs.Lists.{Has}
 use Rattle.b67_lemmas.proofs.Places.{refill_whole}
 use Rattle.b67_model.specs.Common.{all_with, among, released, is_ready, deadlocked, deepest_first, ends_each_if, unsettled, Session, Condition, Task, SessionJob}
 use Rattle.b67_layout.specs.Placement.{Placement}
-use Rattle.b67_task_tables.specs.declared.tables.TaskRow.{TaskRow}
-use Rattle.b67_task_tables.specs.declared.tables.TaskState.{TaskState}
-use Rattle.b67_task_tables.specs.declared.tables.Tasks.{Tasks}
-use Rattle.b67_task_end.specs.Family.{TablesHold}
+use Rattle.b67_task.specs.declared.tables.TaskRow.{TaskRow}
+use Rattle.b67_task.specs.declared.tables.TaskState.{TaskState}
+use Rattle.b67_task.specs.declared.tables.Tasks.{Tasks}
+use Rattle.b67_task.specs.Family.{TablesHold}
 use Rattle.b67_session_ends.specs.Closing.{left_ready}
 use Rattle.b67_session_ends.proofs.Stuck.{rows_tell}
 use Rattle.b67_session_ends.specs.Holds.{with_state}

@@ -14,9 +14,9 @@ use Rattle.b67_law.proofs.Numbered.{keyed_member}
 use Rattle.b67_stack.specs.Stacks.{StackPlace}
 use Rattle.b67_layout.specs.Common.{with_job, IsInOrderButCounts, Placement, slot_of, spots, address_of, WaitsAtCell, TaskRow, JobRow, JobCounts, shown, critical_disp, TaskShows, JobsShow, RunningRow, Differ, TablesShow}
 use Rattle.b67_layout.proofs.Common.{job_in_order, change-kept, differ_at, live_in_order}
-use Rattle.b67_task_start_stack.specs.Likes.{SameStack, Like}
-use Rattle.b67_task_start_stack.proofs.Births.{changed_member, kept_member, moved_member}
-use Rattle.b67_task_start_stack.proofs.AlikePlans.{spots-twin}
+use Rattle.b67_task.specs.Likes.{SameStack, Like}
+use Rattle.b67_task.proofs.Births.{changed_member, kept_member, moved_member}
+use Rattle.b67_task.proofs.AlikePlans.{spots-twin}
 use Rattle.b67_session_ends.specs.Holds.{held}
 
 like_frames : (a b : Option Task) → Like a b → frames_of_task a ≡ frames_of_task b

@@ -12,13 +12,13 @@ use Rattle.b67_model.specs.Keyed.{keyed}
 use Rattle.b67_law.proofs.Numbered.{keyed_member}
 use Rattle.b67_layout.specs.Common.{Placement, shown}
 use Rattle.b67_layout.specs.Rows as rows
-use Rattle.b67_task_tables.specs.declared.tables.TaskState.{TaskState}
-use Rattle.b67_task_tables.specs.declared.tables.TaskState.TheVariants as states
-use Rattle.b67_task_tables.specs.declared.tables.TaskRow.{TaskRow}
-use Rattle.b67_task_tables.specs.declared.tables.Tasks.{Tasks}
-use Rattle.b67_task_tables.specs.Tables.{state_of, task_row}
-use Rattle.b67_task_end_tables.specs.Deaths.{ending_numbers}
-use Rattle.b67_task_end.specs.Family.{TablesHold}
+use Rattle.b67_task.specs.declared.tables.TaskState.{TaskState}
+use Rattle.b67_task.specs.declared.tables.TaskState.TheVariants as states
+use Rattle.b67_task.specs.declared.tables.TaskRow.{TaskRow}
+use Rattle.b67_task.specs.declared.tables.Tasks.{Tasks}
+use Rattle.b67_task.specs.Tables.{state_of, task_row}
+use Rattle.b67_task.specs.Deaths.{ending_numbers}
+use Rattle.b67_task.specs.Family.{TablesHold}
 use Rattle.b67_session_ends.specs.Closing.{is_dead_of, ready_after, left_ready}
 
 -- ---- lists

@@ -5,20 +5,20 @@ use Rattle.b67_word.specs.declared.faults.Failed.{Failed}
 use Rattle.std.specs.List.{list_any}
 use Rattle.b67_model.specs.Common.{run_text, StepResult, Session, IsInOrderButPlaces, Task, SessionJob}
 use Rattle.b67_session_lines.specs.Parts.{TookRest, TookMore}
-use Rattle.b67_task_tables.specs.declared.tables.TaskState.{TaskState}
-use Rattle.b67_task_tables.specs.declared.tables.TaskState.TheVariants as states
-use Rattle.b67_task_tables.specs.declared.tables.TaskRow.{TaskRow}
-use Rattle.b67_task_tables.specs.declared.tables.Machine.{Machine}
-use Rattle.b67_task_tables.specs.Tables.{MachineRepresents}
+use Rattle.b67_task.specs.declared.tables.TaskState.{TaskState}
+use Rattle.b67_task.specs.declared.tables.TaskState.TheVariants as states
+use Rattle.b67_task.specs.declared.tables.TaskRow.{TaskRow}
+use Rattle.b67_task.specs.declared.tables.Machine.{Machine}
+use Rattle.b67_task.specs.Tables.{MachineRepresents}
 use Rattle.b67_session_ends.specs.Ends.{StandsInPlace}
 use Rattle.b67_lemmas.specs.Lists.{Has}
 use Rattle.b67_stack.specs.Represents.{Storage}
 use Rattle.b67_layout.specs.Orders.{IsInOrderButCounts}
 use Rattle.b67_layout.specs.Placement.{Placement}
 use Rattle.b67_law.specs.Turns.{IsNext}
-use Rattle.b67_task_tables.specs.RowOf.{IsRowOf}
-use Rattle.b67_task_switch.specs.declared.counting.Chosen.{Chosen}
-use Rattle.b67_task_switch.specs.Counted.{choice_of}
+use Rattle.b67_task.specs.RowOf.{IsRowOf}
+use Rattle.b67_task.specs.declared.counting.Chosen.{Chosen}
+use Rattle.b67_task.specs.Counted.{choice_of}
 
 -- the task of a number is among those that ended
 abbrev pub is_dead_of : List (ℕ × Ending) → ℕ → Bool

@@ -4,10 +4,10 @@ use Rattle.b67_model.specs.Common.{JobMoment, NumberedFrom, number_of, with_mome
 use Rattle.b67_model.specs.Keyed.{keyed}
 use Rattle.b67_layout.specs.Meets.{with_job}
 use Rattle.b67_layout.specs.Placement.{Placement}
-use Rattle.b67_task_tables.specs.declared.tables.Tasks.{Tasks}
-use Rattle.b67_task_tables.specs.Tables.{TasksShow, given_of}
-use Rattle.b67_task_switch.specs.declared.counting.Chosen.{Chosen}
-use Rattle.b67_task_switch.specs.Counted.{choice_of}
+use Rattle.b67_task.specs.declared.tables.Tasks.{Tasks}
+use Rattle.b67_task.specs.Tables.{TasksShow, given_of}
+use Rattle.b67_task.specs.declared.counting.Chosen.{Chosen}
+use Rattle.b67_task.specs.Counted.{choice_of}
 
 -- one operator of the chosen task was counted: tables that show what it made of its job show the session after the step
 pub record IsCounted (c : Chosen) (old new : Tasks) : Type 0 where

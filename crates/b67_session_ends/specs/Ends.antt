@@ -8,11 +8,11 @@ use Rattle.b67_session_lines.specs.Parts.{TookRest, TookMore}
 use Rattle.b67_stack.specs.Represents.{Storage}
 use Rattle.b67_layout.specs.Placement.{Placement}
 use Rattle.b67_layout.specs.Orders.{IsInOrderButCounts}
-use Rattle.b67_task_tables.specs.declared.tables.TaskRow.{TaskRow}
-use Rattle.b67_task_tables.specs.declared.tables.Machine.{Machine}
-use Rattle.b67_task_tables.specs.Tables.{MachineRepresents}
-pub use Rattle.b67_task_end_tables.specs.Deaths.{LeavesInPlace}
-pub use Rattle.b67_task_end_tables.specs.Families.{StandsForSession, StandsInPlace, IsFamilyOf, EndsFamily}
+use Rattle.b67_task.specs.declared.tables.TaskRow.{TaskRow}
+use Rattle.b67_task.specs.declared.tables.Machine.{Machine}
+use Rattle.b67_task.specs.Tables.{MachineRepresents}
+pub use Rattle.b67_task.specs.Deaths.{LeavesInPlace}
+pub use Rattle.b67_task.specs.Families.{StandsForSession, StandsInPlace, IsFamilyOf, EndsFamily}
 use Rattle.b67_law.specs.Orders.{IsInOrderButLimit}
 
 -- the row of a job's first task

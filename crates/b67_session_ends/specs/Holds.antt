@@ -5,12 +5,12 @@ use Rattle.b67_model.specs.Common.{Stepped, step, Session, Condition, Task, Job,
 use Rattle.b67_model.specs.Endings.{goes_on}
 use Rattle.b67_stack.specs.Represents.{Storage}
 use Rattle.b67_layout.specs.Common.{Placement, slot_of, shown}
-use Rattle.b67_task_tables.specs.declared.tables.TaskState.{TaskState}
-use Rattle.b67_task_tables.specs.declared.tables.TaskRow.{TaskRow}
-use Rattle.b67_task_tables.specs.declared.tables.Tasks.{Tasks}
-use Rattle.b67_task_tables.specs.declared.tables.Machine.{Machine}
-use Rattle.b67_task_tables.specs.Tables.{state_of}
-use Rattle.b67_task_switch.specs.declared.counting.Chosen.{Chosen}
+use Rattle.b67_task.specs.declared.tables.TaskState.{TaskState}
+use Rattle.b67_task.specs.declared.tables.TaskRow.{TaskRow}
+use Rattle.b67_task.specs.declared.tables.Tasks.{Tasks}
+use Rattle.b67_task.specs.declared.tables.Machine.{Machine}
+use Rattle.b67_task.specs.Tables.{state_of}
+use Rattle.b67_task.specs.declared.counting.Chosen.{Chosen}
 use Rattle.b67_session_ends.specs.Closing.{StandsChosen}
 
 -- the job in which this task waits so

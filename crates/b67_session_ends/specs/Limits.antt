@@ -1,7 +1,7 @@
 -- Whether a job is at its limit, by the tables.
 use Rattle.std.specs.Prelude.{◌≡◌, ◌-◌, ◌==◌, ◌≤◌, Bool, true, Some, slice_get}
-use Rattle.b67_task_tables.specs.declared.tables.JobRow.{JobRow}
-use Rattle.b67_task_tables.specs.declared.tables.Tasks.{Tasks}
+use Rattle.b67_task.specs.declared.tables.JobRow.{JobRow}
+use Rattle.b67_task.specs.declared.tables.Tasks.{Tasks}
 
 -- whether the job that made the last operator has made as many as it may
 pub record AtLimit (tasks : Tasks) (at : Bool) : Type 0 where

@@ -4,8 +4,8 @@ use Rattle.b67_model.specs.Common.{IsInOrderButPlaces, StepResult, live_tasks, S
 use Rattle.b67_session_lines.specs.Moments.{last_part}
 use Rattle.b67_stack.specs.Represents.{Storage}
 use Rattle.b67_layout.specs.Placement.{Placement}
-use Rattle.b67_task_tables.specs.declared.tables.Machine.{Machine}
-use Rattle.b67_task_tables.specs.Tables.{MachineRepresents}
+use Rattle.b67_task.specs.declared.tables.Machine.{Machine}
+use Rattle.b67_task.specs.Tables.{MachineRepresents}
 use Rattle.b67_law.specs.Orders.{IsInOrderButLimit}
 
 -- the machine represents a session in order, and this is known of what the device's sectors hold

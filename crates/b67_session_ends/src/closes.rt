@@ -12,9 +12,9 @@ ghost use Rattle.b67_layout.specs.Meets.{with_job};
 ghost use Rattle.b67_layout.specs.Orders.{IsInOrderButCounts};
 ghost use Rattle.b67_layout.specs.Placement.{Placement};
 ghost use Rattle.b67_law.specs.Turns.{part_of};
-ghost use Rattle.b67_task_tables.specs.Tables.{MachineRepresents};
-ghost use Rattle.b67_task_switch.specs.Counted.{choice_of, CountsHaveRoom};
-ghost use Rattle.b67_task_tables.specs.Runs.{Keeps};
+ghost use Rattle.b67_task.specs.Tables.{MachineRepresents};
+ghost use Rattle.b67_task.specs.Counted.{choice_of, CountsHaveRoom};
+ghost use Rattle.b67_task.specs.Runs.{Keeps};
 ghost use Rattle.b67_session_ends.specs.Closing.{HasJobOf, StandsChosen, ChoseSome, Closes, left_ready};
 ghost use Rattle.b67_session_ends.specs.Ends.{StandsInPlace};
 
@@ -24,10 +24,7 @@ use crate::left::{goes_on, with_stuck};
 use crate::limits::has_row;
 use crate::texts::put_endings;
 use b67_io::Sink;
-use b67_task_end::endings;
-use b67_task_end_tables::end_family;
-use b67_task_switch::Chosen;
-use b67_task_tables::Machine;
+use b67_task::{Chosen, Machine, end_family, endings};
 use b67_word::{Ending, Failed};
 
 /// If no task of a job goes on, as was seen, all of them end. What is left lies where it lay.

@@ -1,10 +1,9 @@
 //! One operator more is counted.
 
-ghost use Rattle.b67_task_switch.specs.Counted.{CountsHaveRoom};
+ghost use Rattle.b67_task.specs.Counted.{CountsHaveRoom};
 ghost use Rattle.b67_session_ends.specs.Counts.{IsCounted};
 
-use b67_task_switch::{Chosen, count};
-use b67_task_tables::Tasks;
+use b67_task::{Chosen, Tasks, count};
 
 /// Counts one operator of the chosen task. Nothing is printed yet then of what comes next.
 #[inline(always)]

@@ -11,13 +11,11 @@ ghost use Rattle.b67_stack.specs.Represents.{Storage};
 ghost use Rattle.b67_layout.specs.Meets.{with_job};
 ghost use Rattle.b67_layout.specs.Orders.{IsInOrderButCounts};
 ghost use Rattle.b67_layout.specs.Placement.{Placement};
-ghost use Rattle.b67_task_tables.specs.Tables.{MachineRepresents};
+ghost use Rattle.b67_task.specs.Tables.{MachineRepresents};
 ghost use Rattle.b67_session_ends.specs.Ends.{StandsInPlace, IsFirstRow, JobLives};
 
 use arrayvec::ArrayVec;
-use b67_task_end::endings;
-use b67_task_end_tables::end_family;
-use b67_task_tables::{MOST_LISTED, Machine, TaskRow};
+use b67_task::{MOST_LISTED, Machine, TaskRow, end_family, endings};
 use b67_word::Ending;
 
 /// Tasks that end in one way.

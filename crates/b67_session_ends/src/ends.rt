@@ -7,8 +7,8 @@ ghost use Rattle.b67_model.specs.Schedule.{Session};
 ghost use Rattle.b67_session_lines.specs.Moments.{last_part};
 ghost use Rattle.b67_stack.specs.Represents.{Storage};
 ghost use Rattle.b67_layout.specs.Placement.{Placement};
-ghost use Rattle.b67_task_tables.specs.Runs.{Keeps};
-ghost use Rattle.b67_task_tables.specs.Tables.{MachineRepresents};
+ghost use Rattle.b67_task.specs.Runs.{Keeps};
+ghost use Rattle.b67_task.specs.Tables.{MachineRepresents};
 ghost use Rattle.b67_law.specs.Orders.{IsInOrderButLimit};
 ghost use Rattle.b67_session_ends.specs.Ends.{StandsBetween, HasLimited, LimitEnds, Finishes};
 
@@ -16,8 +16,7 @@ use crate::deaths::{all_ended, end_job};
 use crate::limits::is_at_limit;
 use crate::texts::put_endings;
 use b67_io::Sink;
-use b67_task_end::live_of;
-use b67_task_tables::Machine;
+use b67_task::{Machine, live_of};
 use b67_word::{Ending, Failed};
 
 /// The job that made the last operator stands at its limit with live tasks: what isn't printed yet of the lines of LIMIT is

@@ -7,8 +7,8 @@ ghost use Rattle.b67_model.specs.State.{Condition, Task, SessionJob};
 ghost use Rattle.b67_stack.specs.Represents.{Storage};
 ghost use Rattle.b67_layout.specs.Placement.{Placement};
 ghost use Rattle.b67_law.specs.Turns.{part_of};
-ghost use Rattle.b67_task_switch.specs.Counted.{choice_of, CountsHaveRoom};
-ghost use Rattle.b67_task_tables.specs.Runs.{Keeps};
+ghost use Rattle.b67_task.specs.Counted.{choice_of, CountsHaveRoom};
+ghost use Rattle.b67_task.specs.Runs.{Keeps};
 ghost use Rattle.b67_session_ends.specs.Closing.{StandsChosen, Closes};
 ghost use Rattle.b67_session_ends.specs.Holds.{waiting_step, HoldsSo, HoldsSome};
 
@@ -18,8 +18,7 @@ use crate::left::goes_on;
 use crate::states::{set_state, stuck};
 use crate::texts::put_endings;
 use b67_io::Sink;
-use b67_task_switch::Chosen;
-use b67_task_tables::{Machine, TaskState};
+use b67_task::{Chosen, Machine, TaskState};
 use b67_word::Failed;
 
 /// The step of the chosen task makes it wait, and its row shows the state: if no task of its job is ready then, what isn't

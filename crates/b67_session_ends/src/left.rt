@@ -10,13 +10,12 @@ ghost use Rattle.b67_model.specs.Endings.{all_with, deadlocked, ends_task};
 ghost use Rattle.b67_model.specs.Schedule.{Session};
 ghost use Rattle.b67_model.specs.State.{SessionJob};
 ghost use Rattle.b67_layout.specs.Placement.{Placement};
-ghost use Rattle.b67_task_tables.specs.declared.tables.TheConstants.{NO_PARENT};
-ghost use Rattle.b67_task_end.specs.Family.{TablesHold, HasSomeHead};
+ghost use Rattle.b67_task.specs.declared.tables.TheConstants.{NO_PARENT};
+ghost use Rattle.b67_task.specs.Family.{TablesHold, HasSomeHead};
 ghost use Rattle.b67_session_ends.specs.Closing.{left_ready, others_of};
 
 use arrayvec::ArrayVec;
-use b67_task_end::{is_among, live_of};
-use b67_task_tables::{MOST_ENDED, TaskRow, TaskState, Tasks};
+use b67_task::{MOST_ENDED, TaskRow, TaskState, Tasks, is_among, live_of};
 use b67_word::Ending;
 
 /// Whether a row's task is of a job, and is left and ready once these have ended.

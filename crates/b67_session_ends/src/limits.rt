@@ -6,10 +6,10 @@ ghost use Rattle.b67_model.specs.InOrder.{NumberedFrom};
 ghost use Rattle.b67_model.specs.Schedule.{Session};
 ghost use Rattle.b67_session_lines.specs.Moments.{last_part};
 ghost use Rattle.b67_layout.specs.Placement.{Placement};
-ghost use Rattle.b67_task_tables.specs.Tables.{TasksShow};
+ghost use Rattle.b67_task.specs.Tables.{TasksShow};
 ghost use Rattle.b67_session_ends.specs.Limits.{AtLimit};
 
-use b67_task_tables::{TaskRow, Tasks};
+use b67_task::{TaskRow, Tasks};
 
 /// Whether the job that made the last operator has made as many as it may.
 #[inline(always)]

@@ -7,16 +7,15 @@ ghost use Rattle.b67_model.specs.Endings.{deadlocked, unsettled};
 ghost use Rattle.b67_model.specs.Schedule.{Session};
 ghost use Rattle.b67_model.specs.State.{SessionJob};
 ghost use Rattle.b67_layout.specs.Placement.{Placement};
-ghost use Rattle.b67_task_tables.specs.declared.tables.TaskRow as table;
-ghost use Rattle.b67_task_tables.specs.declared.tables.TheConstants.{NO_PARENT};
-ghost use Rattle.b67_task_end.specs.Family.{TablesHold, HasSomeHead};
+ghost use Rattle.b67_task.specs.declared.tables.TaskRow as table;
+ghost use Rattle.b67_task.specs.declared.tables.TheConstants.{NO_PARENT};
+ghost use Rattle.b67_task.specs.Family.{TablesHold, HasSomeHead};
 ghost use Rattle.b67_session_ends.specs.Closing.{left_ready};
 ghost use Rattle.b67_session_ends.specs.Holds.{with_state};
 
 use crate::deaths::all_ended;
 use arrayvec::ArrayVec;
-use b67_task_end::live_of;
-use b67_task_tables::{MOST_LISTED, TaskState, Tasks};
+use b67_task::{MOST_LISTED, TaskState, Tasks, live_of};
 use b67_word::Ending;
 
 /// Sets the state in a row, and gives the one that stood there.

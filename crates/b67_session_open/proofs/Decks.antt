@@ -19,9 +19,9 @@ use Rattle.b67_layout.specs.Rows.{JobRow, TaskRow, TablesShow}
 use Rattle.b67_session_open.specs.Opened.{opening_plan, programs_of}
 use Rattle.b67_session_open.specs.Tables.{first_row, first_rows, opening_rows, opening_counts}
 use Rattle.b67_session_open.proofs.InitialTables.{tables_show}
-use Rattle.b67_task_tables.specs.declared.tables.JobRow as kept
-use Rattle.b67_task_tables.specs.declared.tables.TaskRow as task
-use Rattle.b67_task_tables.specs.Tables.{switch_of, task_row, Given}
+use Rattle.b67_task.specs.declared.tables.JobRow as kept
+use Rattle.b67_task.specs.declared.tables.TaskRow as task
+use Rattle.b67_task.specs.Tables.{switch_of, task_row, Given}
 use Rattle.b67_session_open.specs.Decks.{openings_of, session_of, jobs_given, deck_given, rows_given, JobInRange, DeckInRange, IsLoaded, IsCountable}
 
 bits_fit : (tag : ℕ) (ws : List Tagged) → AllByRecursion (HasTag tag) ws → AllByRecursion (λ (n : ℕ). n < 2 ^ 48) (contents ws)

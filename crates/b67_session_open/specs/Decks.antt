@@ -10,8 +10,8 @@ use Rattle.b67_codefile.specs.Meaning.{program_of}
 use Rattle.b67_model.specs.Common.{IsAdmitted, SwitchesRise}
 pub use Rattle.b67_model_text.specs.Opening.{opening_of, openings_of, session_of}
 use Rattle.b67_model_text.specs.Opening.{switch_of}
-use Rattle.b67_task_tables.specs.Tables.{JobGiven, Given}
-pub use Rattle.b67_task_tables.specs.Tables.{IsCountable, job_given, rows_given, given_of}
+use Rattle.b67_task.specs.Tables.{JobGiven, Given}
+pub use Rattle.b67_task.specs.Tables.{IsCountable, job_given, rows_given, given_of}
 use Rattle.b67_model.specs.declared.limits.TheConstants.{LEAST_STACK, MOST_JOBS, MOST_LIMIT}
 
 -- within the ranges of cards

@@ -8,9 +8,9 @@ use Rattle.b67_model.specs.Common.{Program}
 use Rattle.b67_stack.specs.Represents.{Storage}
 use Rattle.b67_session_open.specs.Opened.{opening_plan}
 use Rattle.b67_layout.specs.Machine.{content_after}
-use Rattle.b67_task_tables.specs.declared.tables.JobRow.{JobRow}
-use Rattle.b67_task_tables.specs.declared.tables.Machine.{Machine}
-use Rattle.b67_task_tables.specs.Tables.{MachineRepresents}
+use Rattle.b67_task.specs.declared.tables.JobRow.{JobRow}
+use Rattle.b67_task.specs.declared.tables.Machine.{Machine}
+use Rattle.b67_task.specs.Tables.{MachineRepresents}
 use Rattle.b67_session_open.specs.declared.fault.OpenFault.{OpenFault}
 use Rattle.b67_session_open.specs.declared.fault.OpenFault.TheVariants.{Memory, NoCore, BackingFull, BackingFault}
 use Rattle.b67_session_open.specs.Decks.{session_of, deck_given, given_of, IsCountable}

@@ -1,6 +1,6 @@
 -- The rows of tasks and jobs, and the counts, of a session that opens.
 use Rattle.std.specs.Prelude.{ℕ, ◌+◌, List, [], ◌∷◌, length}
-use Rattle.b67_task_tables.specs.declared.tables.TheConstants.{NO_PARENT, NO_ROW}
+use Rattle.b67_task.specs.declared.tables.TheConstants.{NO_PARENT, NO_ROW}
 use Rattle.b67_model.specs.Program.{Program}
 use Rattle.b67_model.specs.Schedule.{Switch}
 use Rattle.b67_law.specs.Opening.{Opening}

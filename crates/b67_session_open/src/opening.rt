@@ -15,7 +15,7 @@ use b67_backing::{Backing, Sectors};
 use b67_core::Core;
 use b67_load::Admitted;
 use b67_model_text::Deck;
-use b67_task_tables::Machine;
+use b67_task::Machine;
 use std::alloc::Global;
 
 /// Opens a deck's session with a program for each job, in a core of that many words over a device: the machine represents

@@ -5,7 +5,7 @@ ghost use Rattle.std.specs.List.{AllByRecursion};
 ghost use Rattle.b67_codefile.specs.Meaning.{program_of};
 ghost use Rattle.b67_session_open.specs.Opened.{opening_plan};
 ghost use Rattle.b67_session_open.specs.Tables.{first_row as first_row_of, first_rows as first_rows_of, opening_row as opening_row_of, opening_rows as opening_rows_of};
-ghost use Rattle.b67_task_tables.specs.Tables.{task_row, job_row, TasksShow};
+ghost use Rattle.b67_task.specs.Tables.{task_row, job_row, TasksShow};
 ghost use Rattle.b67_session_open.specs.Decks.{opening_of, openings_of, session_of, given_to, jobs_given, deck_given, job_given, rows_given, given_of, JobInRange, DeckInRange, IsLoaded, IsCountable};
 ghost use Rattle.b67_model.specs.declared.limits.TheConstants.{MOST_JOBS};
 
@@ -15,7 +15,7 @@ use arrayvec::ArrayVec;
 use b67_ctl::FIRST_DICTIONARY;
 use b67_load::Admitted;
 use b67_model_text::{Deck, Job};
-use b67_task_tables::{JobRow, JobRows, MOST_ROWS, NO_PARENT, NO_ROW, TaskRow, TaskState, Tasks};
+use b67_task::{JobRow, JobRows, MOST_ROWS, NO_PARENT, NO_ROW, TaskRow, TaskState, Tasks};
 use b67_word::Place;
 use std::alloc::{AllocError, Global};
 

@@ -2,7 +2,7 @@
 use Rattle.std.proofs.Common.{◌≡◌, inl, inr, ◌+◌, ℕ, List, length, Option, None, Some, IfSome, refl, sym, subst}
 use Rattle.std.proofs.lemmas.Option.{same_Some}
 use denote.Ref.{Bor}
-use Rattle.b67_task_tables.specs.declared.tables.Machine.{Machine}
+use Rattle.b67_task.specs.declared.tables.Machine.{Machine}
 use Rattle.b67_job.specs.Device.{Device}
 use Rattle.b67_session.specs.Slices.{IsOpen}
 use Rattle.b67_job.specs.Due.{IsOpenedOrResumed}

@@ -6,7 +6,7 @@ use crate::given::{nth, paper_of, same};
 use b67_core::to_number;
 use b67_image::{read_image, write_image};
 use b67_io::{Paper, Tape};
-use b67_task_tables::{JobRow, Machine, TaskState};
+use b67_task::{JobRow, Machine, TaskState};
 use b67_word::{Bytes, Numbers};
 use std::alloc::Global;
 use std::process::Abort;

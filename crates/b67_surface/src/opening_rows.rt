@@ -10,7 +10,7 @@ use b67_core::Core;
 use b67_load::{Admitted, verify};
 use b67_model_text::{Body, Deck, Job, Jobs, Name, Switches};
 use b67_session_open::{OpenFault, open};
-use b67_task_tables::{JobRow, Machine};
+use b67_task::{JobRow, Machine};
 use b67_word::{Bytes, Numbers, Word};
 use std::alloc::Global;
 use std::process::Abort;

@@ -13,12 +13,12 @@ use Rattle.b67_layout.specs.Common.{IsInOrderButCounts, Placement, slot_of, spot
 use Rattle.b67_layout.specs.Rows as rows
 use Rattle.b67_layout.proofs.Fresh.{job_in_order}
 use Rattle.b67_layout.proofs.Rows.{slot_below}
-use Rattle.b67_task_tables.specs.declared.tables.TaskRow.{TaskRow}
-use Rattle.b67_task_tables.specs.declared.tables.Machine.{Machine}
-use Rattle.b67_task_tables.specs.Tables as tables
-use Rattle.b67_task_tables.specs.Tables.{MachineRepresents, counts_of, job_row}
-use Rattle.b67_task_end_stack.proofs.Owners.{counted}
-use Rattle.b67_task_end_tables.proofs.TopMarks.{Under, one_frame, one_slot, one_task, under_of, under_row}
+use Rattle.b67_task.specs.declared.tables.TaskRow.{TaskRow}
+use Rattle.b67_task.specs.declared.tables.Machine.{Machine}
+use Rattle.b67_task.specs.Tables as tables
+use Rattle.b67_task.specs.Tables.{MachineRepresents, counts_of, job_row}
+use Rattle.b67_task.proofs.Owners.{counted}
+use Rattle.b67_task.proofs.TopMarks.{Under, one_frame, one_slot, one_task, under_of, under_row}
 use Rattle.b67_task.specs.Marks.{MarkStandsAt, IsMarkAt, depends_on}
 
 -- ---- marks of frames

@@ -3,7 +3,7 @@ use Rattle.std.specs.Prelude.{◌≡◌, ℕ, ◌==◌, ◌&&◌, ◌⊎◌, Boo
 use Rattle.b67_lemmas.specs.Lists.{Has}
 use Rattle.b67_model.specs.Common.{Frame, Task, SessionJob, height, Session}
 use Rattle.b67_layout.specs.Placement.{Placement, slot_of}
-use Rattle.b67_task_tables.specs.declared.tables.TaskRow.{TaskRow}
+use Rattle.b67_task.specs.declared.tables.TaskRow.{TaskRow}
 
 -- the mark of a frame stands at this height: the words of the frames below it
 abbrev pub MarkStandsAt : List Frame → Frame → ℕ → Type 0

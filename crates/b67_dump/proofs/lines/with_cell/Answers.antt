@@ -3,7 +3,7 @@ use Rattle.std.specs.Prelude.{◌==◌}
 use Rattle.std.proofs.lemmas.Bool.{eq-eqb, ne_eqb}
 use Rattle.b67_word.specs.Tagged.{Tagged, bits_at}
 use Rattle.b67_stack.specs.Shapes.{Shape, Is}
-use Rattle.b67_task_tables.specs.Tables.{job_row}
+use Rattle.b67_task.specs.Tables.{job_row}
 use Rattle.b67_layout_shown.specs.Reading.{word_seen_at, shape_by, desc_in, descriptor_by}
 use Rattle.b67_layout_shown.specs.Machines.{sight_of}
 use Rattle.b67_dump.specs.Dump.{beside}

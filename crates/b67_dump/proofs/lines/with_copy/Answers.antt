@@ -1,5 +1,5 @@
 use Rattle.std.proofs.Common.{ℕ, ◌++◌, codes, decimal, ◌∙◌, ap}
-use Rattle.b67_task_tables.specs.Tables.{job_row}
+use Rattle.b67_task.specs.Tables.{job_row}
 use Rattle.b67_layout_shown.specs.Machines.{sight_of}
 use Rattle.b67_layout_shown.specs.Reading.{home_by, is_set}
 use Rattle.b67_word.specs.Tagged.{bits_at}

@@ -1,5 +1,5 @@
 use Rattle.std.proofs.Common.{◌-◌, ◌≤◌, Ok}
-use Rattle.b67_task_tables.specs.Tables.{job_row}
+use Rattle.b67_task.specs.Tables.{job_row}
 use Rattle.b67_layout_shown.specs.Reading.{cells_in}
 use Rattle.b67_layout_shown.specs.Machines.{sight_of}
 use Rattle.b67_dump.specs.Walk.{shapes_text}

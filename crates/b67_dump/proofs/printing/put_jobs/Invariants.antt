@@ -1,5 +1,5 @@
 use Rattle.std.proofs.Common.{map}
-use Rattle.b67_task_tables.specs.Tables.{job_row}
+use Rattle.b67_task.specs.Tables.{job_row}
 use Rattle.b67_layout_shown.specs.Machines.{sight_of}
 use Rattle.b67_dump.proofs.Printed.{IsPutTo}
 use Rattle.b67_dump.proofs.printing.put_jobs.Given as goal

@@ -2,7 +2,7 @@ use Rattle.std.proofs.Common.{ℕ, ◌+◌, ◌-◌, ◌++◌, List, refl, codes
 use Rattle.b67_word.specs.Tagged.{bits_at}
 use Rattle.b67_io.specs.Line.{ended}
 use Rattle.b67_stack.specs.Shapes.{Shape}
-use Rattle.b67_task_tables.specs.Tables.{job_row}
+use Rattle.b67_task.specs.Tables.{job_row}
 use Rattle.b67_layout_shown.specs.Reading.{cells_in}
 use Rattle.b67_layout_shown.specs.Machines.{sight_of}
 use Rattle.b67_dump.specs.Dump.{beside}

@@ -1,6 +1,6 @@
 use Rattle.std.proofs.Common.{sym}
 use Rattle.b67_io.specs.Line.{ended}
-use Rattle.b67_task_tables.specs.Tables.{task_row, job_row}
+use Rattle.b67_task.specs.Tables.{task_row, job_row}
 use Rattle.b67_layout_shown.specs.Machines.{sight_of}
 use Rattle.b67_dump.proofs.Putting.{puts_then, puts_stop, puts_as}
 use Rattle.b67_dump.proofs.Printed.{task_is}

@@ -1,5 +1,5 @@
 use Rattle.std.proofs.Common.{◌≤◌, length, map, drop, Ok}
-use Rattle.b67_task_tables.specs.Tables.{task_row, job_row}
+use Rattle.b67_task.specs.Tables.{task_row, job_row}
 use Rattle.b67_layout_shown.specs.Machines.{sight_of}
 use Rattle.b67_dump.specs.Put.{PutsText}
 use Rattle.b67_dump.specs.Walk.{rows_dump}

@@ -1,5 +1,5 @@
 use Rattle.std.proofs.Common.{List, ℕ, Result, sym, subst}
-use Rattle.b67_task_tables.specs.declared.tables.Machine.{Machine}
+use Rattle.b67_task.specs.declared.tables.Machine.{Machine}
 use Rattle.b67_image.specs.declared.fault.ImageFault.{ImageFault}
 use Rattle.b67_image.specs.Meaning.{IsTold, IsMeant, parts_told, told_in}
 use Rattle.b67_image.proofs.Answering.{meant, unmeant}

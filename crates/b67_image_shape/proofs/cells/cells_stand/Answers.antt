@@ -1,6 +1,6 @@
 use Rattle.std.proofs.Common.{sym, ◌∙◌, arith, ◌-◌}
 use Rattle.b67_layout_shown.specs.Machines.{sight_of}
-use Rattle.b67_task_tables.specs.Tables.{task_row, job_row}
+use Rattle.b67_task.specs.Tables.{task_row, job_row}
 use Rattle.b67_image_shape.proofs.CellTurns.{cells_next, cells_stop}
 use Rattle.b67_image_shape.proofs.cells.cells_stand.Goals as goal
 

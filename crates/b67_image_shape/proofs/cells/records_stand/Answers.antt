@@ -1,6 +1,6 @@
 use Rattle.std.proofs.Common.{◌≡◌, sym, ◌∙◌, ap, arith, ◌-◌}
 use Rattle.b67_layout_shown.specs.Machines.{sight_of}
-use Rattle.b67_task_tables.specs.Tables.{task_row, job_row}
+use Rattle.b67_task.specs.Tables.{task_row, job_row}
 use Rattle.b67_image_shape.specs.CellWalk.{records_stand}
 use Rattle.b67_image_shape.proofs.CellTurns.{record_falls, record_last, record_next, records_end}
 use Rattle.b67_image_shape.proofs.cells.records_stand.Goals as goal

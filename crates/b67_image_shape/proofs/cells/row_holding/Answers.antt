@@ -1,7 +1,7 @@
 use Rattle.std.proofs.Common.{arith, refl, sym, ◌∙◌, map}
 use Rattle.std.proofs.lemmas.List.{at_drop_all}
 use Rattle.b67_layout_shown.specs.Machines.{sight_of}
-use Rattle.b67_task_tables.specs.Tables.{task_row}
+use Rattle.b67_task.specs.Tables.{task_row}
 use Rattle.b67_image_shape.specs.CellWalk.{row_holding}
 use Rattle.b67_image_shape.proofs.CellTurns.{holding_step}
 use Rattle.b67_image_shape.proofs.cells.row_holding.Goals as goal

@@ -1,5 +1,5 @@
 use Rattle.std.proofs.Common.{◌≡◌, length, map, max}
-use Rattle.b67_task_tables.specs.Tables.{task_row}
+use Rattle.b67_task.specs.Tables.{task_row}
 use Rattle.b67_image_shape.specs.FixedWords.{greatest}
 use Rattle.b67_image_shape.proofs.critical_marks.greatest_of.Given as goal
 

@@ -1,5 +1,5 @@
 use Rattle.std.proofs.Common.{◌≡◌, ◌≤◌, map}
-use Rattle.b67_task_tables.specs.Tables.{task_row}
+use Rattle.b67_task.specs.Tables.{task_row}
 use Rattle.b67_image_shape.specs.FixedTests.{all_below, mark_test}
 use Rattle.b67_image_shape.proofs.critical_marks.marks_are.Given as goal
 

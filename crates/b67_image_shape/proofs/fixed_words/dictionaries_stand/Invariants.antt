@@ -1,5 +1,5 @@
 use Rattle.std.proofs.Common.{◌≡◌, ◌<◌, ◌^◌, length, map}
-use Rattle.b67_task_tables.specs.Tables.{job_row}
+use Rattle.b67_task.specs.Tables.{job_row}
 use Rattle.b67_image_shape.specs.FixedTests.{dictionaries_test}
 use Rattle.b67_image_shape.proofs.fixed_words.dictionaries_stand.Given as goal
 

@@ -1,5 +1,5 @@
 use Rattle.std.proofs.Common.{◌≡◌, ◌≤◌, map}
-use Rattle.b67_task_tables.specs.Tables.{task_row}
+use Rattle.b67_task.specs.Tables.{task_row}
 use Rattle.b67_image_shape.specs.FixedTests.{all_below, slot_test}
 use Rattle.b67_image_shape.proofs.fixed_words.slots_stand.Given as goal
 

@@ -1,7 +1,7 @@
 use Rattle.std.proofs.Common.{List, map, sym, ◌∙◌, ap}
 use Rattle.b67_layout_shown.specs.Machines.{sight_of}
-use Rattle.b67_task_tables.specs.declared.tables.TaskRow.{TaskRow}
-use Rattle.b67_task_tables.specs.Tables.{task_row}
+use Rattle.b67_task.specs.declared.tables.TaskRow.{TaskRow}
+use Rattle.b67_task.specs.Tables.{task_row}
 use Rattle.b67_image_shape.specs.TableFacts.{row_in_slot}
 use Rattle.b67_image_shape.specs.Reaching.{outside_at}
 use Rattle.b67_image_shape.proofs.ReachTurns.{parent_next}

@@ -1,7 +1,7 @@
 use Rattle.std.proofs.Common.{List, map, ◌∙◌, ap}
 use Rattle.b67_layout_shown.specs.Machines.{sight_of}
-use Rattle.b67_task_tables.specs.declared.tables.TaskRow.{TaskRow}
-use Rattle.b67_task_tables.specs.Tables.{task_row}
+use Rattle.b67_task.specs.declared.tables.TaskRow.{TaskRow}
+use Rattle.b67_task.specs.Tables.{task_row}
 use Rattle.b67_image_shape.specs.TableTests.{tables_test}
 use Rattle.b67_image_shape.specs.FixedTests.{fixed_test, critical_test}
 use Rattle.b67_image_shape.specs.Shaping.{FrontFacts}

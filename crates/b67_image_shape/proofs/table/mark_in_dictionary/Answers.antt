@@ -1,6 +1,6 @@
 use Rattle.std.proofs.Common.{arith, refl, sym, ◌∙◌, map}
 use Rattle.std.proofs.lemmas.List.{at_drop_all}
-use Rattle.b67_task_tables.specs.Tables.{job_row}
+use Rattle.b67_task.specs.Tables.{job_row}
 use Rattle.b67_image_shape.specs.ObjectTable.{mark_in_dictionary}
 use Rattle.b67_image_shape.proofs.TableTurns.{entry_later, entry_found, segment_here, data_here}
 use Rattle.b67_image_shape.proofs.table.mark_in_dictionary.Goals as goal

@@ -1,5 +1,5 @@
 use Rattle.std.proofs.Common.{◌≡◌, map, drop}
-use Rattle.b67_task_tables.specs.Tables.{job_row}
+use Rattle.b67_task.specs.Tables.{job_row}
 use Rattle.b67_image_shape.specs.ObjectTable.{mark_in_dictionary}
 use Rattle.b67_image_shape.proofs.table.mark_in_dictionary.Given as goal
 

@@ -1,7 +1,7 @@
 use Rattle.std.proofs.Common.{◌≤◌, arith, sym, ◌∙◌, ap, subst, map}
 use Rattle.std.specs.Prelude.{List}
-use Rattle.b67_task_tables.specs.declared.tables.JobRow.{JobRow}
-use Rattle.b67_task_tables.specs.Tables.{task_row, job_row}
+use Rattle.b67_task.specs.declared.tables.JobRow.{JobRow}
+use Rattle.b67_task.specs.Tables.{task_row, job_row}
 use Rattle.b67_image_shape.specs.TableFacts.{row_in_slot}
 use Rattle.b67_image_shape.specs.TableMarks.{end_by}
 use Rattle.b67_layout_shown.specs.Machines.{sight_of}

@@ -1,7 +1,7 @@
 use Rattle.std.proofs.Common.{◌≡◌, length, map, nat_lt}
 use Rattle.std.specs.List.{list_all}
 use Rattle.b67_model.specs.Schedule as schedule
-use Rattle.b67_task_tables.specs.Tables.{switch_of}
+use Rattle.b67_task.specs.Tables.{switch_of}
 use Rattle.b67_image_shape.proofs.table_counts.all_below.Given as goal
 
 abbrev pub invariant-each : goal.invariant-each

@@ -1,7 +1,7 @@
 use Rattle.std.proofs.Common.{◌∙◌, sym, ap, List, nat_lt}
 use Rattle.std.specs.List.{list_all, take-map}
 use Rattle.b67_model.specs.Schedule as schedule
-use Rattle.b67_task_tables.specs.Tables.{switch_of}
+use Rattle.b67_task.specs.Tables.{switch_of}
 use Rattle.b67_image_shape.proofs.table_counts.all_past.Goals as goal
 
 pub returns : goal.returns

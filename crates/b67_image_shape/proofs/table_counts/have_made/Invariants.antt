@@ -1,7 +1,7 @@
 use Rattle.std.proofs.Common.{◌≡◌, ◌==◌, length, map}
 use Rattle.b67_lemmas.specs.Lists.{total}
 use Rattle.b67_layout.specs.Rows as rows
-use Rattle.b67_task_tables.specs.Tables.{job_row}
+use Rattle.b67_task.specs.Tables.{job_row}
 use Rattle.b67_image_shape.proofs.table_counts.have_made.Given as goal
 
 abbrev pub invariant-each : goal.invariant-each

@@ -1,5 +1,5 @@
 use Rattle.std.proofs.Common.{◌≡◌, length, map}
-use Rattle.b67_task_tables.specs.Tables.{switch_of}
+use Rattle.b67_task.specs.Tables.{switch_of}
 use Rattle.b67_image_shape.specs.TableTests.{rise_test}
 use Rattle.b67_image_shape.proofs.table_counts.rise.Given as goal
 

@@ -1,6 +1,6 @@
 use Rattle.std.proofs.Common.{◌≡◌, length, map}
 use Rattle.std.specs.List.{list_any}
-use Rattle.b67_task_tables.specs.Tables.{task_row}
+use Rattle.b67_task.specs.Tables.{task_row}
 use Rattle.b67_image_shape.specs.TableFacts.{rows_in}
 use Rattle.b67_image_shape.specs.TableTests.{row_ready}
 use Rattle.b67_image_shape.proofs.table_rows.any_ready.Given as goal

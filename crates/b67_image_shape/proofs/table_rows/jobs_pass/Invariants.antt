@@ -1,5 +1,5 @@
 use Rattle.std.proofs.Common.{◌≡◌, ◌+◌, ◌≤◌, length, map}
-use Rattle.b67_task_tables.specs.Tables.{task_row, job_row}
+use Rattle.b67_task.specs.Tables.{task_row, job_row}
 use Rattle.b67_image_shape.specs.TableTests.{job_test, jobs_pass}
 use Rattle.b67_image_shape.proofs.table_rows.jobs_pass.Given as goal
 

@@ -1,6 +1,6 @@
 use Rattle.std.proofs.Common.{map, sym, ap, arith}
 use Rattle.b67_layout_shown.specs.Machines.{sight_of}
-use Rattle.b67_task_tables.specs.Tables.{task_row, job_row}
+use Rattle.b67_task.specs.Tables.{task_row, job_row}
 use Rattle.b67_image_shape.proofs.StandTurns.{job_some, job_inside, room_inside, stand_next, all_stand, one_falls}
 use Rattle.b67_image_shape.proofs.walk_tasks.each_stands.Goals as goal
 

@@ -2,7 +2,7 @@ use Rattle.std.proofs.Common.{◌-◌, ◌∙◌, ap}
 use Rattle.b67_word.specs.declared.couples.Place.{Place}
 use Rattle.b67_layout_shown.specs.Machines.{sight_of}
 use Rattle.b67_layout_shown.specs.Shown.{top_in}
-use Rattle.b67_task_tables.specs.Tables.{task_row}
+use Rattle.b67_task.specs.Tables.{task_row}
 use Rattle.b67_image_shape.specs.TaskWalk.{is_segment_place}
 use Rattle.b67_image_shape.proofs.walk_tasks.goes_on.Goals as goal
 

@@ -1,6 +1,6 @@
 use Rattle.std.proofs.Common.{sym, ◌∙◌, arith}
 use Rattle.b67_layout_shown.specs.Machines.{sight_of}
-use Rattle.b67_task_tables.specs.Tables.{task_row}
+use Rattle.b67_task.specs.Tables.{task_row}
 use Rattle.b67_image_shape.proofs.StandTests.{low_falls, top_falls, walk_falls, place_falls, stands_if}
 use Rattle.std.proofs.lemmas.Bool.{OnTrue_from, OnFalse_from}
 use Rattle.b67_image_shape.proofs.walk_tasks.task_stands.Goals as goal

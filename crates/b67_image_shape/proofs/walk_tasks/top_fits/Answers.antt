@@ -1,5 +1,5 @@
 use Rattle.b67_layout_shown.specs.Machines.{sight_of}
-use Rattle.b67_task_tables.specs.Tables.{task_row}
+use Rattle.b67_task.specs.Tables.{task_row}
 use Rattle.b67_image_shape.proofs.StandTests.{top_runs_fit, top_waits_fit}
 use Rattle.b67_image_shape.proofs.walk_tasks.top_fits.Goals as goal
 

@@ -1,5 +1,5 @@
 use Rattle.std.proofs.Common.{sym, ◌∙◌, arith}
-use Rattle.b67_task_tables.specs.declared.tables.TaskRow.{TaskRow}
+use Rattle.b67_task.specs.declared.tables.TaskRow.{TaskRow}
 use Rattle.b67_layout_shown.proofs.Tops.{all_ahead, here, further, none_left, slot_mapped}
 use Rattle.b67_layout_shown.proofs.seeing.row_in_slot.Goals as goal
 

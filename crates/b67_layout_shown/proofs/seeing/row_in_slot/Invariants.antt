@@ -1,4 +1,4 @@
-use Rattle.b67_task_tables.specs.declared.tables.TaskRow.{TaskRow}
+use Rattle.b67_task.specs.declared.tables.TaskRow.{TaskRow}
 use Rattle.b67_layout_shown.proofs.Tops.{IsAhead}
 use Rattle.b67_layout_shown.proofs.seeing.row_in_slot.Given as goal
 

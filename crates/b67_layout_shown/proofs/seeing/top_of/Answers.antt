@@ -1,5 +1,5 @@
 use Rattle.std.proofs.Common.{rules}
-use Rattle.b67_task_tables.specs.Tables.{task_row}
+use Rattle.b67_task.specs.Tables.{task_row}
 use Rattle.b67_layout_shown.specs.Machines.{sight_of}
 use Rattle.b67_layout_shown.proofs.Tops.{top_running, top_resting}
 use Rattle.b67_layout_shown.proofs.seeing.top_of.Goals as goal

@@ -7,14 +7,14 @@ use Rattle.b67_model.specs.Common.{Answer, ◌>>=◌, Task, awaits, answered, is
 use Rattle.b67_model.specs.State as State
 use Rattle.b67_layout.specs.Meets.{here}
 use Rattle.b67_layout.proofs.Fresh.{running_in_order}
-use Rattle.b67_task_tables.specs.Tables.{state_of}
-use Rattle.b67_task_end.proofs.Living.{next_at}
+use Rattle.b67_task.specs.Tables.{state_of}
+use Rattle.b67_task.proofs.Living.{next_at}
 use Rattle.b67_mcp.specs.Calls.{job_cut}
 use Rattle.b67_mcp.proofs.Standing.{machine_cut}
 use Rattle.b67_mcp.proofs.WaitArguments.{await_is, may_number}
 use Rattle.b67_mcp.proofs.Awaited.{live_number, await_waits, await_free}
 use Rattle.b67_mcp.proofs.Made.{runs_some, call_some, has_job, answers_critical, answers_cut}
-use Rattle.b67_task_tables.proofs.Keeping.{keeps_same}
+use Rattle.b67_task.proofs.Keeping.{keeps_same}
 use Rattle.b67_mcp.proofs.await_status.await_task.Goals as goal
 
 pub number_in-requires : goal.number_in-requires

@@ -1,7 +1,7 @@
 use Rattle.std.proofs.Common.{◌≡◌, ℤ, ◌∙◌, ap, arith, w64, to_z, of_z}
 use Rattle.std.specs.Prelude.{pos, nat_abs}
 use Rattle.std.proofs.lemmas.Int.{to_z-of_z}
-use Rattle.b67_task_tables.specs.declared.tables.TaskState.TheVariants.{Awaits}
+use Rattle.b67_task.specs.declared.tables.TaskState.TheVariants.{Awaits}
 use Rattle.b67_mcp.proofs.await_status.awaiting.Goals as goal
 
 pub overflow_cast-result : goal.overflow_cast-result

@@ -10,7 +10,7 @@ use Rattle.b67_mcp.specs.Answered.{job_answered}
 use Rattle.b67_mcp.proofs.Standing.{machine_answered, same_size}
 use Rattle.b67_mcp.proofs.WaitArguments.{status_is, may_number}
 use Rattle.b67_mcp.proofs.Made.{runs_some, call_some, has_job, answers_critical, answers_one}
-use Rattle.b67_task_tables.proofs.Keeping.{keeps_same}
+use Rattle.b67_task.proofs.Keeping.{keeps_same}
 use Rattle.b67_mcp.proofs.await_status.status_of.Goals as goal
 
 pub number_in-requires : goal.number_in-requires

@@ -9,8 +9,8 @@ use Rattle.b67_mcp.specs.Lengths.{emptied}
 use Rattle.b67_stack.specs.Shapes.{nowhere}
 use Rattle.b67_stack.proofs.Helds.{held-other}
 use Rattle.b67_mcp.specs.Called.{is_emptied}
-use Rattle.b67_task_tables.specs.declared.tables.Machine.{Machine}
-use Rattle.b67_task_tables.specs.Tables.{MachineRepresents}
+use Rattle.b67_task.specs.declared.tables.Machine.{Machine}
+use Rattle.b67_task.specs.Tables.{MachineRepresents}
 use Rattle.b67_mcp.proofs.Callings.{calling, reads_of, call_some}
 use Rattle.b67_mcp.proofs.Cutting.{zeros_fit, order_changed, runs_changed, may_changed, cuts, stands_cut}
 use Rattle.b67_mcp.proofs.Renumbered.{seen}

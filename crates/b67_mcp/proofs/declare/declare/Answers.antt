@@ -8,8 +8,8 @@ use Rattle.b67_layout.specs.Placement.{Placement}
 use Rattle.b67_stack.specs.Shapes.{nowhere}
 use Rattle.b67_stack.proofs.Helds.{held-other}
 use Rattle.b67_mcp.specs.Called.{is_new}
-use Rattle.b67_task_tables.specs.declared.tables.Machine.{Machine}
-use Rattle.b67_task_tables.specs.Tables.{MachineRepresents}
+use Rattle.b67_task.specs.declared.tables.Machine.{Machine}
+use Rattle.b67_task.specs.Tables.{MachineRepresents}
 use Rattle.b67_mcp.proofs.Callings.{calling, reads_of, call_some}
 use Rattle.b67_mcp.proofs.Sizes.{same_size}
 use Rattle.b67_mcp.proofs.Answered.{tables_declared}

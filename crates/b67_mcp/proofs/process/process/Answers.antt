@@ -1,6 +1,6 @@
 use Rattle.std.proofs.Common.{◌≤◌, length, refl, arith}
 use Rattle.b67_layout.proofs.Devices.{Served-none}
-use Rattle.b67_task_tables.proofs.Keeping.{keeps_same}
+use Rattle.b67_task.proofs.Keeping.{keeps_same}
 use Rattle.b67_mcp.proofs.Moved.{content_same}
 use Rattle.b67_mcp.proofs.Starts.{starts_none, answered_none}
 use Rattle.b67_mcp.proofs.process.process.Goals as goal

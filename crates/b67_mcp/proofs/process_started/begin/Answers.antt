@@ -1,6 +1,6 @@
 use Rattle.std.proofs.Common.{◌∙◌, ap}
-use Rattle.b67_task_tables.specs.declared.tables.Tasks.{Tasks}
-use Rattle.b67_task_tables.proofs.Keeping.{keeps_then}
+use Rattle.b67_task.specs.declared.tables.Tasks.{Tasks}
+use Rattle.b67_task.proofs.Keeping.{keeps_then}
 use Rattle.b67_mcp.proofs.Begins.{order1, runs1, cut1, plan1, session1, member1, is_moved}
 use Rattle.b67_mcp.proofs.process_started.begin.Goals as goal
 

@@ -4,8 +4,8 @@ use Rattle.b67_layout.specs.Layout.{machine_view}
 use Rattle.b67_layout.specs.Machine.{content_after}
 use Rattle.b67_layout.proofs.Devices.{Served-none}
 use Rattle.b67_layout.proofs.Untold.{untold}
-use Rattle.b67_task_need.proofs.Shortage.{short_of}
-use Rattle.b67_task_tables.proofs.Keeping.{keeps_same}
+use Rattle.b67_task.proofs.Shortage.{short_of}
+use Rattle.b67_task.proofs.Keeping.{keeps_same}
 use Rattle.b67_mcp.proofs.Moved.{silent, seen_over, stands_moved}
 use Rattle.b67_mcp.proofs.Starts.{starts_one, processed, may_start, stopped, writes, fits_by, same_fault}
 use Rattle.b67_mcp.proofs.process_started.start_asked.Goals as goal

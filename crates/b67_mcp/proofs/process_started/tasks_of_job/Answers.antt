@@ -3,8 +3,8 @@ use Rattle.std.specs.List.{slice_get}
 use Rattle.std.proofs.lemmas.Option.{slice_get_within}
 use Rattle.b67_lemmas.proofs.Members.{keyed_has}
 use Rattle.b67_model.specs.Run.{number_of}
-use Rattle.b67_task_start.proofs.Rows.{rows_few}
-use Rattle.b67_task_tables.specs.declared.tables.TaskRow.{TaskRow}
+use Rattle.b67_task.proofs.Rows.{rows_few}
+use Rattle.b67_task.specs.declared.tables.TaskRow.{TaskRow}
 use Rattle.b67_mcp.proofs.RunningRow.{row_of}
 use Rattle.b67_mcp.specs.Begins.{rows_of_job}
 use Rattle.b67_mcp.proofs.Counts.{counted_tasks, rows_are}

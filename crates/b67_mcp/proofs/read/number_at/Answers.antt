@@ -2,8 +2,8 @@ use Rattle.std.proofs.Common.{◌<◌, ◌^◌, length, refl, sym, subst}
 use Rattle.std.proofs.lemmas.Option.{get_or_from_slice_get}
 use Rattle.b67_layout.specs.Rows.{JobShows}
 use Rattle.b67_mcp.specs.Reads.{ReadSome, ReadMeets}
-use Rattle.b67_task_tables.specs.declared.tables.JobRow.{JobRow}
-use Rattle.b67_task_tables.specs.Tables.{job_row}
+use Rattle.b67_task.specs.declared.tables.JobRow.{JobRow}
+use Rattle.b67_task.specs.Tables.{job_row}
 use Rattle.b67_mcp.proofs.read.number_at.Goals as goal
 
 pub read_number-requires-clause-call : goal.read_number-requires-clause-call

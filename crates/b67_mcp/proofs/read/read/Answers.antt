@@ -5,14 +5,14 @@ use Rattle.b67_word.specs.declared.couples.Place.{Place}
 use Rattle.b67_model.specs.Intrinsics.{read_from}
 use Rattle.b67_layout.specs.Meets.{with_job}
 use Rattle.b67_mcp.specs.Reads.{job_read}
-use Rattle.b67_task_tables.specs.declared.tables.Machine.{Machine}
-use Rattle.b67_task_tables.specs.declared.tables.Tasks.{Tasks}
-use Rattle.b67_task_tables.specs.Tables.{MachineRepresents}
+use Rattle.b67_task.specs.declared.tables.Machine.{Machine}
+use Rattle.b67_task.specs.declared.tables.Tasks.{Tasks}
+use Rattle.b67_task.specs.Tables.{MachineRepresents}
 use Rattle.b67_mcp.proofs.Callings.{calling, reads_of, call_some}
 use Rattle.b67_mcp.proofs.Sizes.{same_size, kept_is}
 use Rattle.b67_mcp.proofs.Numbers.{job_in, tasks_same, same_given, tables_read}
-use Rattle.b67_task_tables.specs.Tables.{given_of}
-use Rattle.b67_task_tables.proofs.Keeping.{rows_put, given_put}
+use Rattle.b67_task.specs.Tables.{given_of}
+use Rattle.b67_task.proofs.Keeping.{rows_put, given_put}
 use Rattle.b67_mcp.proofs.read.read.Goals as goal
 use Rattle.b67_lemmas.proofs.Members.{has_get}
 

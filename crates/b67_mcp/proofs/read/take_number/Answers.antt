@@ -1,6 +1,6 @@
 use Rattle.std.proofs.Common.{List, length, ap, ◌∙◌, slice_set}
 use Rattle.std.specs.List.{slice_get}
-use Rattle.b67_task_tables.specs.declared.tables.JobRow.{JobRow}
+use Rattle.b67_task.specs.declared.tables.JobRow.{JobRow}
 use Rattle.b67_mcp.proofs.read.take_number.Goals as goal
 use Rattle.b67_lemmas.proofs.Places.{came_back}
 

@@ -9,9 +9,9 @@ use Rattle.b67_layout.proofs.Untold.{untold}
 use Rattle.b67_mcp.specs.Lengthening.{job_resized, ResizeMeets}
 use Rattle.b67_mcp.specs.declared.resize.Resizing.{Resizing}
 use Rattle.b67_stack.specs.declared.What.TheVariants as what
-use Rattle.b67_task_tables.specs.declared.tables.Machine.{Machine}
-use Rattle.b67_task_tables.specs.declared.tables.Tasks.{Tasks}
-use Rattle.b67_task_tables.specs.Tables.{MachineRepresents}
+use Rattle.b67_task.specs.declared.tables.Machine.{Machine}
+use Rattle.b67_task.specs.declared.tables.Tasks.{Tasks}
+use Rattle.b67_task.specs.Tables.{MachineRepresents}
 use Rattle.b67_mcp.specs.Called.{is_resized}
 use Rattle.b67_mcp.proofs.Callings.{calling, reads_of, call_some}
 use Rattle.b67_mcp.proofs.Cutting.{resized_fit, order_changed, runs_changed, may_changed, cuts, stands_cut}

@@ -3,7 +3,7 @@ use Rattle.b67_backing.specs.declared.refusals.SpaceFault.{SpaceFault}
 use Rattle.b67_layout.specs.Common.{array_object, machine_view, area_held}
 use Rattle.b67_layout.proofs.Untold.{untold}
 use Rattle.b67_mcp.specs.Lengths.{LengthenMeets}
-use Rattle.b67_task_tables.specs.declared.tables.Machine.{Machine}
+use Rattle.b67_task.specs.declared.tables.Machine.{Machine}
 use Rattle.b67_mcp.specs.declared.ends.Stop.TheVariants.{BackingFault, PrintFault}
 use Rattle.b67_mcp.proofs.Renumbered.{seen, stands_silent}
 use Rattle.b67_mcp.proofs.Lengthened.{area_of, kept_by, stop_faults, stop_silent, is_array, is_present, seen_over, objects_resized, cut_place, set_shorter, set_same, set_longer, set_refused, stands_after}

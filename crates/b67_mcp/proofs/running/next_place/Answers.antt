@@ -5,7 +5,7 @@ use Rattle.b67_model.specs.declared.operators.Op.TheVariants.{Plain}
 use Rattle.b67_model.specs.declared.operators.Code.TheVariants.{Entr}
 use Rattle.b67_model.specs.Common.{code_of}
 use Rattle.b67_layout.proofs.Fresh.{running_in_order}
-use Rattle.b67_task_tables.specs.declared.tables.Machine.{Machine}
+use Rattle.b67_task.specs.declared.tables.Machine.{Machine}
 use Rattle.b67_mcp.specs.Running.{StandsAtEntr}
 use Rattle.b67_mcp.proofs.Behind.{behind_fits, one_on, IsOneOn}
 use Rattle.b67_mcp.proofs.running.next_place.Goals as goal

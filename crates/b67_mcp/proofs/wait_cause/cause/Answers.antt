@@ -5,14 +5,14 @@ use Rattle.b67_word.specs.Tagged.{Tagged, word}
 use Rattle.b67_model.specs.Common.{Answer, ◌>>=◌, End, AtCell, causes}
 use Rattle.b67_layout.specs.Session.{RepresentsSession}
 use Rattle.b67_layout.specs.Meets.{here}
-use Rattle.b67_task_tables.specs.declared.tables.Tasks.{Tasks}
+use Rattle.b67_task.specs.declared.tables.Tasks.{Tasks}
 use Rattle.b67_mcp.specs.Calls.{CutSome}
 use Rattle.b67_mcp.specs.Arguments.{end_given}
 use Rattle.b67_mcp.specs.Woken.{woken_row}
 use Rattle.b67_mcp.proofs.WaitArguments.{cause_is, may_end}
 use Rattle.b67_mcp.proofs.EndCells.{found_here, cause_fault}
 use Rattle.b67_mcp.proofs.Made.{runs_some, call_some}
-use Rattle.b67_task_tables.proofs.Keeping.{keeps_same}
+use Rattle.b67_task.proofs.Keeping.{keeps_same}
 use Rattle.b67_mcp.proofs.Caused.{m2, t2, s2, runs2, order2, stands_caused, may2, made, row_made, made_count, stands_made, row_critical}
 use Rattle.b67_mcp.proofs.wait_cause.cause.Goals as goal
 

@@ -13,7 +13,7 @@ use Rattle.b67_mcp.specs.Arguments.{end_given}
 use Rattle.b67_mcp.proofs.WaitArguments.{wait_is, may_end}
 use Rattle.b67_mcp.proofs.EndCells.{found_here, wait_fault, wait_zero, wait_other}
 use Rattle.b67_mcp.proofs.Made.{runs_some, call_some, answers_critical, answers_cut}
-use Rattle.b67_task_tables.proofs.Keeping.{keeps_same}
+use Rattle.b67_task.proofs.Keeping.{keeps_same}
 use Rattle.b67_mcp.proofs.wait_cause.wait_at.Goals as goal
 
 pub cell_given-requires : goal.cell_given-requires

@@ -1,7 +1,7 @@
 use Rattle.std.proofs.Common.{◌≡◌, ℕ, Some, length, ◌∙◌, ap, arith}
 use Rattle.b67_model.specs.Intrinsics.{await, status, wait, cause}
 use Rattle.b67_mcp.specs.Printed.{StandsAtCall}
-use Rattle.b67_task_tables.specs.declared.tables.Machine.{Machine}
+use Rattle.b67_task.specs.declared.tables.Machine.{Machine}
 use Rattle.b67_mcp.specs.Called.{CallsSome}
 use Rattle.b67_mcp.proofs.Callings.{calling, reads_of}
 use Rattle.b67_mcp.proofs.Waitings.{waits_at, done_at}

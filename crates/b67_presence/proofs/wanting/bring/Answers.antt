@@ -2,7 +2,7 @@ use Rattle.std.proofs.Common.{◌+◌, ◌∙◌, sym, refl, arith, length}
 use Rattle.std.proofs.lemmas.Result.{on_ok_weaker, on_err_weaker}
 use Rattle.b67_layout.specs.Layout.{array_object, machine_view}
 use Rattle.b67_stack.specs.declared.What.TheVariants as what
-use Rattle.b67_task_need.specs.Needing.{need_with}
+use Rattle.b67_task.specs.Needing.{need_with}
 use Rattle.b67_overlay.proofs.Answered.{core_full}
 use Rattle.b67_presence.proofs.Forcing.{same_need, need_is}
 use Rattle.b67_layout_spans.proofs.Sessions.{view_of}

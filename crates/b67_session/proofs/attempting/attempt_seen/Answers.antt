@@ -1,6 +1,6 @@
 use Rattle.std.proofs.Common.{◌≡◌, ◌∙◌, Ok, Err, sym, ap, arith, subst}
 use Rattle.b67_layout.proofs.Devices.{still_tells, Served-then}
-use Rattle.b67_task_tables.specs.declared.tables.Tasks.{Tasks}
+use Rattle.b67_task.specs.declared.tables.Tasks.{Tasks}
 use Rattle.b67_mcp.specs.Running.{JobsHaveRoom}
 use Rattle.b67_session.specs.declared.tries.Tried.{Tried}
 use Rattle.b67_session.specs.declared.tries.Tried.TheVariants.{Made, Absent, Ends, Waits}

@@ -1,8 +1,8 @@
 use Rattle.std.proofs.Common.{sym, subst, arith, length}
 use Rattle.b67_layout.specs.Machine.{content_after}
 use Rattle.b67_layout.proofs.Devices.{Served-none}
-use Rattle.b67_task_tables.specs.declared.tables.Machine.{Machine}
-use Rattle.b67_task_tables.specs.declared.tables.Tasks.{Tasks}
+use Rattle.b67_task.specs.declared.tables.Machine.{Machine}
+use Rattle.b67_task.specs.declared.tables.Tasks.{Tasks}
 use Rattle.b67_mcp.specs.Running.{JobsHaveRoom}
 use Rattle.b67_session.specs.Attempts.{RunsOver, ForEachOver, AttemptRow, TablesStay}
 use Rattle.b67_session.specs.declared.tries.Tried.TheVariants.{Made}

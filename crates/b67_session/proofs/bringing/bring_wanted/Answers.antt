@@ -1,7 +1,7 @@
 use Rattle.std.proofs.Common.{◌≡◌, ◌<◌, Err, length, refl, ap, arith}
 use Rattle.b67_layout_step.proofs.OtherNumbers.{others_in_order}
 use Rattle.b67_backing.specs.declared.refusals.SpaceFault.TheVariants.{NoCore}
-use Rattle.b67_task_need.specs.Needing.{need_with}
+use Rattle.b67_task.specs.Needing.{need_with}
 use Rattle.b67_mcp.specs.declared.ends.Stop.TheVariants.{BackingFull}
 use Rattle.b67_session.proofs.Composed.{same_stop, not_full_ok}
 use Rattle.b67_session.proofs.Runs.{keeps_tasks}

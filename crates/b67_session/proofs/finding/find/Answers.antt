@@ -4,7 +4,7 @@ use Rattle.b67_model.specs.Common.{Session, after}
 use Rattle.b67_layout.specs.Machine.{Says, content_after}
 use Rattle.b67_layout.proofs.Devices.{Served-none, Served-then}
 use Rattle.b67_layout.proofs.Retold.{retold-same}
-use Rattle.b67_task_tables.proofs.Keeping.{keeps_then, countable_kept, halt_kept}
+use Rattle.b67_task.proofs.Keeping.{keeps_then, countable_kept, halt_kept}
 use Rattle.b67_session.specs.AttemptPassed.{CallCauses}
 use Rattle.b67_session.specs.AttemptStops.{Stop}
 use Rattle.b67_session.specs.AttemptStops as stops

@@ -1,7 +1,7 @@
 use Rattle.std.proofs.Common.{◌≡◌, ◌≤◌, ◌+◌, ◌-◌, ℕ, List, Option, refl, sym, ap, ◌∙◌, subst, arith}
 use Rattle.b67_model.specs.Common.{Session, after}
 use Rattle.b67_session_lines.proofs.Statuses.{after-add}
-use Rattle.b67_task_tables.proofs.Keeping.{keeps_then}
+use Rattle.b67_task.proofs.Keeping.{keeps_then}
 use Rattle.b67_session.specs.Slices.{StandsAt}
 use Rattle.b67_session.specs.Steps.{GoesOnInTurn}
 use Rattle.b67_session.specs.Search.{PassesBy}

@@ -1,4 +1,4 @@
-use Rattle.b67_task_switch.proofs.Turns.{seen_row}
+use Rattle.b67_task.proofs.Turns.{seen_row}
 use Rattle.b67_session.proofs.Standing.{chosen_running, chosen_waiting, chosen_waits}
 use Rattle.b67_session.proofs.seeking.heights_of.Goals as goal
 

@@ -4,8 +4,8 @@ use Rattle.std.proofs.lemmas.Option.{same_Some}
 use Rattle.b67_ctl.specs.Layout.{toscw_word}
 use Rattle.b67_ctl.specs.declared.marks.Toscw.{Toscw}
 use Rattle.b67_stack.specs.Stacks.{toscw_of}
-use Rattle.b67_task_switch.proofs.Words.{waiting_word, waiting_top}
-use Rattle.b67_task_switch.proofs.Loading.{base_is}
+use Rattle.b67_task.proofs.TopWords.{waiting_word, waiting_top}
+use Rattle.b67_task.proofs.Loading.{base_is}
 use Rattle.b67_session.proofs.seeking.heights_waiting.Goals as goal
 
 pub returns : goal.returns

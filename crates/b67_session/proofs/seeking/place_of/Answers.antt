@@ -1,7 +1,7 @@
 use Rattle.std.proofs.Common.{ap, ◌∙◌}
 use Rattle.b67_lemmas.proofs.Places.{get_within}
-use Rattle.b67_task_tables.specs.declared.tables.TaskRow.{TaskRow}
-use Rattle.b67_task_switch.proofs.Turns.{seen_row}
+use Rattle.b67_task.specs.declared.tables.TaskRow.{TaskRow}
+use Rattle.b67_task.proofs.Turns.{seen_row}
 use Rattle.b67_session.proofs.Standing.{code_place, its_who, in_registers, in_row}
 use Rattle.b67_session.proofs.seeking.place_of.Goals as goal
 

@@ -2,7 +2,7 @@ use Rattle.std.proofs.Common.{rules, ◌≢◌, ℕ, List, Option, None, sym, ap
 use Rattle.b67_layout.specs.Machine.{content_after}
 use Rattle.b67_layout.proofs.Devices.{Served-none}
 use Rattle.b67_layout.proofs.Retold.{retold-same}
-use Rattle.b67_task_tables.specs.declared.tables.Tasks.{Tasks}
+use Rattle.b67_task.specs.declared.tables.Tasks.{Tasks}
 use Rattle.b67_session.specs.AttemptPassed.{AreCountable}
 use Rattle.b67_session.specs.Slices.{StandsLimited, goes_well}
 use Rattle.b67_session.proofs.Shaping.{shaped}
@@ -10,7 +10,7 @@ use Rattle.b67_session.proofs.Going.{Going, going-begins, going-ended}
 use Rattle.b67_session.proofs.Pausing.{says_retold}
 use Rattle.b67_session.proofs.Paging.{nothing_paged}
 use Rattle.b67_session.proofs.Rows.{empty_rows, some_rows}
-use Rattle.b67_task_tables.proofs.Keeping.{keeps_then, countable_kept}
+use Rattle.b67_task.proofs.Keeping.{keeps_then, countable_kept}
 use Rattle.b67_session.proofs.Resuming.{stands_not, limited_not, rests_not, next_row, limited_row, open_stands, open_limited, has_limited, over_stands, over_prints, cut_again, cut_limited}
 use Rattle.b67_session.proofs.Again.{open_again, limited}
 use Rattle.b67_session.proofs.Completing.{no_fault, completes}

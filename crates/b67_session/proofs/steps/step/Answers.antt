@@ -1,12 +1,12 @@
 use Rattle.std.proofs.Common.{◌≡◌, Ok, Err, sym, ap, ◌∙◌, subst, arith}
-use Rattle.b67_task_tables.specs.declared.tables.Machine.{Machine}
-use Rattle.b67_task_tables.specs.declared.tables.Tasks.{Tasks}
-use Rattle.b67_task_tables.specs.Runs.{Keeps}
+use Rattle.b67_task.specs.declared.tables.Machine.{Machine}
+use Rattle.b67_task.specs.declared.tables.Tasks.{Tasks}
+use Rattle.b67_task.specs.Runs.{Keeps}
 use Rattle.b67_session.specs.AttemptPassed.{JobsHaveRoom}
 use Rattle.b67_session.specs.declared.tries.Tried.{Tried}
 use Rattle.b67_session.specs.declared.tries.Tried.TheVariants as tries
 use Rattle.b67_session.proofs.Runs.{caused_stop}
-use Rattle.b67_task_tables.proofs.Keeping.{keeps_then, halt_kept}
+use Rattle.b67_task.proofs.Keeping.{keeps_then, halt_kept}
 use Rattle.b67_session.proofs.Caused.{step_causes, printer_alone, turn_keeps}
 use Rattle.b67_session.proofs.Rooms.{can_number}
 use Rattle.b67_session.proofs.Turned.{Tries, who, has_row, turned, runs_over}

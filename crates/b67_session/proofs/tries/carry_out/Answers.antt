@@ -8,8 +8,8 @@ use Rattle.b67_layout.specs.Machine.{content_after}
 use Rattle.b67_layout.proofs.Untold.{untold}
 use Rattle.b67_layout.specs.Placement.{Placement}
 use Rattle.b67_exec_cells.specs.Running.{code_area}
-use Rattle.b67_task_tables.specs.declared.tables.Machine.{Machine}
-use Rattle.b67_task_tables.specs.Tables.{MachineRepresents}
+use Rattle.b67_task.specs.declared.tables.Machine.{Machine}
+use Rattle.b67_task.specs.Tables.{MachineRepresents}
 use Rattle.b67_session.specs.declared.tries.Tried.TheVariants.{Made}
 use Rattle.b67_session.specs.Tries.{TryFits}
 use Rattle.b67_session.proofs.Runs.{caused_none, caused_stop}

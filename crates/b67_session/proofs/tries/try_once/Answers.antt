@@ -1,6 +1,6 @@
 use Rattle.std.proofs.Common.{sym, subst, arith}
-use Rattle.b67_task_tables.specs.declared.tables.Machine.{Machine}
-use Rattle.b67_task_tables.specs.declared.tables.Tasks.{Tasks}
+use Rattle.b67_task.specs.declared.tables.Machine.{Machine}
+use Rattle.b67_task.specs.declared.tables.Tasks.{Tasks}
 use Rattle.b67_session.specs.Makes.{ForEachReady}
 use Rattle.b67_session.specs.Tries.{ReadyRuns, TryRow}
 use Rattle.b67_mcp.specs.Running.{JobsHaveRoom}

@@ -1,8 +1,8 @@
 use Rattle.std.proofs.Common.{[], ◌-◌, ◌+◌, length, refl, sym, ap, ◌∙◌, subst, arith}
-use Rattle.b67_task_tables.specs.declared.tables.Tasks.{Tasks}
-use Rattle.b67_task_tables.specs.Tables.{given_of}
-use Rattle.b67_task_tables.proofs.Keeping.{rows_put, given_put}
-use Rattle.b67_task_switch.specs.Counted.{TurnHasRoom, row_more}
+use Rattle.b67_task.specs.declared.tables.Tasks.{Tasks}
+use Rattle.b67_task.specs.Tables.{given_of}
+use Rattle.b67_task.proofs.Keeping.{rows_put, given_put}
+use Rattle.b67_task.specs.Counted.{TurnHasRoom, row_more}
 use Rattle.b67_session.proofs.Begins.{why_here}
 use Rattle.b67_session.proofs.Turning.{turn_begins, turn_fits, turn_goes_on, turn_of_one, turn_rests, turn_runs}
 use Rattle.b67_session.proofs.turns.go_on_with_turn.Goals as goal

@@ -3,8 +3,8 @@ use Rattle.b67_model.specs.InOrder.{IsInOrderButPlaces}
 use Rattle.b67_model.specs.Schedule.{Session}
 use Rattle.b67_stack.specs.Represents.{Storage}
 use Rattle.b67_layout.specs.Placement.{Placement}
-use Rattle.b67_task_tables.specs.Tables.{MachineRepresents}
-use Rattle.b67_task_switch.specs.Lasting.{TurnLasts}
+use Rattle.b67_task.specs.Tables.{MachineRepresents}
+use Rattle.b67_task.specs.Lasting.{TurnLasts}
 use Rattle.b67_session.specs.Slices.{Keeps}
 use Rattle.b67_session.specs.InTurn.{BeginsWith, HasTurnLeft}
 use Rattle.b67_session.proofs.turns.make_in_turn.Given as goal

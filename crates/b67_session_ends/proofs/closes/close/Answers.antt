@@ -1,8 +1,8 @@
 use Rattle.std.proofs.Common.{◌+◌, List, ℕ, refl, ap, ◌∙◌, subst}
 use Rattle.std.proofs.lemmas.Result.{err_from_is_err_and}
-use Rattle.b67_task_tables.specs.declared.tables.Tasks.{Tasks}
+use Rattle.b67_task.specs.declared.tables.Tasks.{Tasks}
 use Rattle.b67_session_lines.specs.Parts.{TookRest, TookMore}
-use Rattle.b67_task_end_tables.proofs.Families.{lent_list}
+use Rattle.b67_task.proofs.FamilyEnds.{lent_list}
 use Rattle.b67_session_ends.proofs.Closed.{has_row, has_head, has_job, holds, goes_then, is_family, ends_family, closed_by, same_tasks, room_still, all_text, keeps_close, keeps_cut}
 use Rattle.b67_session_ends.proofs.closes.close.Goals as goal
 

@@ -1,7 +1,7 @@
 use Rattle.std.proofs.Common.{◌∙◌, ap}
 use Rattle.std.specs.Prelude.{◌==◌}
 use Rattle.std.specs.List.{list_any}
-use Rattle.b67_task_tables.specs.declared.tables.TaskRow.{TaskRow}
+use Rattle.b67_task.specs.declared.tables.TaskRow.{TaskRow}
 use Rattle.b67_session_ends.proofs.Deadlocks.{goes_same, none_same, lives_still, all_gone}
 use Rattle.b67_session_ends.proofs.closes.end_stuck.Goals as goal
 

@@ -1,7 +1,7 @@
 use Rattle.std.proofs.Common.{◌-◌, refl, ap}
-use Rattle.b67_task_tables.specs.Tables.{given_of}
-use Rattle.b67_task_tables.proofs.Keeping.{rows_put, given_put}
-use Rattle.b67_task_switch.specs.Counted.{counted_row}
+use Rattle.b67_task.specs.Tables.{given_of}
+use Rattle.b67_task.proofs.Keeping.{rows_put, given_put}
+use Rattle.b67_task.specs.Counted.{counted_row}
 use Rattle.b67_session_ends.proofs.counts.count_one.Goals as goal
 
 pub returns : goal.returns

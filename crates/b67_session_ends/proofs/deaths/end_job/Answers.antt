@@ -1,6 +1,6 @@
 use Rattle.std.proofs.Common.{sym}
 use Rattle.b67_word.specs.declared.faults.Ending.TheVariants.{Limit}
-use Rattle.b67_task_end_tables.proofs.Families.{lent_list}
+use Rattle.b67_task.proofs.FamilyEnds.{lent_list}
 use Rattle.b67_session_ends.proofs.Firsts.{has_first, has_row, ends_family, all_ended, first_as}
 use Rattle.b67_session_ends.proofs.deaths.end_job.Goals as goal
 

@@ -1,7 +1,7 @@
 use Rattle.std.proofs.Common.{List, ℕ, refl, ap, subst}
 use Rattle.std.proofs.lemmas.Result.{err_from_is_err_and}
 use Rattle.b67_session_lines.specs.Parts.{TookRest, TookMore}
-use Rattle.b67_task_tables.specs.declared.tables.Tasks.{Tasks}
+use Rattle.b67_task.specs.declared.tables.Tasks.{Tasks}
 use Rattle.b67_session_ends.proofs.Closed.{keeps_rows}
 use Rattle.b67_session_ends.proofs.ByLimit.{has_head, job_lives, text_by, after_part, stands_reprinted}
 use Rattle.b67_session_ends.proofs.ends.end_by_limit.Goals as goal

@@ -1,7 +1,7 @@
 use Rattle.std.proofs.Common.{Option, sym, ◌∙◌, subst}
 use Rattle.b67_model.specs.Run.{StepResult}
 use Rattle.b67_session_lines.specs.Moments.{last_part}
-use Rattle.b67_task_tables.proofs.Keeping.{keeps_same}
+use Rattle.b67_task.proofs.Keeping.{keeps_same}
 use Rattle.b67_session_ends.specs.Ends.{Finishes}
 use Rattle.b67_session_ends.proofs.ByLimit.{some_part, finishes_none}
 use Rattle.b67_session_ends.proofs.ends.finish.Goals as goal

@@ -1,6 +1,6 @@
 use Rattle.std.proofs.Common.{sym, subst}
-use Rattle.b67_task_tables.specs.declared.tables.Tasks.{Tasks}
-use Rattle.b67_task_tables.specs.Runs.{Keeps}
+use Rattle.b67_task.specs.declared.tables.Tasks.{Tasks}
+use Rattle.b67_task.specs.Runs.{Keeps}
 use Rattle.b67_session_ends.proofs.Closed.{room_still, keeps_close, keeps_cut}
 use Rattle.b67_session_ends.specs.Holds.{HoldsSome}
 use Rattle.b67_session_ends.proofs.Held.{inside, inside_set, set_head, rest_after, back_is, has_job, held_closed, held_cut}

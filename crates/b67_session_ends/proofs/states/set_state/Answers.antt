@@ -1,5 +1,5 @@
 use Rattle.std.proofs.Common.{ap}
-use Rattle.b67_task_tables.specs.declared.tables.TaskRow.{TaskRow}
+use Rattle.b67_task.specs.declared.tables.TaskRow.{TaskRow}
 use Rattle.b67_session_ends.proofs.HeldStuck.{row_seen, state_set}
 use Rattle.b67_session_ends.proofs.states.set_state.Goals as goal
 

@@ -1,7 +1,7 @@
 use Rattle.std.proofs.Common.{◌≡◌, ◌++◌, length, map, drop}
 use Rattle.b67_codefile.specs.Meaning.{program_of}
 use Rattle.b67_session_open.specs.Tables.{first_rows}
-use Rattle.b67_task_tables.specs.Tables.{task_row}
+use Rattle.b67_task.specs.Tables.{task_row}
 use Rattle.b67_session_open.proofs.tables.first_rows.Given as goal
 
 abbrev pub invariant-rows : goal.invariant-rows

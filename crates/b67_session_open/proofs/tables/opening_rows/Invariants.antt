@@ -2,7 +2,7 @@ use Rattle.std.proofs.Common.{◌≡◌, ◌+◌, ◌*◌, ◌≤◌, ◌++◌, 
 use Rattle.std.specs.List.{AllByRecursion}
 use Rattle.b67_codefile.specs.Meaning.{program_of}
 use Rattle.b67_session_open.specs.Tables.{opening_rows}
-use Rattle.b67_task_tables.specs.Tables.{job_row}
+use Rattle.b67_task.specs.Tables.{job_row}
 use Rattle.b67_session_open.specs.Decks.{openings_of, jobs_given, rows_given, IsLoaded, IsCountable}
 use Rattle.b67_session_open.proofs.tables.opening_rows.Given as goal
 

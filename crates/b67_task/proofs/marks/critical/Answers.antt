@@ -1,6 +1,6 @@
 use Rattle.std.proofs.Common.{List, ap, ◌∙◌, arith}
 use Rattle.std.specs.List.{list_any}
-use Rattle.b67_task_tables.specs.declared.tables.TaskRow.{TaskRow}
+use Rattle.b67_task.specs.declared.tables.TaskRow.{TaskRow}
 use Rattle.b67_task.specs.Marks.{depends_on}
 use Rattle.b67_task.proofs.Depending.{mark_told, none_told, no_slot}
 use Rattle.b67_task.proofs.marks.critical.Goals as goal

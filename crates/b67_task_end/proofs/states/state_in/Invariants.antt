@@ -1,5 +1,0 @@
-use Rattle.b67_task_end.proofs.Living.{NoneBefore}
-use Rattle.b67_task_end.proofs.states.state_in.Given as goal
-
-abbrev pub invariant-loop-at : goal.invariant-loop-at
-invariant-loop-at l = NoneBefore l.rows l.at l.job l.number

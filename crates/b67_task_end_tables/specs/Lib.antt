@@ -1,4 +1,0 @@
-pub mod Left
-pub mod Marks
-pub mod Deaths
-pub mod Families

@@ -1,2 +1,0 @@
-pub mod Needing
-pub mod Sums

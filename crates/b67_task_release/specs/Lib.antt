@@ -1,2 +1,0 @@
-pub mod Released
-pub mod Left

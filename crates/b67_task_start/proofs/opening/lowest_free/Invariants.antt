@@ -1,6 +1,0 @@
-use Rattle.std.specs.Prelude.{ℕ, ◌<◌}
-use Rattle.b67_task_start.proofs.Opens.{IsTaken}
-use Rattle.b67_task_start.proofs.opening.lowest_free.Given as goal
-
-abbrev pub invariant-loop-slot : goal.invariant-loop-slot
-invariant-loop-slot l = (i : ℕ) → i < l.slot → IsTaken l.core i

@@ -1,6 +1,0 @@
-use Rattle.std.specs.Prelude.{ℕ, ◌<◌}
-use Rattle.b67_task_switch.specs.Chosen.{who_is, IsReadyAt}
-use Rattle.b67_task_switch.proofs.ready.ready_row.Given as goal
-
-abbrev pub invariant-loop-at : goal.invariant-loop-at
-invariant-loop-at l = (k : ℕ) → k < l.at → IsReadyAt l.rows k (who_is l.who) → ⊥

@@ -1,5 +1,0 @@
-pub mod Turns
-pub mod Standing
-pub mod Counted
-pub mod Chosen
-pub mod Lasting
