@@ -12,11 +12,11 @@ use Rattle.b67_model.specs.Program.{Program}
 use Rattle.b67_model.specs.Schedule.{Session}
 use Rattle.b67_task.specs.declared.tables.Machine.{Machine}
 use Rattle.b67_job_admit.specs.Admitting.{Prepared}
-use Rattle.b67_session_open.specs.declared.fault.OpenFault.{OpenFault}
-use Rattle.b67_session_open.specs.declared.fault.OpenFault.TheVariants as faults
-use Rattle.b67_session_open.specs.Decks.{session_of, deck_given, given_of, DeckInRange, IsLoaded}
+use Rattle.b67_session.specs.declared.open_fault.OpenFault.{OpenFault}
+use Rattle.b67_session.specs.declared.open_fault.OpenFault.TheVariants as faults
+use Rattle.b67_session.specs.Decks.{session_of, deck_given, given_of, DeckInRange, IsLoaded}
 use Rattle.b67_task.specs.Tables.{Given}
-use Rattle.b67_session_open.specs.Opens.{need_of, sectors_of_all, IsOpened}
+use Rattle.b67_session.specs.Opens.{need_of, sectors_of_all, IsOpened}
 use Rattle.b67_layout.specs.Machine.{Says, DeviceAfterCalls, content_after}
 use Rattle.b67_session.proofs.Shaping.{shaped}
 use Rattle.b67_session.specs.Slices.{StandsAt, IsOpen, Keeps, SliceMeets, StepsFit}

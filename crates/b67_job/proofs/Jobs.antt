@@ -13,7 +13,7 @@ use Rattle.b67_model_text.specs.Placing.{stack_in, quantum_in, switch_in, name_i
 use Rattle.b67_model_text.specs.Answers.{◌>>=◌}
 use Rattle.b67_model_text.specs.Deck.{Said, command_in, within_limit, sayings, limit_in, body, numbers_in, numbers_at, data_numbers, limit_behind, job_of, is_job, own_cards, jobs, deck, deck_of}
 use Rattle.b67_model_text.proofs.Answers.{after_both}
-use Rattle.b67_session_open.specs.Decks.{JobInRange, DeckInRange}
+use Rattle.b67_session.specs.Decks.{JobInRange, DeckInRange}
 use Rattle.b67_image.specs.Within.{IsSwitch}
 use Rattle.b67_job.specs.Ranges.{CardsInRange}
 use Rattle.b67_job.proofs.Commands.{NumberWithin, NameWithin, CommandInRange, number_within}

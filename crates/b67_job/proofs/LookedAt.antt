@@ -12,8 +12,8 @@ use Rattle.b67_task.specs.declared.tables.Machine.{Machine}
 use Rattle.b67_task.specs.Tables.{Given}
 use Rattle.b67_job_admit.specs.declared.programs.Loaded.{Loaded}
 use Rattle.b67_job_admit.specs.Meets.{LoadsDeck, prepared_of}
-use Rattle.b67_session_open.specs.Decks.{IsLoaded}
-use Rattle.b67_session_open.specs.Opens.{OpensAs, IsOpened}
+use Rattle.b67_session.specs.Decks.{IsLoaded}
+use Rattle.b67_session.specs.Opens.{OpensAs, IsOpened}
 use Rattle.b67_session.specs.Slices.{StandsAt, SetsOutSome}
 use Rattle.b67_session.specs.Stops.{Stop}
 use Rattle.b67_session.specs.Stops as stops

@@ -10,8 +10,8 @@ use Rattle.b67_law.proofs.RunSessions.{runs_stay_in_order, sessions_stay_in_orde
 use Rattle.b67_law.proofs.Makers.{runs_make_their_words, sessions_keep_or_make_their_words}
 use Rattle.b67_layout.specs.Machine.{content_after}
 use Rattle.b67_task.specs.Tables.{switch_of}
-use Rattle.b67_session_open.specs.Decks.{openings_of, session_of, DeckInRange, IsLoaded}
-use Rattle.b67_session_open.proofs.Decks.{deck_within}
+use Rattle.b67_session.specs.Decks.{openings_of, session_of, DeckInRange, IsLoaded}
+use Rattle.b67_session.proofs.Decks.{deck_within}
 use Rattle.b67_session.proofs.FoundLeast.{stays_ordered}
 use Rattle.b67_law.proofs.ApartLemmas.{jobs_apart, states_apart}
 use Rattle.b67_job.specs.States.{StatesInOrder, StatesFollow, JobsRunApart}

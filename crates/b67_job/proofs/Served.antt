@@ -26,7 +26,7 @@ use Rattle.b67_job_admit.specs.Verdicts.{Verdict}
 use Rattle.b67_job_admit.specs.CommandMeets.{IsJudged}
 use Rattle.b67_job_admit.proofs.Bound.{bind_long}
 use Rattle.b67_job_admit.proofs.Judged.{too_long, check_long, asm_long, convert_long}
-use Rattle.b67_session_open.specs.Decks.{DeckInRange}
+use Rattle.b67_session.specs.Decks.{DeckInRange}
 use Rattle.b67_job.proofs.Prepared.{prepared_in_range}
 use Rattle.b67_job.specs.Device.{Device, DeviceUnchanged}
 use Rattle.b67_job.specs.Lines.{memory_text}

@@ -20,7 +20,7 @@ use Rattle.b67_session_lines.specs.Ends.{EndsPrinting}
 use Rattle.b67_session.specs.Slices.{StandsAt}
 use Rattle.b67_session.specs.Passed.{TakesSectors}
 use Rattle.b67_session_lines.specs.Stops.{Run, IsFinished, IsHalted, halted_line}
-use Rattle.b67_session_open.specs.Opens.{need_of, sectors_of_all}
+use Rattle.b67_session.specs.Opens.{need_of, sectors_of_all}
 use Rattle.b67_job.specs.Device.{Device, DeviceTells, Failed, DeviceUnchanged}
 use Rattle.b67_job.specs.Lines.{no_core_line, backing_full_line, backing_fault_line, memory_text, refused_image_line}
 use Rattle.b67_job.specs.declared.summaries.Closing.{Closing}

@@ -5,8 +5,8 @@ use Rattle.b67_io.specs.Causes.{Rose}
 use Rattle.b67_model.specs.Schedule.{Session}
 use Rattle.b67_session.specs.Stops.{Stop}
 use Rattle.b67_session.specs.Stops as stops
-use Rattle.b67_session_open.specs.declared.fault.OpenFault.{OpenFault}
-use Rattle.b67_session_open.specs.declared.fault.OpenFault.TheVariants as faults
+use Rattle.b67_session.specs.declared.open_fault.OpenFault.{OpenFault}
+use Rattle.b67_session.specs.declared.open_fault.OpenFault.TheVariants as faults
 use Rattle.b67_task.specs.declared.tables.Machine.{Machine}
 use Rattle.b67_session.specs.declared.slices.Progress.{Progress}
 use Rattle.b67_session.specs.declared.slices.Progress.TheVariants as progress

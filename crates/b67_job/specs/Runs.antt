@@ -11,8 +11,8 @@ use Rattle.b67_session.specs.Passed.{IsLacking, IsShortAt, CodeFits}
 pub use Rattle.b67_session.specs.Attempts.{TellsSectors, for_want, for_task, for_length}
 use Rattle.b67_job_admit.specs.Admitting.{Prepared}
 pub use Rattle.b67_job_admit.specs.Admitting.{run_of}
-use Rattle.b67_session_open.specs.Decks.{deck_given, given_of}
-use Rattle.b67_session_open.specs.Opens.{need_of, sectors_of_all}
+use Rattle.b67_session.specs.Decks.{deck_given, given_of}
+use Rattle.b67_session.specs.Opens.{need_of, sectors_of_all}
 use Rattle.b67_task.specs.declared.tables.Machine.{Machine}
 pub use Rattle.b67_session.specs.Slices.{StandsAt, IsLimited}
 pub use Rattle.b67_session.specs.Slices.{Between, TakesOn, MovesItsWants, IsOnward, by_a_step, in_a_turn, FollowEach, HasPaged, PagesByStep, goes_well, stops_in}

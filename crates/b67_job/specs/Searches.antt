@@ -8,7 +8,7 @@ use Rattle.b67_task.specs.declared.tables.Machine.{Machine}
 use Rattle.b67_job_admit.specs.Admitting.{Prepared}
 use Rattle.b67_job_admit.specs.Meets.{LoadsDeck, prepared_of}
 use Rattle.b67_job_admit.specs.declared.programs.Loaded.{Loaded}
-use Rattle.b67_session_open.specs.Opens.{OpensAs, IsOpened}
+use Rattle.b67_session.specs.Opens.{OpensAs, IsOpened}
 use Rattle.b67_layout.specs.Machine.{content_after}
 use Rattle.b67_session.specs.Stops.{Stop}
 use Rattle.b67_session.specs.Stops as stops

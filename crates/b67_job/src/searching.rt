@@ -9,8 +9,7 @@ ghost use Rattle.b67_model.specs.declared.limits.TheConstants.{LEAST_CORE};
 use b67_backing::Backing;
 use b67_io::Source;
 use b67_job_admit::{AdmitFault, admit};
-use b67_session::{CodePlace, Sought, Stop, find, know_programs};
-use b67_session_open::{OpenFault, open};
+use b67_session::{CodePlace, OpenFault, Sought, Stop, find, know_programs, open_machine};
 use std::alloc::Global;
 
 /// Why a search in a deck answers nothing: the deck isn't admitted, no session is opened, or the run stops before.
@@ -45,7 +44,7 @@ pub fn find_in_deck<S: Source, B: Backing>(
     };
     let programs = loaded.programs.as_slice();
     know_programs(programs);
-    let mut machine = match open(alloc, &loaded.deck, programs, core, backing) {
+    let mut machine = match open_machine(alloc, &loaded.deck, programs, core, backing) {
         Ok(machine) => machine,
         Err(fault) => return Err(SearchFault::Open(fault)),
     };

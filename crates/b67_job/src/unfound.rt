@@ -6,8 +6,7 @@ ghost use Rattle.b67_job.specs.SearchStatus.{unadmitted_status, stopped_status, 
 
 use crate::searching::SearchFault;
 use b67_job_admit::AdmitFault;
-use b67_session::Stop;
-use b67_session_open::OpenFault;
+use b67_session::{OpenFault, Stop};
 
 fn unadmitted_status(fault: AdmitFault) -> u8
     ensures { result ≡ unadmitted_status fault }

@@ -20,7 +20,7 @@ use Rattle.b67_layout.specs.Rows.{JobsShow}
 use Rattle.b67_task.specs.declared.tables.JobRow.{JobRow}
 use Rattle.b67_task.specs.declared.tables.Machine.{Machine}
 use Rattle.b67_task.specs.Tables.{job_row, MachineRepresents, AreCountable, JobGiven, job_given, rows_given, Given, given_of}
-use Rattle.b67_session_open.specs.Decks.{JobInRange, DeckInRange, given_to, jobs_given, deck_given}
+use Rattle.b67_session.specs.Decks.{JobInRange, DeckInRange, given_to, jobs_given, deck_given}
 use Rattle.b67_image.specs.Parts.{parts_of}
 use Rattle.b67_image.specs.Within.{AreItems, AreRegs, IsSwitch, IsReadNumber, IsJob, ArePartsWithin}
 use Rattle.b67_image.specs.Typed.{IsTypedJob, AreTyped}

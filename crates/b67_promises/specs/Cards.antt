@@ -13,7 +13,7 @@ use Rattle.b67_codefile.specs.Reading.{file_of}
 use Rattle.b67_codefile.specs.Spelling.{spelling, IsWithin}
 use Rattle.b67_job_admit.specs.Admitting.{deck_prepared, program_in}
 use Rattle.b67_job_admit.specs.Verdicts.{codefile_of}
-use Rattle.b67_session_open.specs.Decks.{session_of}
+use Rattle.b67_session.specs.Decks.{session_of}
 
 -- the one word is `asm`
 abbrev pub AsksForAsm : List (Bor (List ℕ)) → Type 0

@@ -20,8 +20,8 @@ use Rattle.b67_task.specs.Tables.{MachineRepresents}
 use Rattle.b67_task.specs.declared.counting.Chosen.{Chosen}
 use Rattle.b67_task.specs.Counted.{choice_of}
 use Rattle.b67_task.specs.Turns.{with_running}
-use Rattle.b67_session_ends.specs.Counts.{IsCounted}
-use Rattle.b67_session_ends.specs.Ends.{Finishes}
+use Rattle.b67_session.specs.Counts.{IsCounted}
+use Rattle.b67_session.specs.Ends.{Finishes}
 use Rattle.b67_mcp.specs.Called.{IsCalled, HoldsOther, is_emptied, is_resized, is_new}
 use Rattle.b67_session.specs.AttemptStops.{Stop}
 use Rattle.b67_session.specs.declared.tries.Tried.{Tried}

@@ -15,8 +15,8 @@ use Rattle.b67_task.specs.declared.tables.Tasks.{Tasks}
 use Rattle.b67_task.specs.declared.tables.Machine.{Machine}
 use Rattle.b67_task.specs.Tables.{MachineRepresents}
 use Rattle.b67_session.specs.AttemptStops.{Stop}
-use Rattle.b67_session_ends.specs.Ends.{Finishes}
-use Rattle.b67_session_ends.specs.Machines.{StandsAt}
+use Rattle.b67_session.specs.Ends.{Finishes}
+use Rattle.b67_session.specs.Machines.{StandsAt}
 use Rattle.b67_session.specs.Slices.{Prints, NextFits}
 use Rattle.b67_session.specs.Steps.{StepGives, makes, halves, Steps, StopOf}
 use Rattle.b67_session.proofs.Printing.{prints_rest, prints_more, prints_then}

@@ -32,11 +32,11 @@ use Rattle.b67_session.proofs.Composed.{ends_exact}
 use Rattle.b67_session.specs.AttemptStops.{Stop}
 use Rattle.b67_session.specs.declared.tries.Tried.{Tried}
 use Rattle.b67_session.specs.declared.tries.Tried.TheVariants as tries
-use Rattle.b67_session_ends.specs.Closing.{StandsChosen}
-use Rattle.b67_session_ends.specs.Counts.{IsCounted}
-use Rattle.b67_session_ends.specs.Ends.{StandsForSession, StandsBetween}
-use Rattle.b67_session_ends.specs.Holds.{waiting_step, HoldsSo}
-use Rattle.b67_session_ends.proofs.Waits.{waits_settle}
+use Rattle.b67_session.specs.Closing.{StandsChosen}
+use Rattle.b67_session.specs.Counts.{IsCounted}
+use Rattle.b67_session.specs.Ends.{StandsForSession, StandsBetween}
+use Rattle.b67_session.specs.Holds.{waiting_step, HoldsSo}
+use Rattle.b67_session.proofs.Waits.{waits_settle}
 use Rattle.b67_session.specs.Slices.{Prints, NextFits}
 use Rattle.b67_session.proofs.Between.{IsHalfMade}
 use Rattle.b67_session.proofs.Lively.{Stays, rows_stay}

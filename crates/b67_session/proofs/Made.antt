@@ -22,9 +22,9 @@ use Rattle.b67_task.specs.declared.tables.Machine.{Machine}
 use Rattle.b67_task.specs.Tables.{MachineRepresents}
 use Rattle.b67_task.specs.declared.counting.Chosen.{Chosen}
 use Rattle.b67_task.specs.Counted.{choice_of}
-use Rattle.b67_session_ends.specs.Counts.{IsCounted}
-use Rattle.b67_session_ends.proofs.Counted.{counted_stands}
-use Rattle.b67_session_ends.proofs.Stuck.{one_not}
+use Rattle.b67_session.specs.Counts.{IsCounted}
+use Rattle.b67_session.proofs.Counted.{counted_stands}
+use Rattle.b67_session.proofs.Stuck.{one_not}
 use Rattle.b67_session.proofs.Lively.{Stays}
 use Rattle.b67_session.proofs.Next.{in_session, task_found}
 

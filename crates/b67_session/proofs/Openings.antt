@@ -11,9 +11,9 @@ use Rattle.b67_layout.specs.Machine.{content_after, Says}
 use Rattle.b67_task.specs.declared.tables.TaskRow.{TaskRow}
 use Rattle.b67_task.specs.declared.tables.Machine.{Machine}
 use Rattle.b67_task.specs.Tables.{switch_of, AreCountable}
-use Rattle.b67_session_open.specs.Decks.{openings_of, session_of, DeckInRange, IsLoaded}
-use Rattle.b67_session_open.specs.Opens.{OpensAs}
-use Rattle.b67_session_open.proofs.Decks.{deck_within}
+use Rattle.b67_session.specs.Decks.{openings_of, session_of, DeckInRange, IsLoaded}
+use Rattle.b67_session.specs.Opens.{OpensAs}
+use Rattle.b67_session.proofs.Decks.{deck_within}
 use Rattle.b67_session.specs.Slices.{StandsAt, IsOpen, LivesOn, StandsLimited, HasNoTasks}
 use Rattle.b67_session.proofs.Going.{rests_now, next_now}
 use Rattle.b67_session.proofs.Pausing.{says_retold}

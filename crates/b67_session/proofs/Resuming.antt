@@ -14,7 +14,7 @@ use Rattle.b67_session.specs.AttemptStops as stops
 use Rattle.b67_task.specs.declared.tables.Tasks.{Tasks}
 use Rattle.b67_task.specs.declared.tables.Machine.{Machine}
 use Rattle.b67_task.specs.Tables.{TasksShow}
-use Rattle.b67_session_ends.specs.Ends.{LimitEnds, HasLimited}
+use Rattle.b67_session.specs.Ends.{LimitEnds, HasLimited}
 use Rattle.b67_session.specs.Slices.{StandsAt, StandsSome, IsLimited, IsOpen, LivesOn, StandsLimited, HasNoTasks, RepresentsWithoutTasks, Prints, IsCutAgain}
 use Rattle.b67_session.proofs.Next.{in_session, in_job}
 use Rattle.b67_session.proofs.Printing.{prints_rest}

@@ -23,7 +23,7 @@ use Rattle.b67_session.specs.declared.seeking.CodePlace.{CodePlace}
 use Rattle.b67_session.specs.declared.seeking.Sought.{Sought}
 use Rattle.b67_session.specs.declared.seeking.Sought.TheVariants as sought
 use Rattle.b67_session.specs.Search.{stands_at, mark_height, IsSought}
-use Rattle.b67_session_ends.specs.Closing.{StandsChosen, ChoseSome}
+use Rattle.b67_session.specs.Closing.{StandsChosen, ChoseSome}
 use Rattle.b67_session.proofs.Heights.{AreHeights, running_heights, waits_in_one, waiting_heights}
 use Rattle.b67_task.specs.Turns.{WaitsOn, WaitsInOne}
 use Rattle.b67_session.proofs.Next.{in_session, in_job, job_is, task_is, found, task_found, chose_row, as_next}

@@ -20,9 +20,9 @@ use Rattle.b67_task.specs.declared.counting.Chosen.{Chosen}
 use Rattle.b67_task.specs.Counted.{choice_of}
 use Rattle.b67_task.specs.Turns.{with_running}
 use Rattle.b67_task.proofs.Replans.{objects-replan}
-use Rattle.b67_session_ends.specs.Ends.{StandsInPlace, LeavesInPlace, Finishes}
-use Rattle.b67_session_ends.proofs.ByLimit.{reprinted}
-use Rattle.b67_session_ends.proofs.InPlace.{in_place_same, in_place_then}
+use Rattle.b67_session.specs.Ends.{StandsInPlace, LeavesInPlace, Finishes}
+use Rattle.b67_session.proofs.ByLimit.{reprinted}
+use Rattle.b67_session.proofs.InPlace.{in_place_same, in_place_then}
 use Rattle.b67_session.specs.AttemptStops.{Stop}
 use Rattle.b67_session.specs.Slices.{IsStepOf, in_whole, but_its_limit, StepLeaves}
 use Rattle.b67_session.specs.Steps.{EndsStep}

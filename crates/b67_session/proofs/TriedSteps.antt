@@ -21,10 +21,10 @@ use Rattle.b67_session.specs.Attempts.{WantsNothing, AttemptFits, IsNotFull, IsA
 use Rattle.b67_session.proofs.Composed.{not_full_as}
 use Rattle.b67_session.specs.declared.tries.Tried.{Tried}
 use Rattle.b67_session.specs.declared.tries.Tried.TheVariants as tries
-use Rattle.b67_session_ends.specs.Closing.{StandsChosen, ChoseSome, Closes}
-use Rattle.b67_session_ends.specs.Counts.{IsCounted}
-use Rattle.b67_session_ends.specs.Ends.{StandsBetween}
-use Rattle.b67_session_ends.specs.Holds.{waiting_step, HoldsSo, HoldsSome}
+use Rattle.b67_session.specs.Closing.{StandsChosen, ChoseSome, Closes}
+use Rattle.b67_session.specs.Counts.{IsCounted}
+use Rattle.b67_session.specs.Ends.{StandsBetween}
+use Rattle.b67_session.specs.Holds.{waiting_step, HoldsSo, HoldsSome}
 use Rattle.b67_session.specs.Slices.{StandsAt, StopsWithRoom, GoesOnAlone, StepKeepsAreas, StepLeaves, IfPresent}
 use Rattle.b67_session.specs.Steps.{StopOf, EndsStep, Steps}
 use Rattle.b67_session.proofs.AreasKept.{step_keeps_areas, goes_on_leaves, goes_on_only, stop_made}
@@ -32,7 +32,7 @@ use Rattle.b67_session.proofs.StepsLeave.{EndsEach, step_leaves}
 use Rattle.b67_session.proofs.Between.{IsHalfMade, finished}
 use Rattle.b67_session.proofs.Halved.{ClosesSo, made_room, made_half, close_room, chosen_stands, close_half, ends_so, waits, wait_made, waits_so, holds_so, between_of, job_ordered, ends_first}
 use Rattle.b67_session.proofs.Rooms.{running_row}
-use Rattle.b67_session_ends.proofs.Waits.{waits_settle}
+use Rattle.b67_session.proofs.Waits.{waits_settle}
 use Rattle.b67_law.proofs.Settled.{ends_settle}
 use Rattle.b67_law.proofs.Halves.{first_by}
 use Rattle.b67_layout.proofs.Weaker.{but_counts}

@@ -47,7 +47,7 @@ use Rattle.b67_session.proofs.FittingMade.{made_fit}
 use Rattle.b67_session.proofs.Started.{known_in}
 use Rattle.b67_session.proofs.Still.{operator_many, operator_starts}
 use Rattle.b67_session.proofs.Trying.{was_made}
-use Rattle.b67_session_ends.proofs.Counted.{alike_refl, same_refl}
+use Rattle.b67_session.proofs.Counted.{alike_refl, same_refl}
 use Rattle.b67_session.specs.InTurn.{HasTurnLeft, MadeInTurn}
 use Rattle.b67_session.specs.Slices.{StandsAt, NextFits}
 use Rattle.b67_session.specs.Steps.{GoesOnInTurn}

@@ -5,7 +5,7 @@ use Rattle.b67_law.specs.Turns.{IsNext}
 use Rattle.b67_task.specs.declared.tables.Tasks.{Tasks}
 use Rattle.b67_task.specs.declared.tables.Machine.{Machine}
 use Rattle.b67_session.specs.Attempts.{TakesSectors}
-use Rattle.b67_session_ends.specs.Machines.{StandsAt, IsLimited}
+use Rattle.b67_session.specs.Machines.{StandsAt, IsLimited}
 
 -- the machine represents the session whose steps a slice makes: at once, or when the lines of LIMIT that are due are printed
 pub data SetsOut (told : Option (List (List ℕ))) (k : Machine) (s : Session) : Type 0 where

@@ -14,3 +14,17 @@ pub mod AttemptPassed
 pub mod Makes
 pub mod Openings
 pub mod Search
+pub mod Opened
+pub mod Words
+pub mod Stored
+pub mod InitialOpens
+pub mod Tables
+pub mod Decks
+pub mod Opens
+pub mod Texts
+pub mod Limits
+pub mod Counts
+pub mod Ends
+pub mod Machines
+pub mod Closing
+pub mod Holds

@@ -25,8 +25,8 @@ use Rattle.b67_session.specs.Attempts.{IsLacking, WantsNothing, HoleFits, IsAtHa
 use Rattle.b67_session.specs.AttemptStops.{Stop}
 use Rattle.b67_session.specs.Makes.{MakesEach}
 use Rattle.b67_session.specs.AttemptStops as stops
-use Rattle.b67_session_ends.specs.Ends.{StandsForSession, LeavesInPlace}
-pub use Rattle.b67_session_ends.specs.Machines.{StandsAt, IsLimited, RepresentsWithoutTasks}
+use Rattle.b67_session.specs.Ends.{StandsForSession, LeavesInPlace}
+pub use Rattle.b67_session.specs.Machines.{StandsAt, IsLimited, RepresentsWithoutTasks}
 use Rattle.b67_session.specs.declared.slices.Progress.{Progress}
 use Rattle.b67_session.specs.declared.slices.Progress.TheVariants as progress
 

@@ -9,7 +9,7 @@ use Rattle.b67_task.specs.declared.tables.Machine.{Machine}
 use Rattle.b67_session.specs.AttemptStops.{Stop}
 use Rattle.b67_session.specs.AttemptStops as stops
 use Rattle.b67_word.specs.declared.faults.Failed.{Failed}
-use Rattle.b67_session_ends.specs.Ends.{Finishes}
+use Rattle.b67_session.specs.Ends.{Finishes}
 use Rattle.b67_task.specs.Lasting.{BeforeHalt}
 use Rattle.b67_task.specs.declared.counting.Chosen.{Chosen}
 use Rattle.b67_session.specs.Makes.{MakesEach}

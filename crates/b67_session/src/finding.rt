@@ -1,20 +1,20 @@
 //! A search through a run for the least count of operators at which something holds.
 
+ghost use Rattle.b67_session.specs.AttemptStops as stops;
+ghost use Rattle.b67_session.specs.declared.seeking.Sought.TheVariants as sought;
 ghost use Rattle.std.specs.Prelude.{◌≡◌, ◌≢◌, ◌≤◌, ◌+◌, ◌-◌, ℕ, List, Option, Some, None, Result, Ok, Err, IfOk, length};
 ghost use Rattle.std.specs.Result.{IsOk};
-ghost use Rattle.b67_io.specs.Causes.{Rose, Stayed};
+ghost use Rattle.b67_io.specs.Causes.{Stayed};
 ghost use Rattle.b67_model.specs.Schedule.{Session};
 ghost use Rattle.b67_model.specs.Run.{after};
-ghost use Rattle.b67_layout.specs.Machine.{Says, DeviceAfterCalls, content_after};
+ghost use Rattle.b67_layout.specs.Machine.{Says, content_after};
 ghost use Rattle.b67_stack.specs.declared.Step.TheVariants.{Done};
 ghost use Rattle.b67_exec.specs.Near.{StopsHere};
 ghost use Rattle.b67_session.specs.AttemptStops.{Stop};
-ghost use Rattle.b67_session.specs.AttemptStops as stops;
-ghost use Rattle.b67_session.specs.Slices.{StandsAt, SetsOutSome, IsOpen, Keeps};
+ghost use Rattle.b67_session.specs.Slices.{StandsAt, SetsOutSome, Keeps};
 ghost use Rattle.b67_session.specs.Steps.{IsInOrderFor, GoesOnInTurn};
 ghost use Rattle.b67_session.specs.Complete.{Suffices};
 ghost use Rattle.b67_session.specs.Search.{IsSearched, FindsLeast, ComesTo, StopsUnfound, SearchLeaves, CountsOn, PassesBy};
-ghost use Rattle.b67_session.specs.declared.seeking.Sought.TheVariants as sought;
 
 use crate::seeking::{
     CodePlace, Depth, Sought, count_of, heights_here, is_elsewhere, is_found, note_chosen, noted,

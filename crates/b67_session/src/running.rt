@@ -1,10 +1,10 @@
 //! A session that runs.
 
+ghost use Rattle.b67_model.specs.Schedule as schedule;
 ghost use Rattle.std.specs.Prelude.{◌≡◌, ◌≢◌, ℕ, ◌+◌, List, Option, None, length};
 ghost use Rattle.std.specs.Result.{IsOk};
 ghost use Rattle.b67_model.specs.State.{Task, SessionJob};
 ghost use Rattle.b67_model.specs.Run.{StepResult};
-ghost use Rattle.b67_model.specs.Schedule as schedule;
 ghost use Rattle.b67_io.specs.Causes.{Stayed};
 ghost use Rattle.b67_law.specs.Turns.{IsNext};
 ghost use Rattle.b67_layout.specs.Machine.{Says, content_after};

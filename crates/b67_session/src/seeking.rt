@@ -1,5 +1,6 @@
 //! Whether what a search seeks holds of the operator that is about to be made.
 
+ghost use Rattle.b67_session.specs.declared.seeking.Sought.TheVariants as sought;
 ghost use Rattle.std.specs.Prelude.{◌≡◌, ◌≢◌, ◌<◌, ◌≤◌, ◌+◌, ◌-◌, ℕ, List, length, Option, option_map, true, false};
 ghost use Rattle.b67_lemmas.specs.Lists.{Has};
 ghost use Rattle.b67_model.specs.Run.{after};
@@ -14,12 +15,11 @@ ghost use Rattle.b67_law.specs.Turns.{IsNext};
 ghost use Rattle.b67_task.specs.Counted.{choice_of};
 ghost use Rattle.b67_task.specs.Chosen.{IsReadyAt};
 ghost use Rattle.b67_task.specs.Turns.{WaitsOn, WaitsInOne};
-ghost use Rattle.b67_session_ends.specs.Closing.{StandsChosen, ChoseSome};
+ghost use Rattle.b67_session.specs.Closing.{StandsChosen, ChoseSome};
 ghost use Rattle.b67_session.specs.Slices.{StandsAt};
 ghost use Rattle.b67_session.specs.Steps.{IsInOrderFor};
 ghost use Rattle.b67_session.specs.declared.seeking.Depth.{Depth};
 ghost use Rattle.b67_session.specs.Search.{IsSought, stands_at, mark_height, Deepens, HasNoted};
-ghost use Rattle.b67_session.specs.declared.seeking.Sought.TheVariants as sought;
 
 use b67_ctl::{Regs, Toscw};
 use b67_stack::Cpu;

@@ -11,14 +11,15 @@ ghost use Rattle.b67_model.specs.Run.{StepResult};
 ghost use Rattle.b67_law.specs.Turns.{IsNext};
 ghost use Rattle.b67_session.specs.Complete.{SetsOut, Suffices};
 ghost use Rattle.b67_session.specs.Slices.{IsOpen, SetsOutSome, StandsAt, IsLimited, RepresentsWithoutTasks, Slices, IfPresent, PagesByStep, Resumes, StaysEnded, Pauses};
-ghost use Rattle.b67_session.specs.Shaped.{IsShaped, SliceLeaves};
+ghost use Rattle.b67_session.specs.Shaped.{SliceLeaves};
 
+use crate::ends::end_by_limit;
+use crate::limits::is_at_limit;
 use crate::steps::step;
 use crate::turns::go_on_with_turn;
 use b67_backing::Backing;
 use b67_io::Sink;
 use b67_mcp::Stop;
-use b67_session_ends::{end_by_limit, is_at_limit};
 use b67_stack::Step;
 use b67_task::{Machine, Tasks};
 

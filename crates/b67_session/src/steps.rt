@@ -1,5 +1,6 @@
 //! One step of a session of any jobs and tasks.
 
+ghost use Rattle.b67_session.specs.AttemptStops as stops;
 ghost use Rattle.std.specs.Prelude.{◌≡◌, ◌≢◌, ℕ, ◌+◌, ◌≤◌, List, Option, None, Err, length};
 ghost use Rattle.b67_model.specs.Endings.{ends_with};
 ghost use Rattle.b67_model.specs.State.{Condition, Task, SessionJob};
@@ -15,21 +16,23 @@ ghost use Rattle.b67_layout.specs.Placement.{Placement};
 ghost use Rattle.b67_task.specs.Runs.{Keeps};
 ghost use Rattle.b67_task.specs.Tables.{MachineRepresents};
 ghost use Rattle.b67_task.specs.Counted.{choice_of, CountsHaveRoom};
-ghost use Rattle.b67_session_ends.specs.Closing.{StandsChosen, ChoseSome, Closes};
-ghost use Rattle.b67_session_ends.specs.Holds.{waiting_step, HoldsSo, HoldsSome};
-ghost use Rattle.b67_session_ends.specs.Ends.{StandsBetween};
-ghost use Rattle.b67_session.specs.AttemptStops as stops;
+ghost use Rattle.b67_session.specs.Closing.{StandsChosen, ChoseSome, Closes};
+ghost use Rattle.b67_session.specs.Holds.{waiting_step, HoldsSo, HoldsSome};
+ghost use Rattle.b67_session.specs.Ends.{StandsBetween};
 ghost use Rattle.b67_session.specs.Attempts.{TryLeaves};
 ghost use Rattle.b67_session.specs.Slices.{IsStepDue, StandsAt, IfPresent};
 ghost use Rattle.b67_session.specs.Steps.{chosen_of, EndsStep, Steps};
 
 use crate::attempting::attempt_told;
+use crate::closes::close;
+use crate::counts::count_one;
+use crate::ends::finish;
+use crate::holds::make_wait;
 use crate::tries::Tried;
 use crate::turns::give_turn;
 use b67_backing::Backing;
 use b67_io::Sink;
 use b67_mcp::Stop;
-use b67_session_ends::{close, count_one, finish, make_wait};
 use b67_stack::Step;
 use b67_task::{Chosen, Machine, TaskState, choose};
 use b67_word::{Ending, Failed};

@@ -1,7 +1,7 @@
 //! Sessions that are opened, and what is refused.
 
 ghost use Rattle.std.specs.Prelude.{◌≡◌, ◌<◌, ◌≤◌, ◌^◌, length};
-ghost use Rattle.b67_session_open.specs.Decks.{DeckInRange};
+ghost use Rattle.b67_session.specs.Decks.{DeckInRange};
 
 use crate::given::{device_of, nth, same};
 use b67_backing::Backing;
@@ -9,7 +9,7 @@ use b67_codefile::read;
 use b67_core::Core;
 use b67_load::{Admitted, verify};
 use b67_model_text::{Body, Deck, Job, Jobs, Name, Switches};
-use b67_session_open::{OpenFault, open};
+use b67_session::{OpenFault, open_machine};
 use b67_task::{JobRow, Machine};
 use b67_word::{Bytes, Numbers, Word};
 use std::alloc::Global;
@@ -79,7 +79,7 @@ fn open_small<B: Backing>(
     requires range { DeckInRange deck.now }
     requires each { length programs.now ≡ length deck.now.jobs }
 {
-    open(alloc, deck, programs, 256, backing)
+    open_machine(alloc, deck, programs, 256, backing)
 }
 
 /// Opens it over so many sectors, where the write of that number fails.

@@ -2,7 +2,7 @@
 
 ghost use Rattle.std.specs.Prelude.{◌≡◌, ◌+◌, ◌<◌, ◌≤◌, ◌^◌, length, IfSome};
 ghost use Rattle.b67_session.specs.Slices.{IsOpen};
-ghost use Rattle.b67_session_open.specs.Decks.{DeckInRange};
+ghost use Rattle.b67_session.specs.Decks.{DeckInRange};
 
 use crate::given::{device_of, paper_of, run_over, same, text_of};
 use b67_backing::Backing;

@@ -1,5 +1,5 @@
 use Rattle.std.proofs.Common.{ℕ, Some, Ok, Err, refl, sym, subst}
-use Rattle.b67_session_open.proofs.InitialOpens.{uncalled}
+use Rattle.b67_session.proofs.InitialOpens.{uncalled}
 use Rattle.b67_image.specs.Meaning.{IsImageRead}
 use Rattle.b67_job.specs.Stepping.{is_stepped, isnt_read}
 use Rattle.b67_job.proofs.Going.{image_stands}

@@ -1,5 +1,5 @@
 use Rattle.std.proofs.Common.{refl}
-use Rattle.b67_session_open.proofs.InitialOpens.{uncalled}
+use Rattle.b67_session.proofs.InitialOpens.{uncalled}
 use Rattle.b67_gen.specs.Generated.{generated_text}
 use Rattle.b67_job.specs.Device.{device_of}
 use Rattle.b67_job.specs.Due.{exercise_wants_memory}

@@ -1,5 +1,5 @@
 use Rattle.std.proofs.Common.{ℕ, Some, Ok, refl, ap, sym, subst}
-use Rattle.b67_session_open.proofs.InitialOpens.{uncalled}
+use Rattle.b67_session.proofs.InitialOpens.{uncalled}
 use Rattle.b67_image.specs.Meaning.{IsImageRead}
 use Rattle.b67_job.specs.Device.{device_of}
 use Rattle.b67_job.specs.declared.command.CommandLine.TheVariants as lines

@@ -1,5 +1,5 @@
 use Rattle.std.proofs.Common.{refl}
-use Rattle.b67_session_open.proofs.InitialOpens.{uncalled}
+use Rattle.b67_session.proofs.InitialOpens.{uncalled}
 use Rattle.b67_job.specs.Device.{device_of}
 use Rattle.b67_job.proofs.Served.{loaded_in_range, served_deck, served_refusal, without}
 use Rattle.b67_job.proofs.top.answer_run.Goals as goal

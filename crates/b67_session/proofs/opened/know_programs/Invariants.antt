@@ -1,7 +1,0 @@
-use Rattle.std.proofs.Common.{drop}
-use Rattle.std.specs.List.{AllByRecursion}
-use Rattle.b67_session_open.specs.Decks.{IsLoaded}
-use Rattle.b67_session.proofs.opened.know_programs.Given as goal
-
-abbrev pub invariant-programs : goal.invariant-programs
-invariant-programs l = AllByRecursion IsLoaded (drop l.program-index l.programs) → AllByRecursion IsLoaded l.programs
