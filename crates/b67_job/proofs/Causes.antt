@@ -7,7 +7,7 @@ use denote.Ref.{Bor}
 use Rattle.b67_io.specs.Told.{Took}
 use Rattle.b67_io.specs.Causes.{Rose}
 use Rattle.b67_task.specs.declared.tables.Machine.{Machine}
-use Rattle.b67_job_admit.specs.Admitting.{Prepared}
+use Rattle.b67_job.specs.Admitting.{Prepared}
 use Rattle.b67_session_lines.specs.Stops.{IsFinished}
 use Rattle.b67_job.specs.declared.summaries.Closing.TheVariants as closings
 use Rattle.b67_job.specs.Device.{Device, DeviceTells, Failed, DeviceUnchanged}

@@ -11,7 +11,7 @@ use Rattle.b67_model_text.specs.declared.deck.Deck.{Deck}
 use Rattle.b67_model.specs.Program.{Program}
 use Rattle.b67_model.specs.Schedule.{Session}
 use Rattle.b67_task.specs.declared.tables.Machine.{Machine}
-use Rattle.b67_job_admit.specs.Admitting.{Prepared}
+use Rattle.b67_job.specs.Admitting.{Prepared}
 use Rattle.b67_session.specs.declared.open_fault.OpenFault.{OpenFault}
 use Rattle.b67_session.specs.declared.open_fault.OpenFault.TheVariants as faults
 use Rattle.b67_session.specs.Decks.{session_of, deck_given, given_of, DeckInRange, IsLoaded}

@@ -16,3 +16,8 @@ pub mod Causes
 pub mod Passed
 pub mod LookedAt
 pub mod Stepped
+pub mod Behind
+pub mod Loads
+pub mod Cards
+pub mod Judged
+pub mod Bound

@@ -10,8 +10,8 @@ use Rattle.b67_codefile.specs.Meaning.{program_of}
 use Rattle.b67_layout.specs.Machine.{Says, DeviceAfterCalls, content_after}
 use Rattle.b67_task.specs.declared.tables.Machine.{Machine}
 use Rattle.b67_task.specs.Tables.{Given}
-use Rattle.b67_job_admit.specs.declared.programs.Loaded.{Loaded}
-use Rattle.b67_job_admit.specs.Meets.{LoadsDeck, prepared_of}
+use Rattle.b67_job.specs.declared.programs.Loaded.{Loaded}
+use Rattle.b67_job.specs.Meets.{LoadsDeck, prepared_of}
 use Rattle.b67_session.specs.Decks.{IsLoaded}
 use Rattle.b67_session.specs.Opens.{OpensAs, IsOpened}
 use Rattle.b67_session.specs.Slices.{StandsAt, SetsOutSome}

@@ -7,7 +7,7 @@ use Rattle.b67_model_text.specs.declared.deck.Job.{Job}
 use Rattle.b67_model_text.specs.Deck as deck
 use Rattle.b67_model_text.specs.Deck.{deck_of}
 use Rattle.b67_model_text.proofs.Answers.{err-ok}
-use Rattle.b67_job_admit.specs.Admitting.{Admission, ◌>>=◌, of_deck, program_in, programs, admitted, prepared, Prepared, deck_prepared}
+use Rattle.b67_job.specs.Admitting.{Admission, ◌>>=◌, of_deck, program_in, programs, admitted, prepared, Prepared, deck_prepared}
 use Rattle.b67_session.specs.Decks.{DeckInRange}
 use Rattle.b67_job.specs.Ranges.{CardsInRange}
 use Rattle.b67_job.proofs.Jobs.{decks_in_range, cards_in_range}

@@ -11,21 +11,21 @@ use Rattle.b67_codefile.specs.Meaning.{program_of}
 use Rattle.b67_model_text.specs.Deck.{limit, deck_of}
 use Rattle.b67_card.specs.Reading.{GaveFirst}
 use Rattle.b67_task.specs.declared.tables.Machine.{Machine}
-use Rattle.b67_job_admit.specs.declared.refusal.Refusal.{Refusal}
-use Rattle.b67_job_admit.specs.declared.refusal.Refusal.TheVariants as refusals
-use Rattle.b67_job_admit.specs.declared.fault.AdmitFault.{AdmitFault}
-use Rattle.b67_job_admit.specs.declared.fault.AdmitFault.TheVariants as admits
-use Rattle.b67_job_admit.specs.declared.programs.Loaded.{Loaded}
+use Rattle.b67_job.specs.declared.refusal.Refusal.{Refusal}
+use Rattle.b67_job.specs.declared.refusal.Refusal.TheVariants as refusals
+use Rattle.b67_job.specs.declared.admit_fault.AdmitFault.{AdmitFault}
+use Rattle.b67_job.specs.declared.admit_fault.AdmitFault.TheVariants as admits
+use Rattle.b67_job.specs.declared.programs.Loaded.{Loaded}
 use Rattle.b67_model_text.specs.declared.deck.Deck.{Deck}
 use Rattle.b67_gen.specs.Generated.{generated_text}
-use Rattle.b67_job_admit.specs.Admitting.{Prepared, with_programs, deck_prepared}
-use Rattle.b67_job_admit.specs.Meets.{MeetsAnswer, LoadsDeck, prepared_of}
-use Rattle.b67_job_admit.proofs.Loads.{loaded, refused_program}
-use Rattle.b67_job_admit.specs.Told.{refusal_text}
-use Rattle.b67_job_admit.specs.Verdicts.{Verdict}
-use Rattle.b67_job_admit.specs.CommandMeets.{IsJudged}
-use Rattle.b67_job_admit.proofs.Bound.{bind_long}
-use Rattle.b67_job_admit.proofs.Judged.{too_long, check_long, asm_long, convert_long}
+use Rattle.b67_job.specs.Admitting.{Prepared, with_programs, deck_prepared}
+use Rattle.b67_job.specs.Meets.{MeetsAnswer, LoadsDeck, prepared_of}
+use Rattle.b67_job.proofs.Loads.{loaded, refused_program}
+use Rattle.b67_job.specs.Told.{refusal_text}
+use Rattle.b67_job.specs.Verdicts.{Verdict}
+use Rattle.b67_job.specs.CommandMeets.{IsJudged}
+use Rattle.b67_job.proofs.Bound.{bind_long}
+use Rattle.b67_job.proofs.Judged.{too_long, check_long, asm_long, convert_long}
 use Rattle.b67_session.specs.Decks.{DeckInRange}
 use Rattle.b67_job.proofs.Prepared.{prepared_in_range}
 use Rattle.b67_job.specs.Device.{Device, DeviceUnchanged}

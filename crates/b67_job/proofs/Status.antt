@@ -10,7 +10,7 @@ use Rattle.b67_io.specs.Causes.{Stayed}
 use Rattle.b67_model_text.specs.Deck as deck_text
 use Rattle.b67_model_text.specs.Deck.{Refusal}
 use Rattle.b67_task.specs.declared.tables.Machine.{Machine}
-use Rattle.b67_job_admit.specs.Admitting.{Prepared}
+use Rattle.b67_job.specs.Admitting.{Prepared}
 use Rattle.b67_model.specs.Common.{need, need_of_job, need_by, need_next, Task, SessionJob, Session}
 use Rattle.b67_law.specs.Turns.{IsNext}
 use Rattle.b67_session.specs.Passed.{TakesSectors}

@@ -8,14 +8,14 @@ use Rattle.b67_model_text.specs.Deck.{limit}
 use Rattle.b67_model.specs.Common.{Task, SessionJob, need_next, after, Session}
 use Rattle.b67_law.specs.Turns.{IsNext}
 use Rattle.b67_task.specs.declared.tables.Machine.{Machine}
-use Rattle.b67_job_admit.specs.declared.refusal.Refusal.{Refusal}
-use Rattle.b67_job_admit.specs.declared.fault.AdmitFault.{AdmitFault}
-use Rattle.b67_job_admit.specs.declared.fault.AdmitFault.TheVariants as admits
-use Rattle.b67_job_admit.specs.Admitting.{Prepared}
-use Rattle.b67_job_admit.specs.CommandMeets.{IsJudged}
-pub use Rattle.b67_job_admit.specs.Told.{reading_text}
-use Rattle.b67_job_admit.specs.Told.{refusal_text}
-use Rattle.b67_job_admit.specs.Verdicts.{Verdict}
+use Rattle.b67_job.specs.declared.refusal.Refusal.{Refusal}
+use Rattle.b67_job.specs.declared.admit_fault.AdmitFault.{AdmitFault}
+use Rattle.b67_job.specs.declared.admit_fault.AdmitFault.TheVariants as admits
+use Rattle.b67_job.specs.Admitting.{Prepared}
+use Rattle.b67_job.specs.CommandMeets.{IsJudged}
+pub use Rattle.b67_job.specs.Told.{reading_text}
+use Rattle.b67_job.specs.Told.{refusal_text}
+use Rattle.b67_job.specs.Verdicts.{Verdict}
 use Rattle.b67_session_lines.specs.Ends.{EndsPrinting}
 use Rattle.b67_session.specs.Slices.{StandsAt}
 use Rattle.b67_session.specs.Passed.{TakesSectors}

@@ -1,8 +1,8 @@
 -- What a command and a text ask for.
 use Rattle.std.specs.Prelude.{ℕ, List, Ok, Err, Option, Some, None, Bool, true, false}
-use Rattle.b67_job_admit.specs.declared.refusal.Refusal.{Refusal}
-use Rattle.b67_job_admit.specs.Admitting.{Admission, Prepared, deck_prepared}
-use Rattle.b67_job_admit.specs.Verdicts.{Verdict, check_verdict, asm_verdict, convert_verdict, bind_verdict}
+use Rattle.b67_job.specs.declared.refusal.Refusal.{Refusal}
+use Rattle.b67_job.specs.Admitting.{Admission, Prepared, deck_prepared}
+use Rattle.b67_job.specs.Verdicts.{Verdict, check_verdict, asm_verdict, convert_verdict, bind_verdict}
 use Rattle.b67_session_lines.specs.Stops.{run_status}
 use Rattle.b67_gen.specs.Generated.{generated_text}
 use Rattle.b67_model_text.specs.Deck as deck

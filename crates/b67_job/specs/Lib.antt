@@ -15,3 +15,8 @@ pub mod Statuses
 pub mod Searches
 pub mod SearchStatus
 pub mod Stepping
+pub mod Admitting
+pub mod Told
+pub mod Meets
+pub mod Verdicts
+pub mod CommandMeets

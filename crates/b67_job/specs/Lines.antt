@@ -3,8 +3,8 @@ use Rattle.std.specs.Prelude.{ℕ, List, [], ◌++◌, codes, decimal}
 use Rattle.b67_io.specs.Line.{ended}
 use Rattle.b67_task.specs.declared.tables.Machine.{Machine}
 use Rattle.b67_image.specs.Image.{image_text}
-pub use Rattle.b67_job_admit.specs.Told.{no_core_line, backing_full_line, backing_fault_line, memory_line, memory_text}
-use Rattle.b67_job_admit.specs.Told.{card_text}
+pub use Rattle.b67_job.specs.Told.{no_core_line, backing_full_line, backing_fault_line, memory_line, memory_text}
+use Rattle.b67_job.specs.Told.{card_text}
 use Rattle.b67_session_lines.specs.Stops.{halted_line}
 use Rattle.b67_job.specs.declared.summaries.Exercise.{Exercise}
 use Rattle.b67_job.specs.declared.summaries.Closing.{Closing}

@@ -6,7 +6,7 @@ use Rattle.b67_model_text.specs.declared.deck.Deck.{Deck}
 use Rattle.b67_model_text.specs.declared.deck.Job.{Job}
 use Rattle.b67_model_text.specs.Cards.{is_name}
 use Rattle.b67_model_text.specs.Deck.{deck_of}
-use Rattle.b67_job_admit.specs.Admitting.{deck_prepared}
+use Rattle.b67_job.specs.Admitting.{deck_prepared}
 use Rattle.b67_session.specs.Decks.{DeckInRange}
 use Rattle.b67_image.specs.Within.{AreItems, IsSwitch}
 use Rattle.b67_model.specs.declared.limits.TheConstants.{MOST_QUANTUM, MOST_SWITCHES}

@@ -9,8 +9,8 @@ use Rattle.b67_exec_cells.specs.Running.{code_area}
 use Rattle.b67_law.specs.Turns.{IsNext}
 use Rattle.b67_session.specs.Passed.{IsLacking, IsShortAt, CodeFits}
 pub use Rattle.b67_session.specs.Attempts.{TellsSectors, for_want, for_task, for_length}
-use Rattle.b67_job_admit.specs.Admitting.{Prepared}
-pub use Rattle.b67_job_admit.specs.Admitting.{run_of}
+use Rattle.b67_job.specs.Admitting.{Prepared}
+pub use Rattle.b67_job.specs.Admitting.{run_of}
 use Rattle.b67_session.specs.Decks.{deck_given, given_of}
 use Rattle.b67_session.specs.Opens.{need_of, sectors_of_all}
 use Rattle.b67_task.specs.declared.tables.Machine.{Machine}

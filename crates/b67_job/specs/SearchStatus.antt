@@ -1,7 +1,7 @@
 -- The status that tells why a search answers nothing: that of a run which stops so.
 use Rattle.std.specs.Prelude.{ℕ}
-use Rattle.b67_job_admit.specs.declared.fault.AdmitFault.{AdmitFault}
-use Rattle.b67_job_admit.specs.declared.fault.AdmitFault.TheVariants as admits
+use Rattle.b67_job.specs.declared.admit_fault.AdmitFault.{AdmitFault}
+use Rattle.b67_job.specs.declared.admit_fault.AdmitFault.TheVariants as admits
 use Rattle.b67_session.specs.Stops.{Stop}
 use Rattle.b67_session.specs.Stops as stops
 use Rattle.b67_job.specs.Finishing.{refused_status}

@@ -5,9 +5,9 @@ use Rattle.b67_io.specs.Causes.{Rose}
 use Rattle.b67_codefile.specs.Meaning.{program_of}
 use Rattle.b67_model.specs.Common.{Run}
 use Rattle.b67_task.specs.declared.tables.Machine.{Machine}
-use Rattle.b67_job_admit.specs.Admitting.{Prepared}
-use Rattle.b67_job_admit.specs.Meets.{LoadsDeck, prepared_of}
-use Rattle.b67_job_admit.specs.declared.programs.Loaded.{Loaded}
+use Rattle.b67_job.specs.Admitting.{Prepared}
+use Rattle.b67_job.specs.Meets.{LoadsDeck, prepared_of}
+use Rattle.b67_job.specs.declared.programs.Loaded.{Loaded}
 use Rattle.b67_session.specs.Opens.{OpensAs, IsOpened}
 use Rattle.b67_layout.specs.Machine.{content_after}
 use Rattle.b67_session.specs.Stops.{Stop}

@@ -4,7 +4,7 @@ use denote.Ref.{Bor}
 use Rattle.b67_io.specs.Told.{Took}
 use Rattle.b67_io.specs.Causes.{Rose}
 use Rattle.b67_task.specs.declared.tables.Machine.{Machine}
-use Rattle.b67_job_admit.specs.Admitting.{Prepared}
+use Rattle.b67_job.specs.Admitting.{Prepared}
 use Rattle.b67_session_lines.specs.Stops.{Run, IsFinished}
 use Rattle.b67_job.specs.Command.{command_line_of}
 use Rattle.b67_job.specs.declared.command.CommandLine.{CommandLine}

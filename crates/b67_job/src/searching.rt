@@ -6,9 +6,10 @@ ghost use Rattle.b67_job.specs.Searches.{FindsInDeck, FailsInDeck};
 ghost use Rattle.b67_job.specs.declared.searching.SearchFault.{SearchFault};
 ghost use Rattle.b67_model.specs.declared.limits.TheConstants.{LEAST_CORE};
 
+use crate::admission::admit;
+use crate::admit_fault::AdmitFault;
 use b67_backing::Backing;
 use b67_io::Source;
-use b67_job_admit::{AdmitFault, admit};
 use b67_session::{CodePlace, OpenFault, Sought, Stop, find, know_programs, open_machine};
 use std::alloc::Global;
 

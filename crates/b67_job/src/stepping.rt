@@ -1,11 +1,11 @@
 //! Steps from the machine of an image, and the image of the machine then.
 
-ghost use Rattle.std.specs.Prelude.{◌≡◌, ◌≢◌, ◌+◌, ℕ, List, length, Option, Some, None, Ok, Err};
+ghost use Rattle.b67_task.specs.declared.tables.Machine as machine;
+ghost use Rattle.std.specs.Prelude.{◌≡◌, ◌+◌, length, Some, None, Ok, Err};
 ghost use Rattle.b67_layout.specs.Machine.{DeviceAfterCalls};
 ghost use Rattle.b67_model.specs.Schedule.{Session};
 ghost use Rattle.b67_session.specs.Slices.{StandsAt};
 ghost use Rattle.b67_task.specs.Tables.{AreCountable};
-ghost use Rattle.b67_task.specs.declared.tables.Machine as machine;
 ghost use Rattle.b67_job.specs.Device.{device_of};
 ghost use Rattle.b67_job.specs.Going.{HasGoneOn};
 ghost use Rattle.b67_job.specs.Passed.{AreTyped, parts_of};

@@ -4,8 +4,8 @@ ghost use Rattle.std.specs.Prelude.{◌≡◌};
 ghost use Rattle.b67_job.specs.Finishing.{refused_status};
 ghost use Rattle.b67_job.specs.SearchStatus.{unadmitted_status, stopped_status, search_status};
 
+use crate::admit_fault::AdmitFault;
 use crate::searching::SearchFault;
-use b67_job_admit::AdmitFault;
 use b67_session::{OpenFault, Stop};
 
 fn unadmitted_status(fault: AdmitFault) -> u8

@@ -7,9 +7,7 @@ ghost use Rattle.b67_backing.specs.Memory.{memory_sectors, failing_reads, failin
 ghost use Rattle.b67_backing.specs.Held.{blank};
 ghost use Rattle.b67_job.specs.Command.{command_line_of, backing_path};
 ghost use Rattle.b67_job.specs.Device.{device_of};
-ghost use Rattle.b67_job.specs.Due.{reading_text};
 ghost use Rattle.b67_job.specs.Judgement.{reads_text, text_limit};
-ghost use Rattle.b67_session_lines.specs.Ends.{EndsPrinting};
 ghost use Rattle.b67_program.specs.Opening.{OpensPaths, Finds, Leaves, paths_of};
 ghost use Rattle.b67_program.specs.Input.{IsTakenIn};
 ghost use Rattle.b67_program.specs.Served.{ImageIsTyped, IsAnswered, IsServed};
@@ -20,9 +18,9 @@ use b67_backing::{Backing, MemoryBacking};
 use b67_io::{FreeTape, Sink, Source};
 use b67_job::{
     CommandLine, Outcome, backing_path, command_of, outcome_is_typed, refuse_memory, run,
+    say_reading_fault,
 };
 use b67_model::{DECK_BYTES, IMAGE_BYTES};
-use b67_session_lines::{line_of, say};
 use b67_word::{Bytes, Numbers};
 use std::alloc::{AllocError, Global};
 use std::process::ExitCode;
@@ -63,12 +61,6 @@ fn take_in<S: Source>(
         Some(limit) => read_input(alloc, input, limit),
         None => Ok(Bytes::new(alloc)),
     }
-}
-
-fn say_reading_fault<K: Sink>(printer: &mut K) -> u8
-    ensures { EndsPrinting K.taken K.faults printer.old printer.new 7 reading_text result }
-{
-    say(printer, 7, &line_of("READING FAULT"))
 }
 
 // Looks at each number of the machine whose image the words asked for, if a call left one: its type bounds it. Changes nothing.

@@ -13,8 +13,8 @@ use Rattle.b67_model_text.specs.Command.{Command, Hex}
 use Rattle.b67_model_text.specs.Deck.{limit, deck_of}
 use Rattle.b67_model_text.specs.Asm.{assembled}
 use Rattle.b67_codefile.specs.Reading.{file_of}
-use Rattle.b67_job_admit.specs.Admitting.{Admission, ◌>>=◌, Prepared, of_deck, of_cards, program_in, programs, first_broken_rule, by_rules, admitted, prepared, with_programs, deck_prepared}
-use Rattle.b67_job_admit.specs.Verdicts.{job_lines, check_verdict, hex_lines}
+use Rattle.b67_job.specs.Admitting.{Admission, ◌>>=◌, Prepared, of_deck, of_cards, program_in, programs, first_broken_rule, by_rules, admitted, prepared, with_programs, deck_prepared}
+use Rattle.b67_job.specs.Verdicts.{job_lines, check_verdict, hex_lines}
 use Rattle.b67_promises.proofs.Renumbered.{texts_of, same_program}
 use Rattle.b67_promises.proofs.Bodies.{Relation, JobsAlike, DecksAlike, IsBegin}
 use Rattle.b67_promises.proofs.TurnCards.{cards_at}

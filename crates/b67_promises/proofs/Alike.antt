@@ -2,7 +2,7 @@
 use Rattle.std.proofs.Common.{◌≡◌, ◌≤◌, ◌<◌, ℕ, List, ◌++◌, refl, sym, ap, subst, ◌∙◌, arith, Option, Ok}
 use Rattle.std.specs.Prelude.{IfSome}
 use Rattle.b67_model.specs.Common.{run_text, RunLine, live_tasks}
-use Rattle.b67_job_admit.specs.Admitting.{Prepared, deck_prepared}
+use Rattle.b67_job.specs.Admitting.{Prepared, deck_prepared}
 use Rattle.b67_session_lines.specs.Stops.{Run}
 use Rattle.b67_job.specs.declared.summaries.Exercise.{Exercise}
 use Rattle.b67_job.specs.Lines.{summary}

@@ -19,8 +19,8 @@ use Rattle.b67_bind.specs.Reasons.{Binding, PairRefusal, binding, first_refusal}
 use Rattle.b67_bind.specs.Bound.{bound}
 use Rattle.b67_bind.specs.Laws.{IsGood}
 use Rattle.b67_bind.proofs.Admitted.{bound-good}
-use Rattle.b67_job_admit.specs.Admitting.{◌>>=◌, of_deck, of_cards, codefile_in, of_file, program_in, first_broken_rule, by_rules}
-use Rattle.b67_job_admit.specs.Verdicts.{codefile_of, hex_lines, file_in, two_jobs, by_pairs, bound_text, bind_jobs, bind_deck, bind_verdict}
+use Rattle.b67_job.specs.Admitting.{◌>>=◌, of_deck, of_cards, codefile_in, of_file, program_in, first_broken_rule, by_rules}
+use Rattle.b67_job.specs.Verdicts.{codefile_of, hex_lines, file_in, two_jobs, by_pairs, bound_text, bind_jobs, bind_deck, bind_verdict}
 use Rattle.b67_promises.proofs.HexBack.{byte_at}
 use Rattle.b67_promises.proofs.Within.{assembled_within}
 use Rattle.b67_promises.proofs.TurnCalls.{after, of_deck_ok}

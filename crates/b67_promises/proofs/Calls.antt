@@ -6,8 +6,8 @@ use Rattle.b67_io.specs.Line.{ended}
 use Rattle.b67_io.specs.Told.{Took}
 use Rattle.b67_model.specs.Common.{run_text, Session, RunLine, lines, after, live_tasks}
 use Rattle.b67_task.specs.declared.tables.Machine.{Machine}
-use Rattle.b67_job_admit.specs.declared.refusal.Refusal.{Refusal}
-use Rattle.b67_job_admit.specs.Admitting.{Prepared}
+use Rattle.b67_job.specs.declared.refusal.Refusal.{Refusal}
+use Rattle.b67_job.specs.Admitting.{Prepared}
 use Rattle.b67_session_lines.specs.Stops.{Run, live_after, halted_line, IsFinished, IsHalted, halted}
 use Rattle.b67_session_lines.proofs.Statuses.{finished-status, halted-status, stops-once}
 use Rattle.b67_job.specs.declared.command.CommandLine.TheVariants as commands

@@ -19,9 +19,9 @@ use Rattle.b67_model_text.specs.Deck as deck_text
 use Rattle.b67_model_text.specs.Deck.{Said, body, bytes_in, program_at}
 use Rattle.b67_model_text.specs.declared.deck.Body.TheVariants.{Cards, Bytes}
 use Rattle.b67_task.specs.declared.tables.Machine.{Machine}
-use Rattle.b67_job_admit.specs.declared.refusal.Refusal.{Refusal}
-use Rattle.b67_job_admit.specs.Admitting.{Prepared, program_in, first_broken_rule, deck_prepared}
-use Rattle.b67_job_admit.specs.Verdicts.{Verdict, job_lines, codefile_of, hex_lines, asm_verdict, convert_verdict, bind_verdict, check_verdict}
+use Rattle.b67_job.specs.declared.refusal.Refusal.{Refusal}
+use Rattle.b67_job.specs.Admitting.{Prepared, program_in, first_broken_rule, deck_prepared}
+use Rattle.b67_job.specs.Verdicts.{Verdict, job_lines, codefile_of, hex_lines, asm_verdict, convert_verdict, bind_verdict, check_verdict}
 use Rattle.b67_job.specs.declared.command.CommandLine.TheVariants as commands
 use Rattle.b67_job.specs.Command.{command_line_of}
 use Rattle.b67_job.specs.Device.{Device}

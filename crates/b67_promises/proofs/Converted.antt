@@ -5,7 +5,7 @@ use Rattle.b67_codefile.specs.Spelling.{spelling, IsWithin}
 use Rattle.b67_codefile.specs.Reading.{told}
 use Rattle.b67_codefile.proofs.Forms.{reading_again}
 use Rattle.b67_codefile.proofs.Found.{is_found}
-use Rattle.b67_job_admit.specs.Admitting.{of_file}
+use Rattle.b67_job.specs.Admitting.{of_file}
 use Rattle.b67_promises.specs.Cards.{ConvertingKeepsPrograms}
 
 in_second : (f : Codefile) → IsWithin f → IsWithin (record f { version = 2 })

@@ -8,9 +8,9 @@ use Rattle.b67_io.specs.Causes.{Rose}
 use Rattle.b67_model.specs.Common.{Session}
 use Rattle.b67_task.specs.declared.tables.Machine.{Machine}
 use Rattle.b67_bind.specs.declared.pairs.Pair.{Pair}
-use Rattle.b67_job_admit.specs.declared.refusal.Refusal.{Refusal}
-use Rattle.b67_job_admit.specs.Admitting.{Prepared}
-use Rattle.b67_job_admit.specs.Verdicts.{Verdict, asm_verdict, convert_verdict, bind_verdict}
+use Rattle.b67_job.specs.declared.refusal.Refusal.{Refusal}
+use Rattle.b67_job.specs.Admitting.{Prepared}
+use Rattle.b67_job.specs.Verdicts.{Verdict, asm_verdict, convert_verdict, bind_verdict}
 use Rattle.b67_session_lines.specs.Stops.{Run}
 use Rattle.b67_job.specs.declared.summaries.Exercise.{Exercise}
 use Rattle.b67_job.specs.declared.command.CommandLine.{CommandLine}

@@ -5,7 +5,7 @@ use Rattle.b67_model.specs.Common.{Program}
 use Rattle.b67_model_text.specs.declared.deck.Job.{Job}
 use Rattle.b67_law.specs.Opening.{Opening, opened_from}
 use Rattle.b67_session.specs.Decks.{openings_of}
-use Rattle.b67_job_admit.specs.Admitting.{Prepared, programs, prepared}
+use Rattle.b67_job.specs.Admitting.{Prepared, programs, prepared}
 use Rattle.b67_job.specs.Device.{Device}
 use Rattle.b67_job.specs.Runs.{run_of}
 use Rattle.b67_job.specs.Judgement.{Runs, judgement}

@@ -6,7 +6,7 @@ use Rattle.b67_layout.specs.Machine.{content_after}
 use Rattle.b67_layout.proofs.Devices.{says_self}
 use Rattle.b67_session_lines.proofs.Statuses.{after-add}
 use denote.Ref.{Bor}
-use Rattle.b67_job_admit.specs.Admitting.{Prepared, deck_prepared}
+use Rattle.b67_job.specs.Admitting.{Prepared, deck_prepared}
 use Rattle.b67_task.specs.declared.tables.Machine.{Machine}
 use Rattle.b67_job.specs.Device.{Device, DeviceTells}
 use Rattle.b67_job.specs.Runs.{run_of, StandsAt, Between, TakesOn, IsOnward, by_a_step, in_a_turn, FollowEach, HasPaged, PagesByStep, goes_well, stops_in, PagedFromOpening}

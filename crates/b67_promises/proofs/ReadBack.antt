@@ -12,7 +12,7 @@ use Rattle.b67_backing.proofs.Linkings.{links_in-length}
 use Rattle.b67_layout_shown.specs.Machines.{RepresentsOne}
 use Rattle.b67_job.proofs.Passed.{stands_untold}
 use Rattle.b67_task.specs.declared.tables.Machine.{Machine}
-use Rattle.b67_job_admit.specs.Admitting.{Prepared, deck_prepared}
+use Rattle.b67_job.specs.Admitting.{Prepared, deck_prepared}
 use Rattle.b67_image.specs.Text.{limit}
 use Rattle.b67_image.specs.Parts.{parts_of}
 use Rattle.b67_image.specs.Within.{ArePartsWithin}

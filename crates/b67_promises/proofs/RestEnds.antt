@@ -12,7 +12,7 @@ use Rattle.b67_job.specs.Runs.{StandsAt}
 use Rattle.b67_session_lines.specs.Stops.{live_after}
 use Rattle.b67_session_lines.proofs.Statuses.{after-add}
 use Rattle.b67_task.specs.declared.tables.Machine.{Machine}
-use Rattle.b67_job_admit.specs.Admitting.{Prepared}
+use Rattle.b67_job.specs.Admitting.{Prepared}
 use Rattle.b67_image.specs.Text.{limit}
 use Rattle.b67_image.specs.Parts.{ImageParts, parts_of}
 use Rattle.b67_image.specs.Meaning.{told_in, IsMeant}

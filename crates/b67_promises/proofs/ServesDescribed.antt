@@ -17,7 +17,7 @@ use Rattle.b67_program.specs.Served.{IsCarriedOut, IsAnswered, carried_out, read
 use Rattle.b67_promises.specs.Described as described
 use Rattle.b67_promises.specs.Described.{IsRunCommand, IsAnsweredSo, IsDueOf, PrintsOverFile}
 use Rattle.b67_promises.proofs.CallsDescribed.{run_asks, call_is, longer}
-use Rattle.b67_job_admit.specs.Admitting.{Prepared, deck_prepared}
+use Rattle.b67_job.specs.Admitting.{Prepared, deck_prepared}
 use Rattle.b67_promises.specs.Paging.{IsWhole, FileIsTold}
 use Rattle.b67_promises.specs.Paged.{PagesAllTheWay, PagesOverFile}
 use Rattle.b67_promises.proofs.Calls.{short_at}

@@ -19,8 +19,8 @@ use Rattle.b67_codefile.specs.declared.fault.BadFile.{BadFile}
 use Rattle.b67_codefile.specs.declared.file.Codefile.{Codefile}
 use Rattle.b67_codefile.specs.Spelling.{spelling}
 use Rattle.b67_codefile.specs.Reading.{file_of}
-use Rattle.b67_job_admit.specs.Admitting.{◌>>=◌, Prepared, of_deck, of_cards, codefile_in, of_file, program_in, programs, prepared, deck_prepared}
-use Rattle.b67_job_admit.specs.Verdicts.{codefile_of, hex_lines, asm_of, asm_verdict, convert_verdict}
+use Rattle.b67_job.specs.Admitting.{◌>>=◌, Prepared, of_deck, of_cards, codefile_in, of_file, program_in, programs, prepared, deck_prepared}
+use Rattle.b67_job.specs.Verdicts.{codefile_of, hex_lines, asm_of, asm_verdict, convert_verdict}
 use Rattle.b67_session.specs.Decks.{openings_of, session_of}
 use Rattle.b67_promises.proofs.Renumbered.{texts_of, one_program}
 use Rattle.b67_promises.proofs.HexBack.{cards_are_lines, cards_are_bytes, cards_no_commands, all_digits_bytes, byte_at, texts_on_lines}

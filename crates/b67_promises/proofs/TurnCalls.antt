@@ -6,7 +6,7 @@ use Rattle.b67_model.specs.Common.{Program}
 use Rattle.b67_model_text.specs.declared.deck.Deck.{Deck}
 use Rattle.b67_model_text.specs.Deck as deck
 use Rattle.b67_model_text.specs.Deck.{deck_of}
-use Rattle.b67_job_admit.specs.Admitting.{Admission, ◌>>=◌, Prepared, of_deck, prepared, deck_prepared}
+use Rattle.b67_job.specs.Admitting.{Admission, ◌>>=◌, Prepared, of_deck, prepared, deck_prepared}
 use Rattle.b67_session.specs.Decks.{session_of}
 use Rattle.b67_job.specs.Device.{Device}
 use Rattle.b67_job.specs.declared.summaries.Exercise.{Exercise}

@@ -26,7 +26,7 @@ use Rattle.b67_model_text.proofs.Pass.{content_is}
 use Rattle.b67_asm.specs.Putting.{put_behind}
 use Rattle.b67_asm.specs.Scope.{scope_at}
 use Rattle.b67_asm.proofs.Entries.{entries_fit, no_entries, plain_rest}
-use Rattle.b67_job_admit.specs.Verdicts.{segment_file, codefile_of}
+use Rattle.b67_job.specs.Verdicts.{segment_file, codefile_of}
 use Rattle.b67_promises.proofs.Syllables.{Bytes, bytes_append, content_laid, some_operators, code_fits, IsSmallWord, have_tag}
 use Rattle.b67_promises.proofs.Levels.{SmallLevel, IsSmallLine, lines_small}
 use Rattle.b67_model.specs.declared.limits.TheConstants.{MOST_ARRAY}

@@ -11,8 +11,8 @@ use Rattle.b67_model_text.specs.declared.deck.Body.TheVariants.{Bytes}
 use Rattle.b67_codefile.specs.declared.file.Codefile.{Codefile}
 use Rattle.b67_codefile.specs.Reading.{file_of}
 use Rattle.b67_codefile.specs.Spelling.{spelling, IsWithin}
-use Rattle.b67_job_admit.specs.Admitting.{deck_prepared, program_in}
-use Rattle.b67_job_admit.specs.Verdicts.{codefile_of}
+use Rattle.b67_job.specs.Admitting.{deck_prepared, program_in}
+use Rattle.b67_job.specs.Verdicts.{codefile_of}
 use Rattle.b67_session.specs.Decks.{session_of}
 
 -- the one word is `asm`

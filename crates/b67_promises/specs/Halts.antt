@@ -7,7 +7,7 @@ use Rattle.b67_io.specs.Told.{Took}
 use Rattle.b67_promises.specs.Paging.{texts, IsCutFrom}
 use Rattle.std.specs.List.{flat_map, AllByRecursion}
 use Rattle.b67_model.specs.Common.{RunLine, lines as lines_of, live_after, run_text}
-use Rattle.b67_job_admit.specs.Admitting.{Prepared, deck_prepared, run_of}
+use Rattle.b67_job.specs.Admitting.{Prepared, deck_prepared, run_of}
 use Rattle.b67_task.specs.declared.tables.Machine.{Machine}
 use Rattle.b67_layout_shown.specs.Machines.{RepresentsOne}
 use Rattle.b67_session_lines.specs.Stops.{halted_line}

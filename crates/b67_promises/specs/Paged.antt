@@ -2,7 +2,7 @@
 use Rattle.std.specs.Prelude.{◌≡◌, ◌≢◌, ◌⊎◌, ℕ, List, ◌∷◌, length, Option, None, Ok, Err}
 use Rattle.b67_lemmas.specs.Lists.{Has}
 use Rattle.b67_model.specs.Common.{after}
-use Rattle.b67_job_admit.specs.Admitting.{Prepared, deck_prepared, run_of}
+use Rattle.b67_job.specs.Admitting.{Prepared, deck_prepared, run_of}
 use Rattle.b67_task.specs.declared.tables.Machine.{Machine}
 use Rattle.b67_program.specs.Opening.{Finds, Leaves}
 use Rattle.b67_job.specs.Runs.{StandsAt, Between, MovesItsWants, HasPaged, Stop}

@@ -10,7 +10,7 @@ use Rattle.b67_model.specs.declared.operators.Op.TheVariants.{Namc}
 use Rattle.b67_model.specs.Common.{Session, Segment, ready, lines, after, Program, At, listing}
 use Rattle.b67_model_text.specs.declared.deck.Deck.{Deck}
 use Rattle.b67_model_text.specs.declared.deck.Switch.{Switch}
-use Rattle.b67_job_admit.specs.Admitting.{deck_prepared}
+use Rattle.b67_job.specs.Admitting.{deck_prepared}
 use Rattle.b67_session.specs.Decks.{session_of}
 use Rattle.b67_session_lines.specs.Stops.{Run, StopsWith}
 use Rattle.b67_law.specs.RunMade.{EarlierStep}

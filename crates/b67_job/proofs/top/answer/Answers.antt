@@ -2,7 +2,7 @@ use Rattle.std.proofs.Common.{sym, ap, ◌∙◌, refl, Some}
 use Rattle.std.proofs.lemmas.Bool.{false≢true}
 use Rattle.b67_job.specs.Judgement.{reads_text}
 use Rattle.std.specs.Prelude.{is_some}
-use Rattle.b67_job_admit.specs.Verdicts.{asm_verdict, bind_verdict, check_verdict, convert_verdict}
+use Rattle.b67_job.specs.Verdicts.{asm_verdict, bind_verdict, check_verdict, convert_verdict}
 use Rattle.b67_session.proofs.InitialOpens.{uncalled}
 use Rattle.b67_job.specs.Device.{device_of}
 use Rattle.b67_job.specs.Texts.{only}
