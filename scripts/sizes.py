@@ -11,7 +11,7 @@ import sys
 TOP = os.path.join(os.path.dirname(os.path.abspath(__file__)), "..", "crates")
 PARTS = [
     ("model and text formats", r"model|model_text"),
-    ("laws of the model", r"law_\w+"),
+    ("laws of the model", r"law\w*"),
     ("layout and stack", r"layout\w*|stack"),
     ("operators, intrinsics", r"exec\w*|fetch|entry|refer|mcp\w*"),
     ("paging, tasks", r"presence|overlay|task\w*"),
