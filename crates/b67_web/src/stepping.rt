@@ -1,6 +1,6 @@
 //! Steps from an image for a page.
 
-ghost use Rattle.std.specs.Prelude.{take, length};
+ghost use Rattle.std.specs.Prelude.{◌≤◌, take, length};
 ghost use Rattle.b67_program.specs.Stepped.{IsSteppedInMemory};
 
 use b67_program::step_in_memory;
@@ -21,7 +21,8 @@ pub extern "C" fn b67_web_step(
     lines: &mut [u8],
     printed: &mut usize,
 ) -> u8
-    ensures { IsSteppedInMemory image.now most sectors.old sectors.new (length lines.old) (take printed.new lines.new) result }
+    ensures stepped { IsSteppedInMemory image.now most sectors.old sectors.new (length lines.old) (take printed.new lines.new) result }
+    ensures inside { printed.new ≤ length lines.new }
 {
     step_in_memory(alloc, image, most, sectors, lines, printed)
 }
