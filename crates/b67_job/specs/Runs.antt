@@ -15,7 +15,7 @@ use Rattle.b67_session.specs.Decks.{deck_given, given_of}
 use Rattle.b67_session.specs.Opens.{need_of, sectors_of_all}
 use Rattle.b67_task.specs.declared.tables.Machine.{Machine}
 pub use Rattle.b67_session.specs.Slices.{StandsAt, IsLimited}
-pub use Rattle.b67_session.specs.Slices.{Between, TakesOn, MovesItsWants, IsOnward, by_a_step, in_a_turn, FollowEach, HasPaged, PagesByStep, goes_well, stops_in}
+pub use Rattle.b67_session.specs.Slices.{Between, TakesOn, MovesItsWants, IsOnward, by_a_step, in_a_turn, FollowEach, HasPaged, StopsThere, before_it, in_limit, StopsInStep, PagesByStep, goes_well, stops_in}
 pub use Rattle.b67_session.specs.Stops.{Stop}
 pub use Rattle.b67_session.specs.Slices.{IsOpen, RepresentsWithoutTasks, StepsFit}
 pub use Rattle.b67_session.specs.Shaped.{IsShaped}

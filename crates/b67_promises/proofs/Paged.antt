@@ -71,7 +71,7 @@ all_the_way {B} d core p k tells x = by_pages x.steps.1
       each = each_holds d.holds core p h.between x.opened k x.device d.new h.follow begins;
       ends = inl refl;
     }
-    by_pages (stops_in stop is lives last h moves) = record {
+    by_pages (stops_in stop is lives last h there moves) = record {
       opened = record { machine = x.opened; device = x.device };
       none_made = x.none_made;
       last = last;

@@ -1,5 +1,5 @@
 -- The tables say whether a job stands at its limit with a live task.
-use Rattle.std.proofs.Common.{◌≡◌, ◌≢◌, ℕ, zero, suc, ◌+◌, ◌-◌, Bool, true, false, List, [], ◌∷◌, map, Option, Some, None, refl, sym, ap, ◌∙◌, subst, arith, inl}
+use Rattle.std.proofs.Common.{◌≡◌, ◌≢◌, ℕ, zero, suc, ◌+◌, ◌-◌, Bool, true, false, List, [], ◌∷◌, map, Option, Some, None, refl, sym, ap, ◌∙◌, subst, arith, inl, ◌≤◌}
 use Rattle.std.specs.Prelude.{◌==◌, ◌&&◌, is_some}
 use Rattle.std.specs.List.{list_any, slice_get}
 use Rattle.std.proofs.lemmas.Bool.{true≢false, eqb-true, eq-eqb}
@@ -15,6 +15,7 @@ use Rattle.b67_layout.specs.Common.{Placement, JobShows, JobsShow}
 use Rattle.b67_layout.specs.Rows as rows
 use Rattle.b67_layout.proofs.LiveTasks.{job_at}
 use Rattle.b67_task.specs.declared.tables.TaskRow.{TaskRow}
+use Rattle.b67_task.specs.declared.tables.JobRow.{JobRow}
 use Rattle.b67_task.specs.declared.tables.Tasks.{Tasks}
 use Rattle.b67_task.specs.Tables.{task_row, job_row, TasksShow}
 use Rattle.b67_session.specs.Limits.{AtLimit}
@@ -112,3 +113,27 @@ module _ (plan : Placement) (s : Session) (tasks : Tasks) (numbered : NumberedFr
 
   pub made_all_is : AtLimit tasks true → (found : Bool) (rs : List TaskRow) → rs ≡ tasks.rows.items → found ≡ list_any (λ (r : TaskRow). r.job == tasks.last_job) rs → found ≡ is_some (last_part s)
   made_all_is a found rs same e = e ∙ ap (list_any (λ (r : TaskRow). r.job == tasks.last_job)) same ∙ made_all a
+
+-- whether a last part is due, by the tables
+abbrev pub TellsLimit : Tasks → Bool → Type 0
+TellsLimit tasks at = (plan : Placement) (s : Session) → NumberedFrom 1 s.jobs → TasksShow plan s tasks → at ≡ is_some (last_part s)
+
+-- the job's row says it
+row_says : (tasks : Tasks) (o : Option JobRow) → slice_get tasks.jobs (tasks.last_job - 1) ≡ o → 1 ≤ tasks.last_job → (at : Bool) × AtLimit tasks at
+row_says tasks None e low = (false, record { is = λ r some at. absurd (none-some r (sym e ∙ at)); there = λ no. absurd (true≢false (sym no)) })
+row_says tasks (Some r) e low = (
+  r.made == r.limit,
+  record { is = λ q some at. ap (λ (z : JobRow). z.made == z.limit) (sym (same_Some r q (sym e ∙ at))); there = λ yes. (r, low, e) },
+)
+
+says_by : (tasks : Tasks) (n : ℕ) → tasks.last_job ≡ n → (at : Bool) × AtLimit tasks at
+says_by tasks zero e = (false, record { is = λ r some at. absurd (omega (arith, some, e)); there = λ no. absurd (true≢false (sym no)) })
+says_by tasks (suc n) e = row_says tasks (slice_get tasks.jobs (tasks.last_job - 1)) refl (omega (arith, e))
+
+tells_by : (tasks : Tasks) (at : Bool) → AtLimit tasks at → (due : Bool) × TellsLimit tasks due
+tells_by tasks false a = (false, λ plan s numbered shows. sym (not_made plan s tasks numbered shows a))
+tells_by tasks true a =
+    (list_any (λ (r : TaskRow). r.job == tasks.last_job) tasks.rows.items, λ plan s numbered shows. made_all_is plan s tasks numbered shows a (list_any (λ (r : TaskRow). r.job == tasks.last_job) tasks.rows.items) tasks.rows.items refl refl)
+
+pub tells_limit : (tasks : Tasks) → (due : Bool) × TellsLimit tasks due
+tells_limit tasks = let x = says_by tasks tasks.last_job refl in tells_by tasks x.0 x.1

@@ -1,34 +1,37 @@
 -- A slice that begins with the lines of LIMIT.
 use Rattle.std.proofs.Common.{◌≡◌, ◌≢◌, ℕ, Bool, true, false, List, [], ◌∷◌, Option, Ok, Err, refl, ap, subst, inl, inr, ◌⊎◌, arith}
-use Rattle.std.specs.Prelude.{is_some}
 use Rattle.std.specs.Option.{option_or}
 use Rattle.b67_word.specs.declared.faults.Failed.{Failed}
 use Rattle.b67_lemmas.specs.Lists.{Has}
 use Rattle.b67_lemmas.proofs.Members.{keyed_has}
-use Rattle.b67_model.specs.Common.{Task, SessionJob, run_text, StepResult, number_of, Session, NumberedFrom, IsInOrderButPlaces}
-use Rattle.b67_session_lines.specs.Moments.{first_part, last_part, text_of, due}
+use Rattle.b67_model.specs.Common.{Task, SessionJob, run_text, StepResult, number_of, Session, IsInOrderButPlaces}
+use Rattle.b67_session_lines.specs.Moments.{first_part, text_of, due}
 use Rattle.b67_law.specs.Turns.{IsNext, OrderAfter}
 use Rattle.b67_law.proofs.Limits.{limit_of, no_last, last_parts_restore_order}
 use Rattle.b67_layout.specs.Placement.{Placement}
 use Rattle.b67_session.specs.AttemptStops as stops
-use Rattle.b67_task.specs.declared.tables.Tasks.{Tasks}
 use Rattle.b67_task.specs.declared.tables.Machine.{Machine}
 use Rattle.b67_task.specs.Tables.{TasksShow}
 use Rattle.b67_session.specs.Ends.{LimitEnds, HasLimited}
 use Rattle.b67_session.specs.Slices.{StandsAt, StandsSome, IsLimited, IsOpen, LivesOn, StandsLimited, HasNoTasks, RepresentsWithoutTasks, Prints, IsCutAgain}
+use Rattle.b67_session.proofs.AtLimits.{TellsLimit, tells_limit}
 use Rattle.b67_session.proofs.Next.{in_session, in_job}
 use Rattle.b67_session.proofs.Printing.{prints_rest}
 use Rattle.b67_session.proofs.Rows.{no_row}
-
--- whether a last part is due, by the tables
-abbrev pub TellsLimit : Tasks → Bool → Type 0
-TellsLimit tasks at = (plan : Placement) (s : Session) → NumberedFrom 1 s.jobs → TasksShow plan s tasks → at ≡ is_some (last_part s)
 
 pub stands_not : (told : Option (List (List ℕ))) (k : Machine) (s : Session) {at : Bool} → StandsAt told k s → TellsLimit k.tasks at → at ≡ true → ⊥
 stands_not told k s h tells is = grind (arith, no_last)
 
 pub limited_not : (told : Option (List (List ℕ))) (k : Machine) (h : Session) (part : StepResult) {at : Bool} → IsLimited told k h part → TellsLimit k.tasks at → at ≡ false → ⊥
 limited_not told k h part l tells is = grind arith
+
+-- no machine is both before a step and between the parts of one
+pub limited_stands : (told told' : Option (List (List ℕ))) (k : Machine) (s h : Session) (part : StepResult) → StandsAt told k s → IsLimited told' k h part → ⊥
+limited_stands told told' k s h part stands l = let x = tells_limit k.tasks in by x.0 x.1
+  where
+    by : (due : Bool) → TellsLimit k.tasks due → ⊥
+    by true tells = stands_not told k s stands tells refl
+    by false tells = limited_not told' k h part l tells refl
 
 pub rests_not : (told : Option (List (List ℕ))) (k : Machine) (s : Session) → RepresentsWithoutTasks told k s → k.tasks.rows.items ≢ [] → ⊥
 rests_not told k s r some = some (no_row told k s r)

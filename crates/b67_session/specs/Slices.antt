@@ -208,14 +208,15 @@ abbrev pub TakesOn : {D : Type 0} → (D → Option (List (List ℕ))) → ℕ �
 TakesOn holds steps old new device device' =
     (told : Option (List (List ℕ))) (s : Session) → Says told (holds device) → StandsAt told old s → ArrivesAt (content_after told (holds device')) (told ≢ None) steps s old new
 
--- its next step was tried, and moved no more than it wants
+-- Its next step was tried. Where it wants nothing, or one thing for which a free part of core has room, it moved no more than that.
+-- What it moves where areas have to go, where it starts a task or makes an array longer isn't said
 abbrev pub MovesItsWants : {A D : Type 0} → (D → Option (List (List ℕ))) → Result A Stop → Machine → Machine → D → D → Type 0
 MovesItsWants holds answered old new device device' =
     (told : Option (List (List ℕ))) (s : Session) (m : SessionJob) (t : Task) → Says told (holds device) → (h : StandsAt told old s) → IsNext s m t
     → IfPresent holds (told ≢ None) (length old.cpu.core) 1 h.storage h.plan s m t answered old new device device'
 
--- One step was made, which moved no more than it wants. Or operators of a turn were made one after the other, each as its row makes
--- it, with what it touches in core; these are steps, they were counted then, and the device wasn't called
+-- One step was made, which moved no more than it wants where that fits a free part. Or operators of a turn were made one after the
+-- other, each as its row makes it, with what it touches in core; these are steps, they were counted then, and the device wasn't called
 pub data IsOnward {D : Type 0} (holds : D → Option (List (List ℕ))) (old new : Machine) (device device' : D) : Type 0 where
   by_a_step : TakesOn holds 1 old new device device' → MovesItsWants {A = Unit {0}} holds (Ok tt) old new device device' → IsOnward holds old new device device'
   in_a_turn : (between : List Machine) (made : Machine) → MakesEach between old made → new ≡ record made { tasks = new.tasks }
@@ -226,15 +227,42 @@ abbrev pub FollowEach : {D : Type 0} → (D → Option (List (List ℕ))) → Li
 FollowEach holds [] old new device device' = (new ≡ old) × (device' ≡ device)
 FollowEach holds (b ∷ before) old new device device' = IsOnward holds b.machine new b.device device' × FollowEach holds before old b.machine device b.device
 
--- steps were made one by one, each over the core and the device that the one before left, and each moved no more than it wants
+-- steps were made one by one, each over the core and the device that the one before left, and each moved no more than it wants where
+-- that fits a free part
 pub record HasPaged {D : Type 0} (holds : D → Option (List (List ℕ))) (old new : Machine) (device device' : D) : Type 0 where
   pub between : List (Between D)
   pub follow : FollowEach holds between old new device device'
 
--- so it was, and after a stop, where a task lives, the step that it stopped moved no more than it wants either
+-- The printer failed in the lines of LIMIT. The step was made but for these and the ends that they tell of, in the same core: the
+-- machine represents the session after it, or that between its two parts. `exact` is as above
+pub record ArrivesBetween (told : Option (List (List ℕ))) (exact : Type 0) (first : Session) (old new : Machine) : Type 0 where
+  pub session : Session
+  pub rest : StepResult
+  pub limited : IsLimited told new session rest
+  pub steps : ℕ
+  pub few : steps ≤ 1
+  pub made : new.tasks.made ≡ old.tasks.made + steps
+  pub is : exact → (steps ≡ 1) × IsStepOf first session
+  pub known : exact → told ≢ None
+  pub core : length new.cpu.core ≡ length old.cpu.core
+
+-- The next step of a session was stopped. It isn't made: the machine represents the session before it, and the count is the one
+-- before, which is not that of the halt. Or the printer failed in its lines of LIMIT
+pub data StopsThere (told : Option (List (List ℕ))) (exact : Type 0) (stop : Stop) (first : Session) (old new : Machine) : Type 0 where
+  before_it : new.tasks.halt ≢ Some new.tasks.made → ArrivesAt told exact 0 first old new → StopsThere told exact stop first old new
+  in_limit : stop ≡ stops.PrintFault → ArrivesBetween told exact first old new → StopsThere told exact stop first old new
+
+-- so it is of each session that the machine represents over the device
+abbrev pub StopsInStep : {D : Type 0} → (D → Option (List (List ℕ))) → Stop → Machine → Machine → D → D → Type 0
+StopsInStep holds stop old new device device' =
+    (told : Option (List (List ℕ))) (s : Session) → Says told (holds device) → StandsAt told old s → StopsThere (content_after told (holds device')) (told ≢ None) stop s old new
+
+-- So it was; and after a stop, where a task lives, core and device hold the session before the step that was stopped, or where the
+-- printer failed in that step, the one that it came to. It moved no more than it wants either, where that fits
 pub data PagesByStep {A D : Type 0} (holds : D → Option (List (List ℕ))) (answered : Result A Stop) (old new : Machine) (device device' : D) : Type 0 where
   goes_well : IsOk answered → HasPaged holds old new device device' → PagesByStep holds answered old new device device'
   stops_in : (stop : Stop) → answered ≡ Err stop → new.tasks.rows.items ≢ [] → (last : Between D) → HasPaged holds old last.machine device last.device
+      → StopsInStep holds stop last.machine new last.device device'
       → MovesItsWants {A = Unit {0}} holds (Err stop) last.machine new last.device device' → PagesByStep holds answered old new device device'
 
 -- ---- what is answered

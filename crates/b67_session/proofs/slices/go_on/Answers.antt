@@ -16,7 +16,7 @@ use Rattle.b67_task.proofs.Keeping.{keeps_then, countable_kept}
 use Rattle.b67_session.proofs.Going.{Going, going-begins, going-lives, going-more, going-steps, going-stops, going-turn, begun_present, made_no_fewer, stop_rooms, stop_causes}
 use Rattle.b67_session.proofs.Pausing.{says_retold, still_told, known_still, retold_twice, pause_slices}
 use Rattle.b67_session.specs.Slices.{goes_well}
-use Rattle.b67_session.proofs.Paging.{nothing_paged, paged_then, step_follows, turn_follows, stop_pages, stop_lives}
+use Rattle.b67_session.proofs.Paging.{nothing_paged, paged_then, step_follows, turn_follows, step_stops, stop_pages, stop_lives}
 use Rattle.b67_session.proofs.Rows.{stays_ended, went_on, none_made}
 use Rattle.b67_session.proofs.slices.go_on.Given.{Over}
 use Rattle.b67_session.proofs.slices.go_on.Goals.{After-step}
@@ -259,7 +259,12 @@ returns-in-Err-clause-paged g c =
     let l = c.requires.begins.stands in
     let row = returns-in-Err-clause-row g c l.said l.session l.says l.stands in
     stop_pages g.B.Backing.holds c.in-Err.stop c.args.machine.now c.turn.machine c.step.new.machine c.args.backing.now c.turn.backing c.step.new.backing c.step.result c.in-Err.is
-    (stop_lives _ _ _ _ _ _ _ _ c.in-Err.stop c.step.new.machine row.meets) c.turn.invariant.pages c.step.ensures.present
+    (stop_lives _ _ _ _ _ _ _ _ c.in-Err.stop c.step.new.machine row.meets) c.turn.invariant.pages
+    (step_stops g.B.Backing.holds g.K.Sink.taken (g.B.Backing.size c.turn.backing) c.turn.machine c.step.new.machine c.turn.backing c.step.new.backing c.turn.paper c.step.new.paper c.step.result c.in-Err.stop c.in-Err.is
+    c.step.ensures.leaves.kept
+    (λ told says. still_told g.B.Backing.holds g.B.Backing.size g.B.Backing.calls g.B.Backing.faults c.turn.backing c.step.new.backing told says c.step.ensures.leaves.served)
+    c.step.ensures.row)
+    c.step.ensures.present
 
 -- ---- no task from the beginning
 
