@@ -37,6 +37,10 @@ pub least_as : (what : Sought) (places : List CodePlace) (A B : ℕ → Type 0) 
 least_as what places A B s (Some n) to back (a, is, least) = (to n a, holds_as what places A B s n back is, λ k b held. least k (back k b) (holds_as what places B A s k to held))
 least_as what places A B s None to back none = λ k b held. none k (back k b) (holds_as what places B A s k to held)
 
+-- core has the words of the same steps
+pub comes_as : (what : Sought) (core : ℕ) (A B : ℕ → Type 0) (s : Session) (found : Option ℕ) → ((n : ℕ) → B n → A n) → ComesTo what core A s found → ComesTo what core B s found
+comes_as what core A B s found back x = record { before = x.before; all = λ e k m t looked n. x.all e k m t (back k looked) n }
+
 module _ (from most : ℕ) (tasks : Tasks) (r : Run) (begun : tasks.made ≡ 0) (halt : tasks.halt ≡ r.halt) where
   pub looked_at : (n : ℕ) → IsSearched from most tasks n → IsLookedAt from most r n
   looked_at n x = record { later = x.later; few = x.made.few; before_halt = by r.halt halt } where
@@ -80,7 +84,7 @@ module _ {S B : Type 0} (left : S → Option (List ℕ)) (source_faults : S → 
 
   module _ (what : Sought) (places : List CodePlace) (from most : ℕ) where
     pub finds : (found : Option ℕ) → holds b ≢ None → (said ≢ None → Says said (holds b') → StandsAt said k first → FindsLeast what places (IsSearched from most k.tasks) first found)
-        → (said ≢ None → Says said (holds b') → StandsAt said k first → ComesTo (length k.cpu.core) first found) → FindsInDeck left deck deck' core what places from most found
+        → (said ≢ None → Says said (holds b') → StandsAt said k first → ComesTo what (length k.cpu.core) (IsSearched from most k.tasks) first found) → FindsInDeck left deck deck' core what places from most found
     finds found tells least comes =
         let begun : k.tasks.made ≡ 0 = opens.stands.tables.counts.made in
         let halt : k.tasks.halt ≡ loaded.deck.halt = ap (λ (g : Given). g.halt) opens.given in
@@ -91,7 +95,8 @@ module _ {S B : Type 0} (left : S → Option (List ℕ)) (source_faults : S → 
           runs = prepared_is loads.0 (prepared_of loaded) loads.2;
           least = least_as what places (IsSearched from most k.tasks) (IsLookedAt from most (run_of (prepared_of loaded))) first found (looked_at from most k.tasks (run_of (prepared_of loaded)) begun halt)
               (searched from most k.tasks (run_of (prepared_of loaded)) begun halt) (least (knows tells) (says_retold (holds b) (holds b')) stands);
-          comes = subst (λ (n : ℕ). ComesTo n first found) opens.core_size (comes (knows tells) (says_retold (holds b) (holds b')) stands);
+          comes = comes_as what core (IsSearched from most k.tasks) (IsLookedAt from most (run_of (prepared_of loaded))) first found (searched from most k.tasks (run_of (prepared_of loaded)) begun halt)
+              (subst (λ (n : ℕ). ComesTo what n (IsSearched from most k.tasks) first found) opens.core_size (comes (knows tells) (says_retold (holds b) (holds b')) stands));
         }
 
     pub fails : (stop : Stop) (b'' : B) (new : Machine) → (stop ≡ stops.BackingFault → Rose broken b' b'') → stop ≢ stops.PrintFault

@@ -27,21 +27,21 @@ pub record IsLookedAt (from most : ℕ) (r : Run) (n : ℕ) : Type 0 where
   pub before_halt : IsBeforeHalt r n
 
 -- the source gave a deck to its end, and of its run this is the least of these counts at which what is sought holds, or none does. Core has
--- the words of the steps before it
+-- the words of the steps before it, and where none does, or the deepest is sought, of all that are looked at
 pub record FindsInDeck {S : Type 0} (left : S → Option (List ℕ)) (deck deck' : S) (core : ℕ) (what : Sought) (places : List CodePlace) (from most : ℕ) (found : Option ℕ) : Type 0 where
   pub text : List ℕ
   pub prepared : Prepared
   pub read : GaveAll left deck deck' text
   pub runs : judgement text ≡ Runs prepared
   pub least : FindsLeast what places (IsLookedAt from most (run_of prepared)) (run_of prepared).session found
-  pub comes : ComesTo core (run_of prepared).session found
+  pub comes : ComesTo what core (IsLookedAt from most (run_of prepared)) (run_of prepared).session found
 
 -- the same of a deck's text
 pub record FindsInText (text : List ℕ) (core : ℕ) (what : Sought) (places : List CodePlace) (from most : ℕ) (found : Option ℕ) : Type 0 where
   pub prepared : Prepared
   pub runs : judgement text ≡ Runs prepared
   pub least : FindsLeast what places (IsLookedAt from most (run_of prepared)) (run_of prepared).session found
-  pub comes : ComesTo core (run_of prepared).session found
+  pub comes : ComesTo what core (IsLookedAt from most (run_of prepared)) (run_of prepared).session found
 
 -- the search stops where the run of the deck does: a session was opened, on a machine that represents the deck's, and if the device
 -- told what its sectors hold, nothing that is sought came before the stop. A failure is the device's, and never a printer's

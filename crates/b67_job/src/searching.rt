@@ -22,7 +22,8 @@ pub enum SearchFault {
 }
 
 /// Opens the session of the deck that is read, and finds the least count from `from` on, among the first `most` and before the
-/// halt, at which what is sought holds of the next operator. None where it holds at no such count.
+/// halt, at which what is sought holds of the next operator. None where it holds at no such count, and core has the words of all
+/// steps up to them.
 pub fn find_in_deck<S: Source, B: Backing>(
     alloc: Global,
     core: u32,

@@ -33,7 +33,8 @@ pub record AreInBounds (core sectors : ℕ) : Type 0 where
   pub few : sectors < 2 ^ 20
 
 -- Of the run of the text's deck this is the least of the counts from `from` on, below `most` and before the halt, at which what is
--- sought holds, or none is. Or the search answers nothing, and says why; memory may be refused.
+-- sought holds, or none is; that core has the words of the steps before it, or of all. Or the search answers nothing, and says why;
+-- memory may be refused.
 abbrev pub IsFoundInMemory : List ℕ → ℕ → ℕ → Sought → List CodePlace → ℕ → ℕ → Result (Option ℕ) FindFault → Type 0
 IsFoundInMemory text core sectors what places from most (Ok found) = FindsInText text core what places from most found
 IsFoundInMemory text core sectors what places from most (Err (faults.Search fault)) = FailsInMemory text core sectors what places from most fault

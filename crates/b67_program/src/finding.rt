@@ -33,7 +33,8 @@ impl FindFault {
 }
 
 /// Finds the least count of operators from `from` on, below `most` and before the halt, at which what is sought holds of the next
-/// operator of the text's deck, in a core of `core` words over so many sectors of zeros. None where it holds at no such count.
+/// operator of the text's deck, in a core of `core` words over so many sectors of zeros. None where it holds at no such count, and
+/// that core has the words of all steps up to them.
 pub fn find_in_memory(
     alloc: Global,
     text: &[u8],

@@ -1,5 +1,5 @@
 -- A search that has made so many steps and found nothing before them, and how it ends.
-use Rattle.std.proofs.lemmas.Option.{none-some}
+use Rattle.std.proofs.lemmas.Option.{none-some, same_Some}
 use Rattle.std.proofs.Common.{length, ◌≡◌, ◌≢◌, ◌≤◌, ◌<◌, ◌⊎◌, ℕ, ◌+◌, zero, suc, List, [], ◌∷◌, Option, Some, None, Ok, Err, inl, inr, refl, sym, ap, ◌∙◌, subst, arith}
 use Rattle.std.specs.Prelude.{option_map}
 use Rattle.std.proofs.lemmas.Bool.{cases_lt}
@@ -19,9 +19,9 @@ use Rattle.b67_session.specs.declared.slices.Progress.TheVariants as progress
 use Rattle.b67_session.specs.declared.seeking.CodePlace.{CodePlace}
 use Rattle.b67_session.specs.declared.seeking.Sought.{Sought}
 use Rattle.b67_session.specs.declared.seeking.Sought.TheVariants as sought
-use Rattle.b67_session.specs.Slices.{IsOpen, Keeps, SliceMeets, Pauses, Slices}
+use Rattle.b67_session.specs.Slices.{IsOpen, Keeps, SliceMeets, Pauses, Slices, StepsFit}
 use Rattle.b67_session.specs.declared.seeking.Depth.{Depth}
-use Rattle.b67_session.specs.Search.{IsSought, IsSearched, FindsLeast, ComesTo, SearchLeaves, DeepestSoFar, PassesBy}
+use Rattle.b67_session.specs.Search.{IsSought, IsSearched, FindsLeast, PassesAll, ComesTo, SearchLeaves, DeepestSoFar, PassesBy}
 use Rattle.b67_session.proofs.Noted.{holds_sought, sought_held, sought_other, sought_next, none_noted}
 use Rattle.b67_session.proofs.Next.{in_session, in_job}
 use Rattle.b67_session.proofs.Rows.{none_of}
@@ -120,26 +120,51 @@ module _ {K : Type 0} (taken : K → Option (List ℕ)) (exact : Type 0) (told :
     by (sought.Within job number upto) e = other (λ z. let a : sought.Within job number upto ≡ sought.Deepest = sym e ∙ z in let no : ⊥ = cc in no)
     by sought.Deepest e = (subst (DeepestSoFar from made s) is ((passes.noted (none_noted what from s)).deepest e)).before
 
-  -- core had the words of the steps before it
-  pub comes_noted : ComesTo (length old.cpu.core) s (count best)
-  comes_noted = by best refl where
-    by : (b : Option Depth) → best ≡ b → ComesTo (length old.cpu.core) s (count b)
-    by None is = tt
-    by (Some d) is = λ k low. g.fits tells k (let far = noted_before d is in omega (arith, low, far))
-
   -- all counts were looked at
+  all_none : most ≤ made → AllPassed
+  all_none all k m t searched n = omega (arith, all, searched.made.few)
+
   pub found_none : made ≤ most → most ≤ made → FindsLeast what places (IsSearched from most old.tasks) s (count best)
-  found_none few all = found_all few (λ k m t searched n. omega (arith, all, searched.made.few))
+  found_none few all = found_all few (all_none all)
 
   -- the run goes no further
-  pub found_end : made ≤ most → (p : Progress) → Pauses now.tasks now.tasks.halt (Some p) → FindsLeast what places (IsSearched from most old.tasks) s (count best)
-  found_end few p rows = found_all few (λ k m t searched n. elim (cases_lt k made) [ inl less ↦ less | inr up ↦ absurd (ends p rows k m t searched n up) ]) where
-    ends : (q : Progress) → Pauses now.tasks now.tasks.halt (Some q) → (k : ℕ) (m : SessionJob) (t : Task) → IsSearched from most old.tasks k → IsNext (after k s) m t → made ≤ k → ⊥
-    ends progress.Ended rows k m t searched n up =
+  all_end : (p : Progress) → Pauses now.tasks now.tasks.halt (Some p) → AllPassed
+  all_end p rows k m t searched n = elim (cases_lt k made) [ inl less ↦ less | inr up ↦ absurd (ends p rows up) ] where
+    ends : (q : Progress) → Pauses now.tasks now.tasks.halt (Some q) → made ≤ k → ⊥
+    ends progress.Ended rows up =
         let over : live_after made s ≡ 0 = subst (λ (z : Session). live_tasks z.jobs ≡ 0) (sym (g.came tells).session) (rests_now told now g.session g.stands rows).none in
         no_next (after k s) m t n (over-stays made k s over up)
-    ends progress.Halted h k m t searched n up = searched.made.before_halt made up (sym (halt_kept old now keeps) ∙ h.1 ∙ ap (λ (n : ℕ). Some n) g.made)
-    ends progress.More h k m t searched n up = h
+    ends progress.Halted h up = searched.made.before_halt made up (sym (halt_kept old now keeps) ∙ h.1 ∙ ap (λ (n : ℕ). Some n) g.made)
+    ends progress.More h up = h
+
+  pub found_end : made ≤ most → (p : Progress) → Pauses now.tasks now.tasks.halt (Some p) → FindsLeast what places (IsSearched from most old.tasks) s (count best)
+  found_end few p rows = found_all few (all_end p rows)
+
+  -- core had the words of the steps
+  abbrev Comes : Option ℕ → Type 0
+  Comes found = ComesTo what (length old.cpu.core) (IsSearched from most old.tasks) s found
+
+  fits_noted : (b : Option Depth) → best ≡ b → (n : ℕ) → count b ≡ Some n → StepsFit (length old.cpu.core) n s
+  fits_noted None is n e = absurd (none-some n e)
+  fits_noted (Some d) is n e = λ k low. g.fits tells k (let far = noted_before d is in let same = same_Some d.made n e in omega (arith, low, far, same))
+
+  fits_all : AllPassed → PassesAll (length old.cpu.core) (IsSearched from most old.tasks) s
+  fits_all all k m t searched n j low = g.fits tells j (let far = all k m t searched n in omega (arith, low, far))
+
+  comes_all : AllPassed → Comes (count best)
+  comes_all all = record { before = fits_noted best refl; all = λ e. fits_all all }
+
+  pub comes_none : most ≤ made → Comes (count best)
+  comes_none all = comes_all (all_none all)
+
+  pub comes_end : (p : Progress) → Pauses now.tasks now.tasks.halt (Some p) → Comes (count best)
+  comes_end p rows = comes_all (all_end p rows)
+
+  pub comes_found : IsSought what places g.session → Comes (Some made)
+  comes_found is = record { before = λ n e. subst (λ (i : ℕ). StepsFit (length old.cpu.core) i s) (same_Some made n e) (g.fits tells); all = by } where
+    by : (what ≡ sought.Deepest) ⊎ (Some made ≡ None) → PassesAll (length old.cpu.core) (IsSearched from most old.tasks) s
+    by (inl e) = absurd (subst (λ (w : Sought). IsSought w places g.session) e is)
+    by (inr e) = absurd (none-some made (sym e))
 
   -- it stops before a step, at a count that was looked at
   module _ (said : Option (List (List ℕ))) (size : ℕ) (stop : Stop) (new : Machine) (paper'' : K) (x : Slices taken said exact size most s (Err stop) old new paper paper'') (same : new.tasks.made ≡ now.tasks.made) (other : from ≤ made → IsSought what places g.session → ⊥) where

@@ -57,10 +57,15 @@ abbrev pub FindsLeast : Sought → List CodePlace → (ℕ → Type 0) → Sessi
 FindsLeast what places looked s (Some n) = looked n × HoldsAmong what places looked s n × ((k : ℕ) → looked k → HoldsAmong what places looked s k → n ≤ k)
 FindsLeast what places looked s None = (k : ℕ) → looked k → HoldsAmong what places looked s k → ⊥
 
--- core has the words of the steps that come before what is found
-abbrev pub ComesTo : ℕ → Session → Option ℕ → Type 0
-ComesTo core s (Some n) = StepsFit core n s
-ComesTo core s None = Unit {0}
+-- core has the words of each step that a task makes at a count that is looked at, and of all before it
+abbrev pub PassesAll : ℕ → (ℕ → Type 0) → Session → Type 0
+PassesAll core looked s = (k : ℕ) (m : SessionJob) (t : Task) → looked k → IsNext (after k s) m t → StepsFit core (k + 1) s
+
+-- Core has the words of the steps that come before what is found. Where nothing is, or the deepest is sought, it has those of all
+-- that are looked at
+pub record ComesTo (what : Sought) (core : ℕ) (looked : ℕ → Type 0) (s : Session) (found : Option ℕ) : Type 0 where
+  pub before : (n : ℕ) → found ≡ Some n → StepsFit core n s
+  pub all : (what ≡ sought.Deepest) ⊎ (found ≡ None) → PassesAll core looked s
 
 -- a search stops where the run does, a slice of at most so many steps, and by that stop; and up to there nothing was found. Of the
 -- deepest this says no more

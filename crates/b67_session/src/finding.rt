@@ -101,7 +101,8 @@ fn go_on_past(
 /// a session: so many steps come before it. None if it holds at no such count. The steps are made up to that count, or all of them
 /// if the deepest is sought, and their lines are dropped.
 ///
-/// Core has the words of the steps that come before that count. It stops where the run itself does, by the same cause, and nothing that is
+/// Core has the words of the steps that come before that count; where it is none, or the deepest is sought, those of all steps
+/// that the run makes at such counts and before them. It stops where the run itself does, by the same cause, and nothing that is
 /// sought came before.
 pub fn find<B: Backing>(
     machine: &mut Machine,
@@ -115,7 +116,7 @@ pub fn find<B: Backing>(
     requires sized { B.size backing.old + 1 ≡ length machine.old.sectors.links }
     ensures least { (told : Option (List (List ℕ))) (s : Session) → told ≢ None → Says told (B.holds backing.old) → StandsAt told machine.old s
         → IfOk result (FindsLeast what places.now (IsSearched from most machine.old.tasks) s) }
-    ensures comes { (told : Option (List (List ℕ))) (s : Session) → told ≢ None → Says told (B.holds backing.old) → StandsAt told machine.old s → IfOk result (ComesTo (length machine.old.cpu.core) s) }
+    ensures comes { (told : Option (List (List ℕ))) (s : Session) → told ≢ None → Says told (B.holds backing.old) → StandsAt told machine.old s → IfOk result (ComesTo what (length machine.old.cpu.core) (IsSearched from most machine.old.tasks) s) }
     ensures stands { (told : Option (List (List ℕ))) (s : Session) (n : ℕ) → told ≢ None → Says told (B.holds backing.old) → StandsAt told machine.old s → what ≢ sought.Deepest → result ≡ Ok (Some n)
         → StandsAt (content_after told (B.holds backing.new)) machine.new (after n s) }
     ensures stops { (told : Option (List (List ℕ))) (s : Session) (stop : Stop) → told ≢ None → Says told (B.holds backing.old) → StandsAt told machine.old s → result ≡ Err stop

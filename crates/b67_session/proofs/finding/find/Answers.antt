@@ -18,7 +18,7 @@ use Rattle.b67_session.proofs.Going.{Going, going-begins, going-lives, going-tur
 use Rattle.b67_session.proofs.Pausing.{says_retold}
 use Rattle.b67_session.proofs.Onward.{went_on, stopped, turn_begun, none_made}
 use Rattle.b67_session.proofs.Noted.{none_noted, none_counted, passes_none, passes_one, passes_then}
-use Rattle.b67_session.proofs.FoundLeast.{found_least, found_none, found_end, comes_noted, none_up_to, leaves_here}
+use Rattle.b67_session.proofs.FoundLeast.{found_least, found_none, found_end, comes_none, comes_end, comes_found, none_up_to, leaves_here}
 use Rattle.b67_session.proofs.finding.find.Given.{Over}
 use Rattle.b67_session.proofs.finding.find.Goals.{After-step}
 use Rattle.b67_session.proofs.finding.find.Goals as goal
@@ -146,9 +146,9 @@ returns-in-Some-clause-least g c = λ said s tells says h.
 
 pub returns-in-Some-clause-comes : goal.returns-in-Some-clause-comes
 returns-in-Some-clause-comes g c = λ said s tells says h.
-    subst (ComesTo (length c.args.machine.now.cpu.core) s) (sym c.count_of.ensures)
-    (comes_noted tally_told (said ≢ None) (content_after said (g.B.Backing.holds c.turn.backing)) c.args.what c.args.places.now c.args.from c.args.most c.turn.made s c.args.machine.now c.turn.machine c.new-paper.result c.turn.paper
-    (c.turn.invariant.going said s says h) tells h.ordered c.turn.invariant.keeps c.turn.best (c.turn.invariant.passes said s tells says h))
+    subst (ComesTo c.args.what (length c.args.machine.now.cpu.core) (IsSearched c.args.from c.args.most c.args.machine.now.tasks) s) (sym c.count_of.ensures)
+    (comes_end tally_told (said ≢ None) (content_after said (g.B.Backing.holds c.turn.backing)) c.args.what c.args.places.now c.args.from c.args.most c.turn.made s c.args.machine.now c.turn.machine c.new-paper.result c.turn.paper
+    (c.turn.invariant.going said s says h) tells h.ordered c.turn.invariant.keeps c.turn.best (c.turn.invariant.passes said s tells says h) c.in-Some._progress c.in-Some.ensures)
 
 pub returns-in-Some-clause-stands : goal.returns-in-Some-clause-stands
 returns-in-Some-clause-stands g c = λ said s n tells says h other e.
@@ -169,7 +169,11 @@ returns-then-is_found-clause-least g c = λ said s tells says h.
     (c.is_found.ensures.holds (content_after said (g.B.Backing.holds c.turn.backing)) x.session x.stands c.if-is_found.true)
 
 pub returns-then-is_found-clause-comes : goal.returns-then-is_found-clause-comes
-returns-then-is_found-clause-comes g c = λ said s tells says h. (c.turn.invariant.going said s says h).fits tells
+returns-then-is_found-clause-comes g c = λ said s tells says h.
+    let x = c.turn.invariant.going said s says h in
+    comes_found tally_told (said ≢ None) (content_after said (g.B.Backing.holds c.turn.backing)) c.args.what c.args.places.now c.args.from c.args.most c.turn.made s c.args.machine.now c.turn.machine c.new-paper.result c.turn.paper
+    x tells h.ordered c.turn.invariant.keeps c.turn.best (c.turn.invariant.passes said s tells says h)
+    (c.is_found.ensures.holds (content_after said (g.B.Backing.holds c.turn.backing)) x.session x.stands c.if-is_found.true)
 
 pub returns-then-is_found-clause-stands : goal.returns-then-is_found-clause-stands
 returns-then-is_found-clause-stands g c = λ said s n tells says h other e.
@@ -191,9 +195,9 @@ returns-clause-least g c = λ said s tells says h.
 
 pub returns-clause-comes : goal.returns-clause-comes
 returns-clause-comes g c = λ said s tells says h.
-    subst (ComesTo (length c.args.machine.now.cpu.core) s) (sym c.count_of-2.ensures)
-    (comes_noted tally_told (said ≢ None) (content_after said (g.B.Backing.holds c.turn.backing)) c.args.what c.args.places.now c.args.from c.args.most c.turn.made s c.args.machine.now c.turn.machine c.new-paper.result c.turn.paper
-    (c.turn.invariant.going said s says h) tells h.ordered c.turn.invariant.keeps c.turn.best (c.turn.invariant.passes said s tells says h))
+    subst (ComesTo c.args.what (length c.args.machine.now.cpu.core) (IsSearched c.args.from c.args.most c.args.machine.now.tasks) s) (sym c.count_of-2.ensures)
+    (comes_none tally_told (said ≢ None) (content_after said (g.B.Backing.holds c.turn.backing)) c.args.what c.args.places.now c.args.from c.args.most c.turn.made s c.args.machine.now c.turn.machine c.new-paper.result c.turn.paper
+    (c.turn.invariant.going said s says h) tells h.ordered c.turn.invariant.keeps c.turn.best (c.turn.invariant.passes said s tells says h) (omega arith))
 
 pub returns-clause-stands : goal.returns-clause-stands
 returns-clause-stands g c = λ said s n tells says h other e.
