@@ -1,17 +1,20 @@
 -- At each step of a run core and the device hold the session of the model.
-use Rattle.std.proofs.Common.{◌≡◌, ◌≢◌, ◌⊎◌, inl, inr, ℕ, ◌+◌, List, [], ◌∷◌, length, Option, Some, None, Ok, Err, refl, sym, ap, ◌∙◌, subst}
+use Rattle.std.proofs.Common.{◌≡◌, ◌≢◌, inl, inr, ℕ, List, [], ◌∷◌, length, Option, Some, None, Ok, refl, sym, ap, ◌∙◌, subst, arith}
 use Rattle.b67_lemmas.specs.Lists.{Has}
-use Rattle.b67_model.specs.Common.{Session, after}
+use Rattle.b67_model.specs.Common.{Session, after, live_after}
 use Rattle.b67_layout.specs.Machine.{content_after}
 use Rattle.b67_layout.proofs.Devices.{says_self}
 use Rattle.b67_session_lines.proofs.Statuses.{after-add}
 use denote.Ref.{Bor}
 use Rattle.b67_job.specs.Admitting.{Prepared, deck_prepared}
 use Rattle.b67_task.specs.declared.tables.Machine.{Machine}
-use Rattle.b67_job.specs.Device.{Device, DeviceTells}
-use Rattle.b67_job.specs.Runs.{run_of, StandsAt, Between, TakesOn, IsOnward, by_a_step, in_a_turn, FollowEach, HasPaged, PagesByStep, goes_well, stops_in, PagedFromOpening}
+use Rattle.b67_job.specs.Device.{Device, DeviceTells, known_now}
+use Rattle.b67_job.specs.Runs.{run_of, StandsAt, Between, TakesOn, IsOnward, by_a_step, in_a_turn, FollowEach, HasPaged, StopsThere, before_it, in_limit, StopsInStep, PagesByStep, goes_well, stops_in, PagedFromOpening, Stop}
+use Rattle.b67_task.specs.Tables.{Given}
+use Rattle.b67_session.specs.Decks.{given_of, deck_given}
+use Rattle.b67_session.proofs.Resuming.{limited_stands}
 use Rattle.b67_promises.proofs.CallsDescribed.{AsksFor, runs_deck}
-use Rattle.b67_promises.proofs.MoreCore.{WholeRun}
+use Rattle.b67_promises.proofs.MoreCore.{EndsAt, at_the_end, at_the_halt, WholeAt}
 use Rattle.b67_promises.specs.Paged.{HoldsSession, PagesAllTheWay}
 
 told_then : (o told : Option (List (List ℕ))) → o ≢ None → content_after o told ≡ told
@@ -47,9 +50,9 @@ module _ {D : Type 0} (holds : D → Option (List (List ℕ))) (core : ℕ) (p :
       subst (HoldsSession holds core p) is (follows_then c.machine k' c.device d' follow.0 (each_holds before k c.machine d c.device follow.1 h c (inl refl)))
   each_holds (c ∷ before) k k' d d' follow h b (inr has) = each_holds before k c.machine d c.device follow.1 h b has
 
--- a call that opened a session has paged all the way
-pub all_the_way : {B : Type 0} (d : Device B) (core : ℕ) (p : Prepared) (k : Machine) → DeviceTells d → PagedFromOpening d core p k → PagesAllTheWay d.holds core p d.new
-all_the_way {B} d core p k tells x = by_pages x.steps.1
+-- a call that opened a session, and ended so, has paged all the way
+pub all_the_way : {B : Type 0} (d : Device B) (core : ℕ) (p : Prepared) (k : Machine) (status : ℕ) → DeviceTells d → given_of k.tasks ≡ deck_given p.0 → EndsAt d p k status → PagedFromOpening d core p k → PagesAllTheWay d.holds core p status d.new
+all_the_way {B} d core p k status tells given ends x = by_pages x.steps.1
   where
     now : content_after d.before (d.holds x.device) ≡ d.holds x.device
     now = told_then d.before (d.holds x.device) tells
@@ -62,29 +65,46 @@ all_the_way {B} d core p k tells x = by_pages x.steps.1
           (subst (λ (n : ℕ). StandsAt (content_after d.before (d.holds x.device)) x.opened (after n (run_of p).session)) (sym x.none_made) x.stands);
     }
 
-    by_pages : PagesByStep d.holds x.steps.0 x.opened k x.device d.new → PagesAllTheWay d.holds core p d.new
+    over : EndsAt d p k status → status ≡ 0 → live_after k.tasks.made (run_of p).session ≡ 0
+    over (at_the_end s none rows) zero = none
+    over (at_the_halt s halt session stands) zero = absurd (omega (arith, s, zero))
+
+    halts : EndsAt d p k status → status ≡ 3 → (run_of p).halt ≡ Some k.tasks.made
+    halts (at_the_end s none rows) three = absurd (omega (arith, s, three))
+    halts (at_the_halt s halt session stands) three = halt
+
+    -- no step was stopped at its end
+    not_there : (told : Option (List (List ℕ))) (exact : Type 0) (stop : Stop) (first session : Session) (old : Machine) → (run_of p).halt ≡ Some k.tasks.made → StandsAt (known_now d) k session → StopsThere told exact stop first old k → ⊥
+    not_there told exact stop first session old halt stands (before_it due arrives) = due (ap (λ (z : Given). z.halt) given ∙ halt)
+    not_there told exact stop first session old halt stands (in_limit is a) = limited_stands (known_now d) told k session a.session a.rest stands a.limited
+
+    not_stopped : (stop : Stop) (last : Between B) → EndsAt d p k status → k.tasks.rows.items ≢ [] → HasPaged d.holds x.opened last.machine x.device last.device → StopsInStep d.holds stop last.machine k last.device d.new → ⊥
+    not_stopped stop last (at_the_end s none rows) lives h there = lives rows
+    not_stopped stop last (at_the_halt s halt session stands) lives h there =
+        let its = each_holds d.holds core p h.between x.opened last.machine x.device last.device h.follow begins last (inl refl) in
+        let first = after last.machine.tasks.made (run_of p).session in
+        not_there (content_after (d.holds last.device) (d.holds d.new)) (d.holds last.device ≢ None) stop first session last.machine halt stands
+        (there (d.holds last.device) first (says_self (d.holds last.device)) its.stands)
+
+    by_pages : PagesByStep d.holds x.steps.0 x.opened k x.device d.new → PagesAllTheWay d.holds core p status d.new
     by_pages (goes_well ok h) = record {
       opened = record { machine = x.opened; device = x.device };
       none_made = x.none_made;
       last = record { machine = k; device = d.new };
       paged = h;
       each = each_holds d.holds core p h.between x.opened k x.device d.new h.follow begins;
-      ends = inl refl;
+      ended = over ends;
+      halted = halts ends;
+      ends = refl;
     }
-    by_pages (stops_in stop is lives last h there moves) = record {
-      opened = record { machine = x.opened; device = x.device };
-      none_made = x.none_made;
-      last = last;
-      paged = h;
-      each = each_holds d.holds core p h.between x.opened last.machine x.device last.device h.follow begins;
-      ends = inr (k, stop, moves);
-    }
+    by_pages (stops_in stop is lives last h there moves) = absurd (not_stopped stop last ends lives h there)
 
 -- so has one that ended with 0 or 3, on the deck of these bytes
-pub whole_pages : {S B : Type 0} (words : List (Bor (List ℕ))) (left : S → Option (List ℕ)) (deck deck' : S) (d : Device B) (core : ℕ) (bytes : List ℕ) → AsksFor words left deck deck' None core bytes → DeviceTells d
-    → WholeRun words left deck deck' d → (p : Prepared) × (deck_prepared bytes ≡ Ok p) × PagesAllTheWay d.holds core p d.new
-whole_pages words left deck deck' d core bytes asks tells w = (
-  w.p,
-  runs_deck bytes w.p (asks.asks.judged w.core w.p w.its_run),
-  all_the_way d core w.p w.k tells (subst (λ (n : ℕ). PagedFromOpening d n w.p w.k) (asks.opens w.core w.p w.its_run) w.opens.paged),
-)
+pub whole_pages : {S B : Type 0} (words : List (Bor (List ℕ))) (left : S → Option (List ℕ)) (deck deck' : S) (d : Device B) (core : ℕ) (bytes : List ℕ) (status : ℕ) → AsksFor words left deck deck' None core bytes → DeviceTells d
+    → WholeAt words left deck deck' d status → (p : Prepared) × (deck_prepared bytes ≡ Ok p) × PagesAllTheWay d.holds core p status d.new
+whole_pages words left deck deck' d core bytes status asks tells whole =
+    let w = whole.run in (
+      w.p,
+      runs_deck bytes w.p (asks.asks.judged w.core w.p w.its_run),
+      all_the_way d core w.p w.k status tells w.opens.given whole.ends (subst (λ (n : ℕ). PagedFromOpening d n w.p w.k) (asks.opens w.core w.p w.its_run) w.opens.paged),
+    )

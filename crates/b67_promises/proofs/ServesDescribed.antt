@@ -21,7 +21,7 @@ use Rattle.b67_job.specs.Admitting.{Prepared, deck_prepared}
 use Rattle.b67_promises.specs.Paging.{IsWhole, FileIsTold}
 use Rattle.b67_promises.specs.Paged.{PagesAllTheWay, PagesOverFile}
 use Rattle.b67_promises.proofs.Calls.{short_at}
-use Rattle.b67_promises.proofs.MoreCore.{whole_run}
+use Rattle.b67_promises.proofs.MoreCore.{whole_at}
 use Rattle.b67_promises.proofs.Paged.{whole_pages}
 use Rattle.b67_promises.proofs.RunWords.{run_command, run_path, first_is_run}
 use Rattle.b67_promises.proofs.Serves.{all_read, found_tells, named_tells}
@@ -66,13 +66,13 @@ module _ {S K : Type 0} (words : List (Bor (List ℕ))) (core : ℕ) (w : IsRunC
       record { file = x.0; found = x.1; text = x.2.0; printed = x.2.1; so = x.2.2 }
 
   -- one that ends with 0 or 3 has paged all the way
-  over_whole : {B : Type 0} (d : Device B) → DeviceTells d → IsWhole answer → IsAnswered words left source_faults input input' d taken faults old new answer → (p : Prepared) × (deck_prepared bytes ≡ Ok p) × PagesAllTheWay d.holds core p d.new
+  over_whole : {B : Type 0} (d : Device B) → DeviceTells d → IsWhole answer → IsAnswered words left source_faults input input' d taken faults old new answer → (p : Prepared) × (deck_prepared bytes ≡ Ok p) × PagesAllTheWay d.holds core p answer d.new
   over_whole d tells whole (carried_out r) =
       let is = run_command core words w in
       let most : text_limit (command_line_of words) ≡ Some limit = ap text_limit is in
       let same : bytes ≡ r.bytes = all_read words (first_is_run core words w) left source_faults input input' taken faults old new answer bytes told few r.bytes (subst (λ (o : Option ℕ). IsTakenIn o left source_faults input input' (Ok r.bytes)) most r.given) in
       let asks = run_asks words free_told r.deck r.deck_after core bytes w (ap Some (r.holds ∙ sym same)) in
-      whole_pages words free_told r.deck r.deck_after d core bytes asks tells (whole_run tells (judgement bytes) None answer asks.asks whole r.due)
+      whole_pages words free_told r.deck r.deck_after d core bytes answer asks tells (whole_at tells (judgement bytes) None answer asks.asks whole r.due)
   over_whole d tells whole (reading_failed reads rose kept (all_printed a took)) = absurd (short_at answer 7 a (inl (omega arith)) whole)
   over_whole d tells whole (reading_failed reads rose kept (cut_off a failed part)) = absurd (short_at answer 8 a (inl (omega arith)) whole)
   over_whole d tells whole (text_wants_memory reads kept (all_printed a took)) = absurd (short_at answer 9 a (inl (omega arith)) whole)
@@ -80,7 +80,7 @@ module _ {S K : Type 0} (words : List (Bor (List ℕ))) (core : ℕ) (w : IsRunC
 
   pub serve_pages : {R B : Type 0} (kept : R → List ℕ → Option (List (List ℕ))) (holds : B → Option (List (List ℕ))) (size broken : B → ℕ) (now later : R) → kept now w.path ≢ None → IsWhole answer
       → IsServed words left source_faults input input' (Finds kept holds now) (Leaves kept holds later) (device_of holds size broken) taken faults old new answer
-      → PagesOverFile kept holds now later w.path core bytes
+      → PagesOverFile kept holds now later w.path core bytes answer
   serve_pages kept holds size broken now later known whole (over_file path file file' is found left_so a) =
       let same = same_Some path w.path (sym is ∙ run_path core words w) in
       let found' = subst (λ (q : List ℕ). Finds kept holds now q file) same found in
