@@ -1,6 +1,7 @@
 //! Files that are mirrored, and the paths for which they were opened, recorded.
 
-ghost use Rattle.std.specs.Prelude.{◌≡◌, [], Some, None};
+ghost use Rattle.std.specs.Prelude.{◌≡◌, [], ◌∷◌, Some, None};
+ghost use Rattle.b67_program.specs.Opening.{OpensPaths, Finds};
 ghost use Rattle.b67_recorded.specs.Mirror.{mirrored, kept_by};
 
 use crate::mirror::Mirrored;
@@ -60,7 +61,11 @@ impl<D: Devices + Drop> Devices for RecordedFiles<D> {
 
     ghost kept = { λ r _. kept_by (λ f. mirrored (D.File.size f.inner) f.held.items) r.file };
 
-    fn open(&mut self, path: &str) -> Mirrored<D::File> {
+    fn open(&mut self, path: &str) -> Mirrored<D::File>
+        ensures opens { OpensPaths (λ r. Some r.opened.texts) self.old self.new (path.now ∷ []) }
+        ensures finds { Finds (λ r _. kept_by (λ f. mirrored (D.File.size f.inner) f.held.items) r.file) (λ m. Some (mirrored (D.File.size m.inner) m.held.items)) self.old path.now result }
+        ensures asked { self.old.file ≡ None → OpensPaths D.opened self.old.inner self.new.inner (path.now ∷ []) }
+    {
         self.opened.note(path.as_bytes());
         match self.file.take() {
             Some(file) => file,

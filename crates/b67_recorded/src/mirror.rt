@@ -1,6 +1,8 @@
 //! A device, and a copy of what its sectors hold.
 
-ghost use Rattle.std.specs.Prelude.{◌≡◌, ◌≤◌, [], ◌∷◌, length, Some, IsTrue};
+ghost use Rattle.std.specs.Prelude.{◌≡◌, ◌≤◌, [], ◌∷◌, length, Some, IsTrue, OnOk, OnErr};
+ghost use Rattle.b67_io.specs.Causes.{HasCause, Rose};
+ghost use Rattle.b67_backing.specs.Device.{Tells, Becomes, Changes, Counts};
 ghost use Rattle.b67_backing.specs.Held.{SameBut, Sets, sector};
 ghost use Rattle.b67_recorded.specs.Mirror.{mirrored};
 
@@ -95,7 +97,18 @@ impl<B: Backing + Drop> Backing for Mirrored<B> {
         self.inner.sectors()
     }
 
-    fn read(&mut self, n: u32, into: &mut [u64; 30]) -> Result<(), Failed> {
+    fn read(&mut self, n: u32, into: &mut [u64; 30]) -> Result<(), Failed>
+        requires low { 1 ≤ n }
+        requires high { n ≤ B.size self.old.inner }
+        ensures gives { OnOk result (Tells (λ m. Some (mirrored (B.size m.inner) m.held.items)) self.old (λ all. sector all n ≡ Some into.new)) }
+        ensures same { Becomes (λ m. Some (mirrored (B.size m.inner) m.held.items)) self.old self.new (λ all. all) }
+        ensures size { B.size self.new.inner ≡ B.size self.old.inner }
+        ensures calls { Counts (λ m. m.calls) self.old self.new }
+        ensures calm { OnOk result (self.new.faults ≡ self.old.faults) }
+        ensures cause { HasCause (λ m. m.faults) self.old self.new result }
+        ensures asked { OnOk result (Tells B.holds self.old.inner (λ all. sector all n ≡ Some into.new)) }
+        ensures fair { B.holds self.old.inner ≡ Some (mirrored (B.size self.old.inner) self.old.held.items) → OnErr result (Rose B.faults self.old.inner self.new.inner) }
+    {
         self.calls = self.calls.saturating_add(1);
         let known = self.known(n);
         if self.inner.read(n, into).is_ok() && *into == known {
@@ -106,7 +119,17 @@ impl<B: Backing + Drop> Backing for Mirrored<B> {
         Err(Failed)
     }
 
-    fn write(&mut self, n: u32, from: &[u64; 30]) -> Result<(), Failed> {
+    fn write(&mut self, n: u32, from: &[u64; 30]) -> Result<(), Failed>
+        requires low { 1 ≤ n }
+        requires high { n ≤ B.size self.old.inner }
+        ensures sets { OnOk result (Changes (λ m. Some (mirrored (B.size m.inner) m.held.items)) self.old self.new (Sets n from.now)) }
+        ensures leaves { OnErr result (Changes (λ m. Some (mirrored (B.size m.inner) m.held.items)) self.old self.new (SameBut (n ∷ []))) }
+        ensures size { B.size self.new.inner ≡ B.size self.old.inner }
+        ensures calls { Counts (λ m. m.calls) self.old self.new }
+        ensures calm { OnOk result (self.new.faults ≡ self.old.faults) }
+        ensures cause { HasCause (λ m. m.faults) self.old self.new result }
+        ensures asked { OnOk result (Changes B.holds self.old.inner self.new.inner (Sets n from.now)) }
+    {
         self.calls = self.calls.saturating_add(1);
         let written = self.inner.write(n, from).is_ok();
         let kept = self.keep(n, from);

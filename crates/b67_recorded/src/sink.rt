@@ -1,6 +1,9 @@
 //! A printer over any writer, which tells the bytes that the writer took.
 
-ghost use Rattle.std.specs.Prelude.{◌≡◌, [], Some};
+ghost use Rattle.std.specs.Prelude.{◌≡◌, ◌<◌, ◌≤◌, [], Some, IfOk, OnOk, length, take};
+ghost use Rattle.std.specs.Io.KnownBytes.{Appends};
+ghost use Rattle.b67_io.specs.Told.{Took, moved};
+ghost use Rattle.b67_io.specs.Causes.{HasCause};
 
 use crate::record::Record;
 use b67_io::Sink;
@@ -20,7 +23,8 @@ impl<W: Write> RecordedSink<W> {
 
     /// Over a writer; nothing was taken yet.
     pub fn new(inner: W) -> Self
-        ensures { recorded result.noted ≡ Some [] }
+        ensures given { recorded result.noted ≡ Some [] }
+        ensures asked { result.inner ≡ inner }
     {
         RecordedSink {
             inner,
@@ -37,7 +41,13 @@ impl<W: Write> Sink for RecordedSink<W> {
 
     ghost faults = { λ s. s.faults };
 
-    fn put(&mut self, piece: &[u8]) -> Result<usize, Failed> {
+    fn put(&mut self, piece: &[u8]) -> Result<usize, Failed>
+        ensures count { IfOk result (λ k. (0 < k) × (k ≤ length piece.now)) }
+        ensures bytes { Took (λ s. recorded s.noted) self.old self.new (moved result piece.now) }
+        ensures calm { OnOk result (self.new.faults ≡ self.old.faults) }
+        ensures cause { HasCause (λ s. s.faults) self.old self.new result }
+        ensures asked { IfOk result (λ k. Appends (W.contents self.old.inner) (W.contents self.new.inner) (take k piece.now)) }
+    {
         match self.inner.write(piece) {
             Ok(0) => {
                 self.faults = self.faults.saturating_add(1);
