@@ -1,1 +1,3 @@
 mod Taking
+mod Passing
+mod Copying

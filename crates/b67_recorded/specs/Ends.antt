@@ -1,5 +1,6 @@
 -- What the ends of the program tell.
 use Rattle.std.specs.Prelude.{ℕ, List, Option, Some}
+use Rattle.std.specs.declared.io.Write as write
 use Rattle.b67_backing.specs.declared.device.Backing.{Ghosts}
 use Rattle.b67_recorded.specs.Mirror.{mirrored, kept_by}
 use Rattle.b67_recorded.specs.declared.mirror.Mirrored.{Mirrored}
@@ -28,8 +29,8 @@ abbrev pub files_kept : {D F : Type 0} {g : Ghosts F} → RecordedFiles D F g �
 files_kept p path = kept_by mirror_sectors p.file
 
 -- the bytes that a printer's writer took
-abbrev pub sink_told : {W : Type 0} → RecordedSink W → Option (List ℕ)
+abbrev pub sink_told : {W : Type 0} {w : write.Ghosts W} → RecordedSink W w → Option (List ℕ)
 sink_told s = Some s.noted.bytes
 
-abbrev pub sink_faults : {W : Type 0} → RecordedSink W → ℕ
+abbrev pub sink_faults : {W : Type 0} {w : write.Ghosts W} → RecordedSink W w → ℕ
 sink_faults s = s.faults

@@ -1,5 +1,7 @@
+pub mod Telling
 pub mod Taken
 pub mod Given
 pub mod Mirror
 pub mod Ends
+pub mod Faithful
 pub mod Recorded

@@ -1,6 +1,6 @@
 //! A device, and a copy of what its sectors hold.
 
-ghost use Rattle.std.specs.Prelude.{◌≡◌, ◌≤◌, [], ◌∷◌, length, Some, IsTrue, OnOk, OnErr};
+ghost use Rattle.std.specs.Prelude.{◌≡◌, ◌≤◌, [], ◌∷◌, length, take, Some, IsTrue, OnOk, OnErr};
 ghost use Rattle.b67_io.specs.Causes.{HasCause, Rose};
 ghost use Rattle.b67_backing.specs.Device.{Tells, Becomes, Changes, Counts};
 ghost use Rattle.b67_backing.specs.Held.{SameBut, Sets, sector};
@@ -45,6 +45,7 @@ impl<B: Backing + Drop> Mirrored<B> {
         ensures size { B.size self.new.inner ≡ B.size self.old.inner }
         ensures calls { self.new.calls ≡ self.old.calls }
         ensures faults { self.new.faults ≡ self.old.faults }
+        ensures copies { Tells B.holds self.old.inner (λ all. self.new.held.items ≡ take (length self.new.held.items) all) }
     {
         self.held.clear();
         let mut sector = BLANK;

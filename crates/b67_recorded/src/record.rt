@@ -2,7 +2,9 @@
 
 ghost use Rattle.std.specs.Prelude.{◌≡◌, ◌∷◌, ◌++◌, ℕ, List, []};
 ghost use Rattle.std.specs.Borrow.{ftrue};
+ghost use Rattle.b67_recorded.specs.Telling.{known};
 
+use std::io::Write;
 use std::marker::{Model, PhantomData};
 
 /// Bytes that were noted. It takes no memory.
@@ -20,6 +22,15 @@ impl Record {
     /// None was noted.
     pub(crate) fn new() -> Record
         ensures { result.bytes ≡ [] }
+    {
+        Record {
+            marker: PhantomData,
+        }
+    }
+
+    /// What a writer holds is noted, or nothing if it doesn't tell that.
+    pub(crate) fn holding<W: Write>(_writer: &W) -> Record
+        ensures { result.bytes ≡ known (W.contents _writer.now) }
     {
         Record {
             marker: PhantomData,

@@ -7,6 +7,7 @@ ghost use Rattle.b67_job.specs.Due.{reading_text};
 ghost use Rattle.b67_job.specs.Judgement.{text_limit};
 ghost use Rattle.b67_session_lines.specs.Ends.{EndsPrinting};
 ghost use Rattle.b67_program.specs.Words.{texts_of};
+ghost use Rattle.b67_recorded.specs.Faithful.{GaveNoted, IsFaithful};
 ghost use Rattle.b67_recorded.specs.Given.{WasTextTaken};
 ghost use Rattle.b67_recorded.specs.Recorded.{IsTextServed, IsRecordServed};
 
@@ -77,6 +78,7 @@ fn take_text<R: Read>(
     requires { IfSome limit (λ most. most < 2 ^ 31) }
     ensures answer { WasTextTaken limit input.old.given.bytes input.new.given.bytes input.old.faults input.new.faults input.new.ended result }
     ensures gave { (part : List ℕ) × (input.new.given.bytes ≡ input.old.given.bytes ++ part) }
+    ensures faithful { GaveNoted R.remaining input.old input.new }
 {
     match limit {
         Some(limit) => input.take_in(alloc, limit),
@@ -98,7 +100,8 @@ fn serve_words<D: Devices + Drop, R: Read, W: Write>(
     input: &mut RecordedSource<R>,
     printer: &mut RecordedSink<W>,
 ) -> ExitCode
-    ensures { IsTextServed words.now files.old files.new input.old input.new printer.old printer.new (exit_status result) }
+    ensures served { IsTextServed words.now files.old files.new input.old input.new printer.old printer.new (exit_status result) }
+    ensures faithful { IsFaithful R.remaining input.old input.new printer.old printer.new }
 {
     if files.prepare(reads_first(words)).is_err() {
         return ExitCode::from(refuse_memory(printer).status);
@@ -127,6 +130,9 @@ pub fn serve_recorded<D: Words + Devices + Drop, R: Read, W: Write>(
 ) -> ExitCode
     // The process's words were noted and served over the text that the input gave; or a read failed, or memory was refused.
     ensures served { IsRecordServed D.given process.old.words.texts process.new.words.texts process.old.files process.new.files input.old input.new printer.old printer.new (exit_status result) }
+
+    // The bytes that were noted are those that the writer took and that the reader gave, where these tell what they have.
+    ensures faithful { IsFaithful R.remaining input.old input.new printer.old printer.new }
 {
     match process.files.inner.words(alloc) {
         Ok(words) => match noted(alloc, &mut process.words, words.as_slice()) {

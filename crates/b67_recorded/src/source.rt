@@ -1,6 +1,6 @@
 //! An input over any reader, which records the bytes that the reader gave.
 
-ghost use Rattle.std.specs.Prelude.{◌≡◌, ◌≤◌, ◌<◌, ◌++◌, ◌^◌, ℕ, List, [], None, Ok, IfOk, OnOk, length, true, false, take};
+ghost use Rattle.std.specs.Prelude.{◌≡◌, ◌≤◌, ◌<◌, ◌++◌, ◌^◌, ℕ, List, [], None, Ok, IfOk, OnOk, OnErr, length, true, false};
 ghost use Rattle.std.specs.Io.KnownBytes.{Consumes};
 ghost use Rattle.std.specs.Io.KnownBytes as known;
 ghost use Rattle.b67_io.specs.Told.{Gave, IsAtEnd, moved};
@@ -29,6 +29,7 @@ pub struct RecordedSource<R: Read> {
 impl<R: Read> RecordedSource<R> {
     /// Over a reader, which gave nothing yet.
     pub fn new(inner: R) -> Self
+        ensures asked { result.inner ≡ inner }
         ensures given { result.given.bytes ≡ [] }
         ensures faults { result.faults ≡ 0 }
         ensures ended { result.ended ≡ false }
@@ -46,6 +47,8 @@ impl<R: Read> RecordedSource<R> {
         requires { limit < 2 ^ 31 }
         ensures answer { WasTakenIn limit self.old.given.bytes self.new.given.bytes self.old.faults self.new.faults self.new.ended result }
         ensures whole { IfOk result (λ bytes. length bytes ≤ limit → known.IsAtEnd (R.remaining self.new.inner)) }
+        ensures asked { (part : List ℕ) → self.new.given.bytes ≡ self.old.given.bytes ++ part → Consumes (R.remaining self.old.inner) (R.remaining self.new.inner) part }
+        ensures at_end { self.old.ended ≡ false → self.new.ended ≡ true → known.IsAtEnd (R.remaining self.new.inner) }
         ensures later { self.old.faults ≤ self.new.faults }
         ensures gave { (part : List ℕ) × (self.new.given.bytes ≡ self.old.given.bytes ++ part) }
     {
@@ -75,8 +78,10 @@ impl<R: Read> Source for RecordedSource<R> {
     fn read(&mut self, into: &mut [u8]) -> Result<usize, Failed>
         ensures given { self.new.given.bytes ≡ self.old.given.bytes ++ moved result into.new }
         ensures ended { result ≡ Ok 0 → 0 < length into.new → self.new.ended ≡ true }
-        ensures asked { IfOk result (λ k. Consumes (R.remaining self.old.inner) (R.remaining self.new.inner) (take k into.new)) }
+        ensures asked { Consumes (R.remaining self.old.inner) (R.remaining self.new.inner) (moved result into.new) }
         ensures at_end { result ≡ Ok 0 → 0 < length into.new → known.IsAtEnd (R.remaining self.new.inner) }
+        ensures goes_on { IfOk result (λ k. 0 < k → self.new.ended ≡ false) }
+        ensures kept { OnErr result (self.new.ended ≡ self.old.ended) }
         ensures count { IfOk result (λ k. k ≤ length into.new) }
         ensures bytes { Gave (λ _. None) self.old self.new (moved result into.new) }
         ensures end { result ≡ Ok 0 → 0 < length into.new → IsAtEnd (λ _. None) self.new }
