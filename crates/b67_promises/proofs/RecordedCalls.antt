@@ -4,6 +4,7 @@ use Rattle.std.specs.Prelude.{codes, decimal}
 use Rattle.std.proofs.lemmas.List.{append_cancel_left}
 use Rattle.std.proofs.lemmas.Option.{same_Some, none-some}
 use denote.Ref.{Bor}
+use Rattle.std.specs.declared.io.Write as write
 use Rattle.b67_io.specs.Told.{Took}
 use Rattle.b67_io.specs.Free.{free_told, free_faults}
 use Rattle.b67_backing.specs.declared.device.Backing.{Ghosts}
@@ -58,7 +59,7 @@ same_command core words words' same w = (
 )
 
 -- the bytes that a printer took
-took_bytes : {W : Type 0} (old new : RecordedSink W) (out : List ℕ) → Took sink_told old new out → new.noted.bytes ≡ old.noted.bytes ++ out
+took_bytes : {W : Type 0} {h : write.Ghosts W} (old new : RecordedSink W h) (out : List ℕ) → Took sink_told old new out → new.noted.bytes ≡ old.noted.bytes ++ out
 took_bytes old new out t = same_Some new.noted.bytes (old.noted.bytes ++ out) (t.told old.noted.bytes refl)
 
 -- a mirrored file tells what its sectors hold
@@ -78,7 +79,7 @@ early taken faults old new due text status e (cut_off a rose part) = inr (inl a)
 
 -- ---- one call
 
-module _ {D F R W : Type 0} {g : Ghosts F} (core sectors : ℕ) (files files' : RecordedFiles D F g) (input input' : RecordedSource R) (old new : RecordedSink W) (status : ℕ) where
+module _ {D F R W : Type 0} {g : Ghosts F} {h : write.Ghosts W} (core sectors : ℕ) (files files' : RecordedFiles D F g) (input input' : RecordedSource R) (old new : RecordedSink W h) (status : ℕ) where
   -- it ends before a file is opened
   stopped : (path : List ℕ) (due : ℕ) (line part : List ℕ) → IsDueOf None core sectors part due line → (due ≡ 7) ⊎ (due ≡ 9) → input'.given.bytes ≡ input.given.bytes ++ part
       → files'.opened.texts ≡ files.opened.texts → EndsPrinting sink_told sink_faults old new due line status → PrintsAsDescribed core sectors path files files' input input' old new status
@@ -133,7 +134,7 @@ module _ {D F R W : Type 0} {g : Ghosts F} (core sectors : ℕ) (files files' : 
 
 -- ---- two calls
 
-module _ {D F R W : Type 0} {g : Ghosts F} (files files' : RecordedFiles D F g) (input input' : RecordedSource R) (old new : RecordedSink W) (status : ℕ) (text : List ℕ) where
+module _ {D F R W : Type 0} {g : Ghosts F} {h : write.Ghosts W} (files files' : RecordedFiles D F g) (input input' : RecordedSource R) (old new : RecordedSink W h) (status : ℕ) (text : List ℕ) where
   abbrev So : Type 0
   So = Prints_so sink_told sink_faults old new (judgement text) None status
 
@@ -173,7 +174,7 @@ module _ {D F R W : Type 0} {g : Ghosts F} (files files' : RecordedFiles D F g) 
   call_prints told noted noted' words asks is gave (on_words words' tells is' (memory_wanted part given same ends)) = short_memory ends
   call_prints told noted noted' words asks is gave (words_want_memory same kept ends) = short_memory ends
 
-pub took_same : {W X : Type 0} (old new : RecordedSink W) (status : ℕ) (old' new' : RecordedSink X) (status' : ℕ) (text : List ℕ)
+pub took_same : {W X : Type 0} {h : write.Ghosts W} {i : write.Ghosts X} (old new : RecordedSink W h) (status : ℕ) (old' new' : RecordedSink X i) (status' : ℕ) (text : List ℕ)
     → Prints_so sink_told sink_faults old new (judgement text) None status → Prints_so sink_told sink_faults old' new' (judgement text) None status' → TookTheSame old new status old' new' status'
 took_same old new status old' new' status' text one other =
     let l = same_lines sink_told old new status sink_told old' new' status' (judgement text) None one other in

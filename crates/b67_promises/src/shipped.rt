@@ -3,10 +3,11 @@
 ghost use Rattle.std.specs.Prelude.{◌≡◌, ◌++◌, ℕ, List, None};
 ghost use Rattle.std.specs.Process.{exit_status};
 ghost use denote.Ref.{Bor};
+ghost use Rattle.b67_recorded.specs.Faithful.{IsFaithful};
 ghost use Rattle.b67_recorded.specs.Recorded.{IsRecordServed};
 ghost use Rattle.b67_promises.specs.Described.{IsRunCommand};
 ghost use Rattle.b67_promises.specs.Paging.{texts, AsksForRun};
-ghost use Rattle.b67_promises.specs.Shipped.{FilesHave, PrintsAsDescribed, TookTheSame};
+ghost use Rattle.b67_promises.specs.Shipped.{FilesHave, PrintsAsDescribed, PrintsBehind, TookTheSame};
 
 use b67_program::{Devices, Words};
 use b67_recorded::{RecordedProcess, RecordedSink, RecordedSource, serve_recorded};
@@ -29,6 +30,9 @@ pub fn program_described<D: Words + Devices + Drop, R: Read, W: Write>(
 
     // The answer is that of a call of `serve_recorded`.
     ensures call { IsRecordServed D.given process.old.words.texts process.new.words.texts process.old.files process.new.files input.old input.new printer.old printer.new (exit_status result) }
+
+    // The bytes that were noted are those that the writer took and that the reader gave, where these tell what they have.
+    ensures faithful { IsFaithful R.remaining input.old input.new printer.old printer.new }
 {
     serve_recorded(alloc, process, input, printer)
 }
@@ -47,6 +51,23 @@ pub fn program(
     ensures call { IsRecordServed (λ _. None) process.old.words.texts process.new.words.texts process.old.files process.new.files input.old input.new printer.old printer.new (exit_status result) }
 {
     program_described(alloc, process, input, printer)
+}
+
+/// The same call over a text and a writer in memory, which tell what they have: so what it prints is told of the writer itself. The writer is given back.
+pub fn program_in_memory<D: Words + Devices + Drop>(
+    alloc: Global,
+    process: &mut RecordedProcess<D>,
+    text: &[u8],
+    lines: Vec<u8>,
+) -> (ExitCode, Vec<u8>)
+    // Of words that are a run command: those that the process gave.
+    ensures printed { (core sectors : ℕ) → (words : List (Bor (List ℕ))) → IsRunCommand core words → process.new.words.texts ≡ process.old.words.texts ++ texts words
+        → FilesHave process.old.files sectors → PrintsBehind core sectors text.now lines.items result.1.items (exit_status result.0) }
+{
+    let mut input = RecordedSource::new(text);
+    let mut printer = RecordedSink::new(lines);
+    let code = program_described(alloc, process, &mut input, &mut printer);
+    (code, printer.into_inner())
 }
 
 /// Two of the program's calls, over readers, writers and files of their own. Of one text, whatever the cores, the files and
@@ -78,6 +99,9 @@ pub fn program_twice<
 
     // The second answer is that of a call on the others.
     ensures other_call { IsRecordServed E.given other_process.old.words.texts other_process.new.words.texts other_process.old.files other_process.new.files other_input.old other_input.new other_printer.old other_printer.new (exit_status result.1) }
+
+    // What was noted is what went through, where the readers and the writers tell what they have.
+    ensures faithful { IsFaithful R.remaining input.old input.new printer.old printer.new × IsFaithful S.remaining other_input.old other_input.new other_printer.old other_printer.new }
 {
     let one = serve_recorded(alloc, process, input, printer);
     let other = serve_recorded(alloc, other_process, other_input, other_printer);

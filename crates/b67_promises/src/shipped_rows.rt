@@ -5,7 +5,7 @@ ghost use Rattle.b67_promises.specs.Shelves.{shelf_kept};
 
 use crate::given::same;
 use crate::shelf::{Shelf, ShelfFile};
-use crate::shipped::{program_described, program_twice};
+use crate::shipped::{program_described, program_in_memory, program_twice};
 use b67_backing::{Backing, CrookedBacking};
 use b67_program::{Devices, Words};
 use b67_recorded::{Mirrored, RecordedProcess, RecordedSink, RecordedSource};
@@ -135,6 +135,19 @@ fn serves_two_recorded_processes(rt: HostRuntime) {
     same(&rt, codes.1 == ExitCode::SUCCESS, true);
     same(&rt, lines.lines.as_slice(), LINES.as_bytes());
     same(&rt, other_lines.lines.as_slice(), LINES.as_bytes());
+}
+
+#[test]
+fn serves_a_text_in_memory(rt: HostRuntime) {
+    let mut process = RecordedProcess::new(rt.alloc(), process_in("630"));
+    let (code, lines) = program_in_memory(
+        rt.alloc(),
+        &mut process,
+        TWO.as_bytes(),
+        Vec::new(rt.alloc()),
+    );
+    same(&rt, code == ExitCode::SUCCESS, true);
+    same(&rt, lines.as_slice(), LINES.as_bytes());
 }
 
 // A device that gives one number at every place: what was written comes back as a failure.

@@ -5,7 +5,7 @@
 //!
 //! For the program `b67`, by `program` of `b67_promises`. Records are for proofs alone: they take no memory and no time.
 //!
-//! Begin with `serve_recorded`: `served`; then `Mirrored`.
+//! Begin with `serve_recorded`: `served`, `faithful`; then `Mirrored`.
 #![tactic(auto)]
 
 mod files;

@@ -9,3 +9,6 @@ returns-clause-described g c = λ core sectors words w is have.
 
 pub returns-clause-call : goal.returns-clause-call
 returns-clause-call g c = c.serve_recorded.ensures.served
+
+pub returns-clause-faithful : goal.returns-clause-faithful
+returns-clause-faithful g c = c.serve_recorded.ensures.faithful

@@ -15,3 +15,6 @@ returns-clause-call g c = c.serve_recorded-one.ensures.served
 
 pub returns-clause-other_call : goal.returns-clause-other_call
 returns-clause-other_call g c = c.serve_recorded-other.ensures.served
+
+pub returns-clause-faithful : goal.returns-clause-faithful
+returns-clause-faithful g c = (c.serve_recorded-one.ensures.faithful, c.serve_recorded-other.ensures.faithful)
