@@ -5,10 +5,10 @@ import collections, os, re, sys
 
 # The most of each. A change that lowers a count lowers its bound; one that must raise it says so in its commit.
 BOUNDS = {
-    'crates': 45,
-    'longest chain': 13,
-    'ways down crates.txt': 124999,
-    'definition names in two crates': 42,
+    'crates': 46,
+    'longest chain': 15,
+    'ways down crates.txt': 227808,
+    'definition names in two crates': 47,
     'longest function outside tests': 37,
     'contracts over eight clauses': 10,
 }

@@ -168,13 +168,13 @@ def attached(line, house):
 
 
 def of_row(cells, house):
-    """The names of a row of a table that stand behind a crate, and the files."""
+    """The names of a row of a table that stand behind a crate, and the files. `main` is a program's, which stands on the crate."""
     alone = re.fullmatch(r"`(b67\w*)`", cells[0]) if len(cells) == 3 else None
     if alone and alone.group(1) in house.crates:
         for name in re.findall(QUOTED, cells[1] + cells[2]):
             if IS_FILE.match(name):
                 yield None, f"{alone.group(1)}/{name}"
-            elif is_name(name) and name not in house.crates and not house.is_below(re.split(r"::|\(", name)[-1] if "(" not in name else name.split("(")[0], alone.group(1)):
+            elif is_name(name) and name != "main" and name not in house.crates and not house.is_below(re.split(r"::|\(", name)[-1] if "(" not in name else name.split("(")[0], alone.group(1)):
                 yield name, alone.group(1)
     for cell in cells:
         for part in cell.split(";"):

@@ -15,7 +15,7 @@ PARTS = [
     ("layout and stack", r"layout\w*|stack"),
     ("operators, intrinsics", r"exec\w*|fetch|entry|refer|mcp\w*"),
     ("paging, tasks", r"presence|overlay|task\w*"),
-    ("session, job, program", r"session\w*|job\w*|program|b67"),
+    ("session, job, program", r"session\w*|job\w*|program|recorded|b67"),
     ("promises", r"promises"),
     ("images and dumps", r"image\w*|dump"),
     ("text, loader", r"card|asm\w*|codefile|bind|gen|load\w*"),
