@@ -1,8 +1,8 @@
 #!/usr/bin/env python3
 """usage: statement.py [--check|--figures|FILE]
 
-Makes docs/statement.html, or FILE: the statement that one clicks through. It holds the contracts of run_twice, serve_described and
-serve_in_memory, and each definition that they name, down to the model, as they stand in the sources, and beside each where it
+Makes docs/statement.html, or FILE: the statement that one clicks through. It holds the contracts of program_twice, program, run_twice
+and serve_in_memory, and each definition that they name, down to the model, as they stand in the sources, and beside each where it
 stands. What a name names is found as scripts/trust.py finds it. The page's text and its acts are in scripts/statement/page.html,
 the usual way in way.txt, a sentence for each clause in clauses.txt, the statuses in statuses.txt, what the page says of fields in
 beside.txt, the words of the language and of the standard library in words.txt. The same sources give the same bytes.
@@ -25,9 +25,9 @@ import trust
 HERE = os.path.dirname(os.path.abspath(__file__))
 PAGE = os.path.join(HERE, "..", "docs", "statement.html")
 PARTS = os.path.join(HERE, "statement")
-FUNCTIONS = [("b67_promises::run_twice", "decks"), ("b67_promises::serve_described", "ends"), ("b67_program::serve_in_memory", None)]
+FUNCTIONS = [("b67_promises::program_twice", "same"), ("b67_promises::program", "described"), ("b67_promises::run_twice", "decks"), ("b67_program::serve_in_memory", "served")]
 # the clauses of each function that the usual way is on
-MAIN = {"run_twice": ["decks"], "serve_described": ["ends"], "serve_in_memory": [None]}
+MAIN = {"program_twice": ["same"], "program": ["described"], "run_twice": ["decks"], "serve_in_memory": ["served"]}
 
 
 class Wrong(Exception):
@@ -81,7 +81,7 @@ def comment_and_text(block):
     return [part for part in prose if part], lines[count:]
 
 
-FIELD = re.compile(r"^\s*(?:pub )?([^\W\d][\w']*) ?: ?", re.M)
+FIELD = re.compile(r"^\s*(?:pub(?:\(crate\))? )?([^\W\d][\w']*) ?: ?", re.M)
 
 
 def bound_names(block, text):
@@ -99,7 +99,8 @@ def bound_names(block, text):
         bound.update(re.findall(r"[{;] *([^\W\d][\w']*) = ", whole))
         return bound
     for line in whole.split("\n"):
-        left, *right = re.split(r" =(?= |$)", line, maxsplit=1)
+        # on the left an argument may be given by its name, as {g = g}
+        left, *right = re.split(r" =(?= |$)", re.sub(r"\{\w+ = (\w+)\}", r"\1", line), maxsplit=1)
         if right and not re.match(r"\s*(let|record)\b", left):
             bound.update(trust.WORD.findall(left.split("→")[-1]))
         for found in re.findall(r"(?:^|do|\[|\|)\s*(?:let )?([^\s(){}|\[\]]+) ←", line) + re.findall(r"let ([^\s]+)", line):
@@ -162,7 +163,8 @@ class Page:
     def generics(self, text):
         """The types that a function's type parameters are bounded by."""
         found = re.search(r"fn \w+<([^{]*?)>\(", "\n".join(text))
-        return dict(part.strip().split(": ") for part in found.group(1).split(",")) if found else {}
+        parts = [part.strip().split(": ") for part in found.group(1).split(",") if part.strip()] if found else []
+        return {name: types.split(" + ") for name, types in parts}
 
     def definition(self, block):
         """A definition as the page has it: its comment, and its lines, each a list of texts and of links."""
@@ -174,7 +176,7 @@ class Page:
         for number, start, token, found in trust.tokens(block, text):
             if text[number].lstrip().startswith(("ghost use", "use ", "pub use")):
                 continue
-            is_field = text[number][start - 1:start] == "." and token in self.fields
+            is_field = re.search(r"\.$|\b[A-Z]::$", text[number][:start]) and token in self.fields
             target = None if is_field else self.target(block, token, found, bound, bounds)
             if target is None:
                 continue
@@ -194,7 +196,8 @@ class Page:
         if found is not None and re.match(r"(pub )?fn ", found.text[0]) and found is not block:
             return self.word_of_function(found)
         if first in bounds and more:
-            found = trust.rust_item(trust.crate_of(block), bounds[first]) or trust.meaning(block, bounds[first])
+            types = [trust.rust_item(trust.crate_of(block), bound) or trust.meaning(block, bound) for bound in bounds[first]]
+            found = next((one for one in types if one is not None and re.search(rf"(?:ghost|type) {more}\b", "\n".join(one.text))), found)
         if found is not None and id(found) in self.index and found is not block:
             return self.index[id(found)]
         if found is block or token in (":", "=", ",", "{", "}", ";"):
@@ -370,8 +373,8 @@ class Page:
         places = {
             "WAY_LINES": f"{data['wayLines']:,}",
             "MAIN_LINES": f"{data['mainLines']:,}",
-            "ENDS_LINES": f"{self.most['serve_described ends'][0]:,}",
-            "DECKS_LINES": f"{self.most['run_twice decks'][0]:,}",
+            "DESCRIBED_LINES": f"{self.most['program described'][0]:,}",
+            "SAME_LINES": f"{self.most['program_twice same'][0]:,}",
             "ALL_LINES": f"{data['allLines']:,}",
             "WHOLE_LINES": f"{data['wholeWayLines']:,}",
             "SECOND_LINES": f"{data['secondWayLines']:,}",
