@@ -7,8 +7,8 @@ toolchain's checker accept it all. So nothing that the statement needs is left o
 definition is held against the crate's file: it is a line of that file, byte for byte, in its order. The lines that it adds are
 those that bring names in, copied from the same file as far as they are used, and the names of modules.
 
-FUNCTION is CRATE::NAME, and without CLAUSE all its clauses are meant. Without arguments the two main clauses of
-docs/statement.html are compiled. With --keep the crates are written into FOLDER, which must not be there yet, and stay there. Needs
+FUNCTION is CRATE::NAME, and without CLAUSE all its clauses are meant. Without arguments `decks`
+of run_twice and `ends` of serve_described are compiled. With --keep the crates are written into FOLDER, which must not be there yet, and stay there. Needs
 rt; some two minutes of a processor for each statement.
 """
 import os
