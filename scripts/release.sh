@@ -52,7 +52,7 @@ cp docs/*.5 "$out/man/man5/"
 [ ! -f "$page" ] || cp "$page" "$out/b67.html"
 [ ! -f "$page" ] || cp web/b67.mjs "$out/b67.mjs"
 mapfile -t files < <(git ls-files README.md CHANGES.md CITATION.cff CONTRIBUTING.md docs bench/README.md web/README.md reference \
-    crates/b67_promises/src/lib.rt crates/b67_promises/src/paging.rt)
+    crates/b67/src/main.rt crates/b67_promises/src/lib.rt crates/b67_promises/src/shipped.rt crates/b67_recorded/src)
 put "${files[@]}"
 # the page stands at the top, where a pupil finds it
 sed -i 's:`web/b67\.html`:`b67.html`:; s:node web/b67\.mjs:node b67.mjs:' "$out/README.md" "$out/docs/TEACHING.md" "$out/web/README.md"
