@@ -27,7 +27,7 @@ import zlib from 'node:zlib';
 
 const [SECTORS, SECTOR_BYTES, MOST_WORDS] = [65536, 240, 5];
 const ROOMS = [24, 27, 30].map(power => 2 ** power); // bytes of lines; a run that prints more is made again in the next one
-const [READING_FAULT, BACKING_FAULT, PRINTING, CANT] = [7, 6, 8, 10];
+const [USAGE, READING_FAULT, BACKING_FAULT, PRINTING, CANT] = [1, 7, 6, 8, 10];
 
 class Cant extends Error {}
 
@@ -96,13 +96,23 @@ function withoutBacking(module, words, text, file, why) {
   return judged.status ? judged : {status: BACKING_FAULT, bytes: Buffer.from('BACKING FAULT\n'), said: `${file}: ${why}`};
 }
 
+// The words as the machine takes them: where no file is named, the sectors have a name all the same.
+function passedOf(words) {
+  const [name] = words;
+  if (name === 'bind' && words.length > MOST_WORDS && words.slice(1).every(it => /^\d+=\d+$/.test(it))) throw new Cant('bind takes four pairs at most here: bind some, and bind what comes of it with the others');
+  if (words.length > MOST_WORDS) return [];
+  return ['run', 'image'].includes(name) && !words.includes('--backing') ? [...words, '--backing', 'memory'] : words;
+}
+// What the machine says of words that are no command; of a command, null.
+function refused(module, passed) {
+  const said = called(module, passed, Buffer.from('?'), {many: 1, room: ROOMS[0]});
+  return said.status === USAGE ? said : null;
+}
+
 // Carries out a command over a text: {status, bytes, said}, where `said` is for standard error.
 export function serve(module, words, text) {
   const [name] = words, at = words.indexOf('--backing'), over = ['run', 'image', 'resume'].includes(name), file = over && at > 0 ? words[at + 1] : undefined;
-  if (name === 'bind' && words.length > MOST_WORDS && words.slice(1).every(it => /^\d+=\d+$/.test(it))) throw new Cant('bind takes four pairs at most here: bind some, and bind what comes of it with the others');
-  const passed = words.length > MOST_WORDS ? [] : ['run', 'image'].includes(name) && at < 0 ? [...words, '--backing', 'memory'] : words;
-  const isCommand = !file || called(module, passed, Buffer.from('?'), {many: 1, room: ROOMS[0]}).status !== 1;
-  const device = file && isCommand ? opened(file) : null;
+  const passed = passedOf(words), device = file && !refused(module, passed) ? opened(file) : null;
   if (device?.why) return withoutBacking(module, passed, text, file, device.why);
   const many = over || name === 'exercise' ? SECTORS : 1;
   let made;
@@ -114,11 +124,9 @@ export function serve(module, words, text) {
   return {...made, said: made.status === PRINTING ? 'more than 1 GiB is printed: this is the beginning' : ''};
 }
 
-// What stands in the place of a command whose input can't be read; its file is there afterwards, as after any run.
-function unread(words) {
-  const at = words.indexOf('--backing');
-  if (at > 0) opened(words[at + 1]);
-  return {status: READING_FAULT, bytes: Buffer.from('READING FAULT\n')};
+// What stands in the place of a command whose input can't be read: no file is opened.
+function unread(module, words) {
+  return refused(module, passedOf(words)) ?? {status: READING_FAULT, bytes: Buffer.from('READING FAULT\n')};
 }
 
 // All of standard input.
@@ -252,7 +260,7 @@ async function carriesOut(words) {
   if (name === 'class') return marksOfClass(page, rest);
   const module = new WebAssembly.Module(page.bytes);
   if (name === 'mark') return mark(module, page, rest);
-  const text = name === 'exercise' ? Buffer.alloc(0) : input(), {status, bytes, said} = text ? serve(module, words, text) : unread(words), whole = print(bytes);
+  const text = name === 'exercise' ? Buffer.alloc(0) : input(), {status, bytes, said} = text ? serve(module, words, text) : unread(module, words), whole = print(bytes);
   if (said) console.error(`b67.mjs: ${said}`);
   return whole ? status : PRINTING;
 }

@@ -70,6 +70,7 @@ const SHELL = [
   'run --core 630 --backing b < two', 'run --core 629 --backing b < two', 'run --core 630 --backing none/b < two', 'run --core 630 --backing . < two', 'run --backing b --core 630 < two',
   'run --core 630 --backing notes < two', 'run --core 630 --backing notes < bad', 'run --core 630 --backing b < .', 'run --core 630 --backing b < two > /dev/full', 'run --core 630 --backing b < two > b',
   'image --core 630 --backing b < halted > i; B67 resume --backing b < i', 'image --core 630 --backing b < halted | B67 dump', 'run', '', 'exercise 7 40 --core 4096', 'check < bad',
+  'run --core 0 --backing b < .', 'image --core 630 --backing b < .', 'resume --backing b < .', 'nothing < .', 'check < .',
 ];
 function by_shell() {
   const two = fs.readFileSync(path.join(decks, 'two/stdin')), said = [program, command].map((name, k) => SHELL.map(line => {
