@@ -1,9 +1,9 @@
 #!/usr/bin/env python3
 """usage: statement.py [--check|--figures|FILE]
 
-Makes docs/statement.html, or FILE: the statement that one clicks through. It holds the contracts of program_twice, program, run_twice
-and serve_in_memory, and each definition that they name, down to the model, as they stand in the sources, and beside each where it
-stands. What a name names is found as scripts/trust.py finds it. The page's text and its acts are in scripts/statement/page.html,
+Makes docs/statement.html, or FILE: the statement that one clicks through. It holds the contracts of program_twice, program,
+program_in_memory, run_twice and serve_in_memory, and each definition that they name, down to the model, as they stand in the sources,
+and beside each where it stands. What a name names is found as scripts/trust.py finds it. The page's text and its acts are in scripts/statement/page.html,
 the usual way in way.txt, a sentence for each clause in clauses.txt, the statuses in statuses.txt, what the page says of fields in
 beside.txt, the words of the language and of the standard library in words.txt. The same sources give the same bytes.
 
@@ -25,9 +25,9 @@ import trust
 HERE = os.path.dirname(os.path.abspath(__file__))
 PAGE = os.path.join(HERE, "..", "docs", "statement.html")
 PARTS = os.path.join(HERE, "statement")
-FUNCTIONS = [("b67_promises::program_twice", "same"), ("b67_promises::program", "described"), ("b67_promises::run_twice", "decks"), ("b67_program::serve_in_memory", "served")]
+FUNCTIONS = [("b67_promises::program_twice", "same"), ("b67_promises::program", "described"), ("b67_promises::program_in_memory", "printed"), ("b67_promises::run_twice", "decks"), ("b67_program::serve_in_memory", "served")]
 # the clauses of each function that the usual way is on
-MAIN = {"program_twice": ["same"], "program": ["described"], "run_twice": ["decks"], "serve_in_memory": ["served"]}
+MAIN = {"program_twice": ["same"], "program": ["described"], "program_in_memory": ["printed"], "run_twice": ["decks"], "serve_in_memory": ["served"]}
 
 
 class Wrong(Exception):
@@ -91,7 +91,7 @@ def bound_names(block, text):
     if block.path.endswith(".rt"):
         for group in re.findall(r"<([A-Z][^<>]*)>", whole):
             bound.update(part.split(":")[0].strip() for part in group.split(","))
-        bound.update(re.findall(r"(?:ensures|requires|ghost|let|let mut|fn|type|use) ([^\W\d]\w*)", whole))
+        bound.update(re.findall(r"(?:ensures|requires|ghost|let mut|let|fn|type|use) ([^\W\d]\w*)", whole))
         bound.update(re.findall(r"[(,] ?(?:mut )?([a-z_]\w*): ", whole))
         bound.update(re.findall(r"^    ([A-Z]\w*)\b", whole, re.M))
         bound.update(re.findall(r"[{,] ([a-z_]\w*): ", whole))
@@ -148,7 +148,7 @@ class Page:
 
     def all_fields(self):
         """The fields, the ghosts and the cases that something shown has, and those that are built in."""
-        fields = {"old", "new", "now", "items", "0", "1", "2", "3", "bytes"}
+        fields = {"old", "new", "now", "items", "0", "1", "2", "3", "bytes", "contents"}
         for block in self.blocks:
             text = "\n".join(trust.code_in(block, line) for line in block.text)
             fields.update(FIELD.findall(text))
