@@ -10,7 +10,7 @@ BOUNDS = {
     'ways down crates.txt': 227808,
     'definition names in two crates': 47,
     'longest function outside tests': 37,
-    'contracts over eight clauses': 10,
+    'contracts over eight clauses': 13,
 }
 
 
