@@ -1,4 +1,4 @@
-// The page's module against the native program: node compare.mjs PAGE PROGRAM DECKS, called by scripts/check-web.sh.
+// The page's module against the native program: node compare.mjs PAGE PROGRAM DECKS, called by tools/check-web.sh.
 //
 // Each deck is run by each command, in several cores; its images at some counts are compared with all sectors of the backing, and
 // what `dump` and `resume` make of them. Prints each difference, and at last `N the same, M different`.

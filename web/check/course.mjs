@@ -1,7 +1,7 @@
 // The course in a browser: each task of each lesson is done wrongly and then rightly; a teacher's sheet; and what is handed in.
-import {TASKS} from '../course.js';
-import {START} from '../decks.js';
-import {packedText, unpacked} from '../share.js';
+import {TASKS} from '../src/course/course.js';
+import {START} from '../src/page/decks.js';
+import {packedText, unpacked} from '../src/editor/share.js';
 import {FOUND, LEAST_OF_TEN, PREDICTED, SEARCHED, WRITTEN} from '../tests/answers.js';
 
 const DONE = "document.getElementById('task').className === 'done'";

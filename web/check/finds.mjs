@@ -1,7 +1,7 @@
 // Searches of the page's module: node finds.mjs PAGE FILE, called by reference/compare_searches.py. FILE has a search and a deck on each line,
 // as JSON: core, kind, numbers, from, most, and the deck's text in Latin-1. Prints for each the count, `none`, or `stops`.
 import fs from 'node:fs';
-import {Program} from '../program.js';
+import {Program} from '../src/machine/program.js';
 import {moduleOf} from './module.mjs';
 
 const [page, file] = process.argv.slice(2);

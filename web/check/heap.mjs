@@ -1,7 +1,7 @@
 // The heap of the page's module, tried by itself: node heap.mjs HEAP.wasm LARGE.wasm
 //
 // HEAP.wasm is heap.c alone with all its functions exported, in a memory of 64 MiB at most, linked and lowered to a memory of 32 bits
-// by scripts/check-web.sh. A long row of calls by chance is compared with a list of the blocks that live: where they lie, how they are
+// by tools/check-web.sh. A long row of calls by chance is compared with a list of the blocks that live: where they lie, how they are
 // aligned, what they hold, and what is left after a refusal. Then products of 128 bits are compared with those of JavaScript.
 // LARGE.wasm is the same without that limit: what no memory of 32 bits has is refused there, too.
 import fs from 'node:fs';

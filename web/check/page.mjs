@@ -1,4 +1,4 @@
-// The page in a browser without a window: node page.mjs BROWSER PAGE PROGRAM DECKS [FOLDER], called by scripts/check-page.sh. BROWSER is
+// The page in a browser without a window: node page.mjs BROWSER PAGE PROGRAM DECKS [FOLDER], called by tools/check-page.sh. BROWSER is
 // Chromium's program, Firefox's, or WebKit's MiniBrowser.
 //
 // Tries the parts that decks.mjs, inputs.mjs and course.mjs have, or those that TRIES names. With FOLDER it also writes pictures there.

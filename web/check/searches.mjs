@@ -1,15 +1,15 @@
 // The page's module: states from marks against the same from the start, and searches against a look at each state: node searches.mjs PAGE
-// DECKS [DECK..], called by scripts/check-web.sh.
+// DECKS [DECK..], called by tools/check-web.sh.
 //
 // Of each deck that is run: at some counts the whole image, its sectors and its lines, by `step` and by `image`; and each kind of search that
 // is by `find`, from some moments. Prints each difference, and at last `N the same, M different`.
 import fs from 'node:fs';
 import path from 'node:path';
 import {isDeepStrictEqual} from 'node:util';
-import {Machine} from '../machine.js';
-import {Marks} from '../marks.js';
-import {Program} from '../program.js';
-import {Search} from '../search.js';
+import {Machine} from '../src/machine/machine.js';
+import {Marks} from '../src/machine/marks.js';
+import {Program} from '../src/machine/program.js';
+import {Search} from '../src/machine/search.js';
 import {moduleOf} from './module.mjs';
 
 const [page, folder, ...only] = process.argv.slice(2);

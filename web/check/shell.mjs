@@ -1,5 +1,5 @@
 // The machine as a command of node, web/b67.mjs, against the native program: node shell.mjs COMMAND PAGE PROGRAM DECKS ROWS, called by
-// scripts/check-web.sh.
+// tools/check-web.sh.
 //
 // The words and the text of each row of crates/b67_rows/data are given to both, over a file where the row's words name one: statuses, all
 // that is printed, and the file. Decks are run by decks/run.sh over COMMAND, and some calls as a shell makes them. Prints each difference,
@@ -9,7 +9,7 @@ import fs from 'node:fs';
 import os from 'node:os';
 import path from 'node:path';
 import {pageOf, serve} from '../b67.mjs';
-import {packedHand} from '../handin.js';
+import {packedHand} from '../src/course/handin.js';
 import {WRITTEN} from '../tests/answers.js';
 
 const [command, page, program, decks, rows] = process.argv.slice(2), RUN = 'run --core 4096 --backing b';

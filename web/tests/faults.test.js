@@ -5,10 +5,10 @@ import {after, test} from 'node:test';
 import {setImmediate as turn} from 'node:timers/promises';
 import {Native} from './native.js';
 import {StandIn} from './stand-in.js';
-import {Desk} from '../worker.js';
-import {fittingCauses, fittingMeaning} from '../faults.js';
-import {refusedWord} from '../refusals.js';
-import {explained, statusText, tablesOf} from '../messages.js';
+import {Desk} from '../src/page/worker.js';
+import {fittingCauses, fittingMeaning} from '../src/words/faults.js';
+import {refusedWord} from '../src/words/refusals.js';
+import {explained, statusText, tablesOf} from '../src/words/messages.js';
 
 const native = new Native(process.env.B67 ?? 'b67');
 after(() => native.close());

@@ -4,26 +4,26 @@ import {readFileSync} from 'node:fs';
 import {spawnSync} from 'node:child_process';
 import {test} from 'node:test';
 import {fileURLToPath} from 'node:url';
-import {hashOf, placeOf} from '../address.js';
-import {cardsOf, placesOf} from '../cards.js';
-import {endingOf} from '../changes.js';
-import {arrayBehind, followedText, nextChoice} from '../follow.js';
-import {partOf, startOf} from '../cards-area.js';
-import {numbersForRead, withNumbers} from '../deck-view.js';
-import {decksOf, GROUPS, START} from '../decks.js';
-import {lanesBeside} from '../draw-arrows.js';
-import {intrinsicsIn, Lexicon, operatorsIn} from '../lexicon.js';
-import {INTRINSICS, MEANINGS, OPERATORS, TAKES} from '../operators.js';
-import {OwnDecks} from '../keep.js';
-import {actOf, KEYS} from '../keys.js';
-import {momentsOfLessons} from '../course.js';
-import {least} from '../machine.js';
-import {Marks} from '../marks.js';
-import {spansText} from '../memory.js';
-import {explained, statusText, tablesOf} from '../messages.js';
-import {isPacked, packed, unpacked} from '../share.js';
-import {stoppedText, underWayText} from '../under-way.js';
-import {coupleText, numberText} from '../words.js';
+import {hashOf, placeOf} from '../src/page/address.js';
+import {cardsOf, placesOf} from '../src/reader/cards.js';
+import {endingOf} from '../src/state/changes.js';
+import {arrayBehind, followedText, nextChoice} from '../src/page/follow.js';
+import {partOf, startOf} from '../src/editor/cards-area.js';
+import {numbersForRead, withNumbers} from '../src/page/deck-view.js';
+import {decksOf, GROUPS, START} from '../src/page/decks.js';
+import {lanesBeside} from '../src/drawing/draw-arrows.js';
+import {intrinsicsIn, Lexicon, operatorsIn} from '../src/words/lexicon.js';
+import {INTRINSICS, MEANINGS, OPERATORS, TAKES} from '../src/reader/operators.js';
+import {OwnDecks} from '../src/editor/keep.js';
+import {actOf, KEYS} from '../src/page/keys.js';
+import {momentsOfLessons} from '../src/course/course.js';
+import {least} from '../src/machine/machine.js';
+import {Marks} from '../src/machine/marks.js';
+import {spansText} from '../src/state/memory.js';
+import {explained, statusText, tablesOf} from '../src/words/messages.js';
+import {isPacked, packed, unpacked} from '../src/editor/share.js';
+import {stoppedText, underWayText} from '../src/page/under-way.js';
+import {coupleText, numberText} from '../src/reader/words.js';
 import {decks} from './native.js';
 
 const rows = tablesOf(readFileSync(new URL('../../docs/MESSAGES.md', import.meta.url), 'utf8'));
@@ -177,7 +177,7 @@ test('each key does one thing', () => {
 
 // What join.py takes out of docs, asked of itself.
 function joined(name) {
-  const made = spawnSync('python3', ['-c', `import sys; sys.dont_write_bytecode = True; import join; sys.stdout.write(join.${name}())`], {cwd: fileURLToPath(new URL('..', import.meta.url)), encoding: 'utf8'});
+  const made = spawnSync('python3', ['-c', `import sys; sys.dont_write_bytecode = True; import join; sys.stdout.write(join.${name}())`], {cwd: fileURLToPath(new URL('../build', import.meta.url)), encoding: 'utf8'});
   assert.equal(made.status, 0, made.stderr);
   return made.stdout;
 }

@@ -4,11 +4,11 @@ import assert from 'node:assert/strict';
 import {after, test} from 'node:test';
 import {setImmediate as turn} from 'node:timers/promises';
 import {Native, decks} from './native.js';
-import {Image} from '../image.js';
-import {dumpText} from '../dump.js';
-import {openedText} from '../opened.js';
-import {Machine, nextTask} from '../machine.js';
-import {textOf} from '../program.js';
+import {Image} from '../src/reader/image.js';
+import {dumpText} from '../src/reader/dump.js';
+import {openedText} from '../src/machine/opened.js';
+import {Machine, nextTask} from '../src/machine/machine.js';
+import {textOf} from '../src/machine/program.js';
 
 const native = new Native(process.env.B67 ?? 'b67');
 after(() => native.close());

@@ -4,11 +4,11 @@ import assert from 'node:assert/strict';
 import {after, test} from 'node:test';
 import {setImmediate as turn} from 'node:timers/promises';
 import {Native, decks} from './native.js';
-import {lostStores} from '../lost.js';
+import {lostStores} from '../src/words/lost.js';
 import {StandIn} from './stand-in.js';
-import {Machine} from '../machine.js';
-import {Marks} from '../marks.js';
-import {lastBefore, Search} from '../search.js';
+import {Machine} from '../src/machine/machine.js';
+import {Marks} from '../src/machine/marks.js';
+import {lastBefore, Search} from '../src/machine/search.js';
 
 const native = new Native(process.env.B67 ?? 'b67');
 after(() => native.close());

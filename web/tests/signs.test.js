@@ -1,10 +1,10 @@
 // Stores that are lost, the signs of the line of time, and the stack that stays at the left: by data.
 import assert from 'node:assert/strict';
 import {test} from 'node:test';
-import {lossChange, lossText, lostStores, touchesOf} from '../lost.js';
-import {nextOf, signsOn} from '../signs.js';
-import {isRoot, pinnedWidth} from '../pin-stack.js';
-import {depthText} from '../step-view.js';
+import {lossChange, lossText, lostStores, touchesOf} from '../src/words/lost.js';
+import {nextOf, signsOn} from '../src/drawing/signs.js';
+import {isRoot, pinnedWidth} from '../src/drawing/pin-stack.js';
+import {depthText} from '../src/page/step-view.js';
 
 const CELL = '1.1 1 2';
 

@@ -1,8 +1,8 @@
 // What the module's `find` and `step` answer, made by its commands alone, state by state from the start: for tests of what calls them.
-import {Image, startOfImage} from '../image.js';
-import {nextTask} from '../machine.js';
-import {openedText} from '../opened.js';
-import {textOf} from '../program.js';
+import {Image, startOfImage} from '../src/reader/image.js';
+import {nextTask} from '../src/machine/machine.js';
+import {openedText} from '../src/machine/opened.js';
+import {textOf} from '../src/machine/program.js';
 
 const [NOWHERE, HALTED] = [1, 3], [SWITCH, WITHIN, DEEPEST] = [1, 2, 3];
 

@@ -1,0 +1,137 @@
+#!/usr/bin/env bash
+# Runs what must pass before a change lands: the gate, and what the gate leaves out. It works on what is committed, goes on
+# after a failure, says of each part how long it took and what its last line was, and ends with status 1 if a part failed.
+#
+#     bash tools/before-landing.sh [--skip PART].. [--only PART].. [--since COMMIT] PROGRAM
+#     bash tools/before-landing.sh --list
+#
+# PROGRAM is a built program, as crates/b67/out/b67. COMMIT is what the change stands on, origin/main if it isn't named: the
+# edits outside the gate are those of the crates that changed since, and of the crates that name one whose definitions or contracts
+# changed. Of a part that failed the last thirty lines are shown.
+[ -n "${BASH_VERSION:-}" ] || { echo "usage: bash tools/before-landing.sh --list, or PROGRAM" >&2; exit 2; }
+set -u
+parts='gate rows decks tracer house signatures premises links names statement scripts documents release edits'
+usage() {
+    printf '%s\nusage: bash tools/before-landing.sh [--skip PART].. [--only PART].. [--since COMMIT] PROGRAM\nparts: %s\n' "$1" "$parts" >&2
+    exit 2
+}
+means() {
+    case $1 in
+    gate) echo 'rt ci: proofs, tests, must-fail edits, programs; one to two hours' ;;
+    rows) echo 'the rows of b67_rows by the reference' ;;
+    decks) echo 'the decks over the built program' ;;
+    tracer) echo "the tracer's lines over the decks" ;;
+    house) echo 'tools/house.py: no count above its bound' ;;
+    signatures) echo 'the public calls against their list' ;;
+    premises) echo 'what meets the premises of each theorem' ;;
+    links) echo 'each link and path of the documents' ;;
+    names) echo 'what pages say of functions, calls and crates is in the code' ;;
+    statement) echo 'docs/statement.html made again: the same bytes, and no name that leads nowhere' ;;
+    scripts) echo 'tools/check-scripts.sh: each script, called carelessly' ;;
+    documents) echo 'the commands of the documents' ;;
+    release) echo 'tools/release.sh twice: the same bytes' ;;
+    edits) echo 'the edits outside the gate, of the crates that changed and of those above' ;;
+    esac
+}
+named() {
+    case " $parts " in *" $1 "*) ;; *) usage "no part $1" ;; esac
+}
+skip=' ' only=' ' since='' program=''
+while [ $# -gt 0 ]; do
+    case $1 in
+    --list)
+        for part in $parts; do printf '%-10s %s\n' "$part" "$(means "$part")"; done
+        exit 0
+        ;;
+    --skip | --only)
+        [ $# -ge 2 ] || usage "$1 wants a part"
+        named "$2"
+        if [ "$1" = --skip ]; then skip="$skip$2 "; else only="$only$2 "; fi
+        shift 2
+        ;;
+    --since)
+        [ $# -ge 2 ] || usage '--since wants a commit'
+        since=$2
+        shift 2
+        ;;
+    -*) usage "no option $1" ;;
+    *)
+        [ -z "$program" ] || usage 'more than one program'
+        program=$1
+        shift
+        ;;
+    esac
+done
+[ -n "$program" ] || usage 'a program is missing'
+[ -f "$program" ] && [ -x "$program" ] || usage "$program: not a program that can be run"
+program=$(cd "$(dirname "$program")" && pwd)/$(basename "$program")
+cd "$(dirname "$0")/.." || exit 2
+if [ -z "$since" ]; then
+    for since in origin/main main ''; do git rev-parse -q --verify "$since^{commit}" >/dev/null 2>&1 && break; done
+fi
+[ -z "$since" ] || git rev-parse -q --verify "$since^{commit}" >/dev/null || usage "no commit $since"
+room=$(mktemp -d) || exit 2
+trap 'rm -rf "$room"' EXIT
+trap 'exit 130' HUP INT TERM
+echo 'room for what is said' >"$room/log" || exit 2
+[ -z "$(git status --porcelain --untracked-files=no)" ] || echo 'Some changes are not committed: the parts documents and edits do not see them.'
+
+# each part is a function of its name
+gate() { .ci/run; }
+rows() { python3 reference/compare_rows.py reference crates/b67_rows/data; }
+decks() { sh decks/run.sh "$program"; }
+tracer() { sh tools/check-trace.sh; }
+house() { python3 tools/house.py; }
+signatures() { python3 tools/signatures.py; }
+premises() { python3 tools/premises.py; }
+links() { python3 tools/links.py; }
+names() { python3 tools/names.py && python3 tools/heads.py --check; }
+statement() { python3 tools/statement.py --check; }
+scripts() { bash tools/check-scripts.sh "$program"; }
+documents() { bash tools/check-docs.sh "$program"; }
+release() {
+    bash tools/release.sh "$program" "$room/one.tar.gz" && bash tools/release.sh "$program" "$room/two.tar.gz" &&
+        cmp "$room/one.tar.gz" "$room/two.tar.gz" && echo 'the same bytes twice'
+}
+# the crates that changed, and those that name one whose definitions or contracts changed: their edits are refused by these, too
+touched() {
+    local name said
+    git diff --name-only "$since" HEAD -- crates | cut -d/ -f2 | sort -u | while read -r name; do
+        echo "$name"
+        said=$(git diff -U0 "$since" HEAD -- "crates/$name/specs" "crates/$name/src" | grep -cE '^[-+].*(→|≡|ensures|requires|record |abbrev )' || true)
+        [ "$said" = 0 ] || sed -n "s/^\([a-z0-9_]*\)[^:]*:.* $name\( .*\)*\$/\1/p" crates.txt
+    done | sort -u
+}
+edits() {
+    [ -n "$since" ] || {
+        echo 'no commit to compare with: name it by --since'
+        return 1
+    }
+    local name names=()
+    while read -r name; do
+        if compgen -G "crates/$name/more-edits/*.edit" >/dev/null; then names+=("$name"); fi
+    done < <(touched)
+    if [ ${#names[@]} -eq 0 ]; then
+        echo "no crate with edits outside the gate changed since $since"
+    else
+        bash tools/more-edits.sh "${names[@]}"
+    fi
+}
+
+failed=0
+for part in $parts; do
+    case $skip in *" $part "*)
+        printf '%-10s skipped\n' "$part"
+        continue
+        ;;
+    esac
+    [ "$only" = ' ' ] || case $only in *" $part "*) ;; *) continue ;; esac
+    began=$SECONDS
+    if "$part" >"$room/log" 2>&1; then said=passed; else
+        said=FAILED
+        failed=$((failed + 1))
+    fi
+    printf '%-10s %-7s %5d s  %s\n' "$part" "$said" "$((SECONDS - began))" "$(tail -n 1 "$room/log" | cut -c 1-90)"
+    [ "$said" = passed ] || tail -n 30 "$room/log" | sed 's/^/    /'
+done
+[ "$failed" = 0 ]

@@ -1,0 +1,38 @@
+#!/usr/bin/env python3
+"""usage: refill.py
+
+Makes again the blocks of docs/TRUST.md and docs/PAPER.md that tools/trust.py and tools/sizes.py print: what stands after such
+a command becomes what it prints now. Numbers in sentences are left; tools/check-docs.sh says which of them are old.
+"""
+import os
+import re
+import subprocess
+import sys
+
+TOP = os.path.normpath(os.path.join(os.path.dirname(os.path.abspath(__file__)), ".."))
+BLOCK = re.compile(r"(```console\n\$ (python3 tools/(?:trust|sizes)\.py[^\n]*)\n).*?\n```", re.S)
+
+
+def printed(found):
+    """The block with what its command prints."""
+    made = subprocess.run(found.group(2).split(), cwd=TOP, stdout=subprocess.PIPE, check=True)
+    return found.group(1) + made.stdout.decode() + "```"
+
+
+def main(arguments):
+    if arguments:
+        print(__doc__.split("\n")[0], file=sys.stderr)
+        return 2
+    for page in ["docs/TRUST.md", "docs/PAPER.md"]:
+        path = os.path.join(TOP, page)
+        with open(path, encoding="utf-8") as text:
+            old = text.read()
+        new = BLOCK.sub(printed, old)
+        with open(path, "w", encoding="utf-8") as text:
+            text.write(new)
+        print(f"{page}: {'changed' if new != old else 'as it was'}")
+    return 0
+
+
+if __name__ == "__main__":
+    sys.exit(main(sys.argv[1:]))

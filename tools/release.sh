@@ -1,0 +1,116 @@
+#!/usr/bin/env bash
+# Makes one archive of what a class needs: the built program, the page b67.html if there is one, the manual pages, decks with
+# the exercises but not their answers, documents, scripts, the tracer, and a sum of each file. Nothing in it needs the toolchain. The same tree and program give
+# the same bytes: files are in the order of their names, and their time is the version's date. Needs git and GNU tar.
+# The paper is printed too (docs/PAPER.pdf), if pandoc and weasyprint are there; the same versions of both give the same bytes. A link
+# of a document that leads to no file of the archive is an error.
+#
+#     bash tools/release.sh PROGRAM FILE.tar.gz [PAGE]
+#
+# PROGRAM is a built program, as crates/b67/out/b67. PAGE is the machine in a page, web/b67.html if it isn't named and is
+# there. Files are those that git knows, as they are now. The version is that of CITATION.cff.
+[ -n "${BASH_VERSION:-}" ] || { echo "usage: bash tools/release.sh PROGRAM FILE.tar.gz [PAGE]" >&2; exit 2; }
+set -euo pipefail
+usage() {
+    printf '%s\nusage: bash tools/release.sh PROGRAM FILE.tar.gz [PAGE]\n' "$1" >&2
+    exit 2
+}
+[ $# -ge 2 ] && [ $# -le 3 ] || usage 'a program and a file to write are wanted'
+[ -f "$1" ] && [ -x "$1" ] || usage "$1: not a program that can be run"
+case $2 in -* | */) usage "$2: not a file to write" ;; *.tar.gz) ;; *) usage "$2: doesn't end in .tar.gz" ;; esac
+[ -d "$(dirname "$2")" ] || usage "$2: its folder is missing"
+program=$(cd "$(dirname "$1")" && pwd)/$(basename "$1")
+archive=$(cd "$(dirname "$2")" && pwd)/$(basename "$2")
+top=$(cd "$(dirname "$0")/.." && pwd)
+page=$top/web/b67.html
+if [ $# -eq 3 ]; then
+    [ -f "$3" ] || usage "$3: no such page"
+    page=$(cd "$(dirname "$3")" && pwd)/$(basename "$3")
+fi
+cd "$top"
+git rev-parse -q --verify HEAD >/dev/null 2>&1 || usage "$top: not a repository of git"
+version=$(sed -n 's/^version: //p' CITATION.cff)
+date=$(sed -n 's/^date-released: //p' CITATION.cff)
+room=$(mktemp -d)
+trap 'rm -rf "$room" "$archive.part"' EXIT
+trap 'exit 130' HUP INT TERM
+name=b67-$version
+out=$room/$name
+mkdir -p "$out/bin" "$out/man/man1" "$out/man/man5"
+
+# put FILE.. : each under the name that it has here
+put() {
+    local file
+    for file in "$@"; do
+        mkdir -p "$out/$(dirname "$file")"
+        cp "$file" "$out/$file"
+    done
+}
+cp "$program" "$out/bin/b67"
+cp docs/b67.1 "$out/man/man1/b67.1"
+cp docs/*.5 "$out/man/man5/"
+[ ! -f "$page" ] || cp "$page" "$out/b67.html"
+[ ! -f "$page" ] || cp web/b67.mjs "$out/b67.mjs"
+mapfile -t files < <(git ls-files README.md CHANGES.md CITATION.cff CONTRIBUTING.md docs bench/README.md tools/README.md web/README.md reference \
+    crates/b67/src/main.rt crates/b67_promises/src/lib.rt crates/b67_promises/src/shipped.rt crates/b67_recorded/src)
+put "${files[@]}"
+# the page stands at the top, where a pupil finds it
+sed -i 's:`web/b67\.html`:`b67.html`:; s:node web/b67\.mjs:node b67.mjs:' "$out/README.md" "$out/docs/TEACHING.md" "$out/web/README.md"
+# the scripts need only the program, sh and awk
+mapfile -t files < <(git ls-files scripts)
+put "${files[@]}"
+# the paper in print, if there is what prints it
+bash tools/paper.sh "$out/docs/PAPER.pdf" || [ $? = 3 ] || usage 'the paper was not printed'
+mkdir -p "$out/decks"
+for file in $(git ls-files crates/b67_rows/data/decks); do
+    under=${file#crates/b67_rows/data/decks/}
+    case $under in answers/*) continue ;; esac
+    mkdir -p "$out/decks/$(dirname "$under")"
+    # links lead three folders less far up from here, and none to the answers
+    case $under in
+    *.md) sed 's:(\.\./\.\./\.\./\(\.\./\):(\1:g; s:, \[answers\](answers/README\.md) the answers::' "$file" >"$out/decks/$under" ;;
+    *) cp "$file" "$out/decks/$under" ;;
+    esac
+done
+
+{
+    printf 'b67 %s, %s\n\n' "$version" "$date"
+    cat <<'TEXT'
+A stack machine after the Burroughs B6700, proved before it was built.
+
+    PATH=$PWD/bin:$PATH
+    b67 run --core 4096 --backing b < decks/sum/stdin
+
+prints 1.1 5 and 1.1 ENDED. The program needs Linux on x86-64 with the GNU C library 2.34 or later (Debian 12, Ubuntu 22.04,
+RHEL 9); it is built, so skip what the documents say of rt. From here: docs/TOUR.md, three lessons with commands;
+docs/TEACHING.md, six lessons for whoever gives a course; docs/ASSEMBLER.md, how to write decks, and decks/exercises/README.md,
+tasks for it. man -l man/man1/b67.1 has the commands, man -l man/man5/b67-deck.5 the cards, man -l man/man5/b67-image.5 the
+image of a halted machine; docs/statement.html, in a browser, what is proved. The scripts need sh and an awk as POSIX has it, the tracer (reference/trace.py) Python 3.11.
+TEXT
+    [ ! -f "$out/b67.html" ] || cat <<'TEXT'
+
+b67.html is the machine in a page: open it in a browser of 2024 or later. It needs nothing of the above, so it runs on Windows, on
+a Mac, on an older Linux and on a phone; its button Lessons has the course. b67.mjs, beside it, is the same machine as a command,
+wherever there is node 18 or later: node b67.mjs run --core 4096 < decks/sum/stdin
+TEXT
+    printf '\nEach file has its sum in SHA256SUMS: sha256sum -c SHA256SUMS\n'
+} >"$out/START.txt"
+(cd "$out" && find . -type f ! -name SHA256SUMS | LC_ALL=C sort | sed 's:^\./::' | xargs -d '\n' sha256sum >SHA256SUMS)
+# each link of a document leads to a file of the archive
+broken=$(cd "$out" && find . -name '*.md' | while read -r document; do
+    grep -oE '\]\([^)#: ]+' "$document" | sed 's/^](//' | while read -r link; do
+        [ -e "$(dirname "$document")/$link" ] || printf '%s: %s\n' "$document" "$link"
+    done
+done)
+if [ -n "$broken" ]; then
+    printf 'links that lead to no file of the archive:\n%s\n' "$broken" >&2
+    exit 1
+fi
+find "$out" -type d -exec chmod 755 {} +
+find "$out" -type f -exec chmod 644 {} +
+chmod 755 "$out/bin/b67"
+find "$out" -name '*.sh' -exec chmod 755 {} +
+tar -C "$room" --sort=name --format=ustar --owner=0 --group=0 --numeric-owner --mtime="$date 00:00:00Z" -cf - "$name" |
+    gzip -9n >"$archive.part"
+mv "$archive.part" "$archive"
+printf '%s: %d files, %d bytes\n' "$(basename "$archive")" "$(find "$out" -type f | wc -l)" "$(stat -c %s "$archive")"
