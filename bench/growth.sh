@@ -117,6 +117,7 @@ stores() {
 }
 
 # so many arrays of 300 words, then a loop over stores into those of a pattern, so many times; in core is room for twenty
+# shellcheck disable=SC2046 # a word for each cell
 arrays() {
     begin 1024
     case $1 in dead) made=31 ;; hot) made=41 ;; *) made=40 ;; esac

@@ -21,7 +21,6 @@ from __future__ import annotations
 
 import argparse
 import random
-import subprocess
 import sys
 import tempfile
 import time
@@ -34,7 +33,6 @@ from b67ref import FILE_SECTORS, SECTOR_BYTES, Outcome, programs_of, run_session
 from cards import RefusedError, read_deck
 from compare_images import (
     LEAST_CORE,
-    TIME_LIMIT,
     Halted,
     Program,
     range_of_seeds,

@@ -8,7 +8,7 @@ from __future__ import annotations
 import sys
 
 from cards import RefusedError
-from images import AWAITS, READY, Image, image_refusal, read_image
+from images import AWAITS, READY, image_refusal, read_image
 from machine import Awaits, Frame, Machine, Task, WaitsAt
 from shape import DICTIONARY_STACKS, SLOTS, NotShapedError, Shown, ShownTask, bits, session_of, tag
 from words import Element, Name, Operand, Original, Proc, Ref, Row, Word

@@ -14,7 +14,6 @@ from codefile import Codefile, Segment
 from images import AWAITS, READY, ImageJob
 from loader import LoadError, SegmentRules, listing_of, proc_of_literal, verify
 from machine import (
-    SECTOR_WORDS,
     Array,
     Awaits,
     Frame,

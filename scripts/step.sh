@@ -76,9 +76,9 @@ maker() {
 }
 # the operator that task $1 was about to make: its place, its name, and its card
 operator() {
-    set -- "$1" $(grep "^TASK $1 " "$room/before")
-    [ $# -ge 6 ] || return 0
-    eval "segment=\${$(($# - 1))} place=\${$#}"
+    line=$(grep "^TASK $1 " "$room/before") || return 0
+    place=${line##* } line=${line% *}
+    segment=${line##* }
     list=$room/listing.${1%%.*}
     [ -f "$list" ] || sh "$here/listing.sh" "$deck" "${1%%.*}" >"$list"
     awk -v segment="$segment" -v place="$place" '

@@ -123,7 +123,8 @@ case $fault in
     echo "The live tasks of job ${task%%.*} before it, each with its next operator:"
     grep "^TASK ${task%%.*}\." "$room/dump" | while read -r line; do
         echo "$line" | sh "$here/plain.sh" | sed 's/^/    /'
-        operator $(echo "$line" | awk '{ print $(NF - 1), $NF }') ''
+        before=${line% *}
+        operator "${before##* }" "${line##* }" ''
         # at a DEADLOCK the one that is still ready comes to wait by this operator: its record says for what
         case $fault$line in *DEADLOCK*READY*) record "$(echo "$line" | cut -d' ' -f2)" running | sed 's/^/    /' ;; esac
     done
@@ -131,6 +132,7 @@ case $fault in
     exit 0
     ;;
 esac
+# shellcheck disable=SC2046 # the words of the line
 set -- $(grep "^TASK $task " "$room/dump")
 [ $# -ge 5 ] || { echo "where.sh: the dump at $low has no task $task" >&2; exit 1; }
 operator "$4" "$5" 1

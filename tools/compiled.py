@@ -19,6 +19,7 @@ import sys
 import tempfile
 
 sys.dont_write_bytecode = True
+import scopes
 import trust
 
 STATEMENTS = [
@@ -74,7 +75,7 @@ class Copy:
             for line in text:
                 line = trust.code_in(block, line)
                 used.update(["[]"] if "[]" in line else [])
-                for token in (trust.RUST if is_rust(self.path) else trust.WORD).findall(line):
+                for token in (scopes.RUST if is_rust(self.path) else scopes.WORD).findall(line):
                     used.update((token, token.partition(".")[0], trust.STANDS_FOR.get(token, token)))
         return used
 

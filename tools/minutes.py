@@ -10,7 +10,6 @@ it, for half an hour on four processors. What the gate prints goes to the standa
 """
 import collections
 import os
-import re
 import resource
 import subprocess
 import sys
