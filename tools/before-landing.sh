@@ -1,18 +1,20 @@
 #!/usr/bin/env bash
 # Runs what must pass before a change lands: the gate, and what the gate leaves out. It works on what is committed, goes on
-# after a failure, says of each part how long it took and what its last line was, and ends with status 1 if a part failed.
+# after a failure, says of each part how long it took and what its last line was, and ends with status 1 if a part failed. The
+# Makefile calls it: `make land` all parts, `make test` and `make lint` some.
 #
-#     bash tools/before-landing.sh [--skip PART].. [--only PART].. [--since COMMIT] PROGRAM
+#     bash tools/before-landing.sh [--skip PART].. [--only PART].. [--since COMMIT] [PROGRAM]
 #     bash tools/before-landing.sh --list
 #
-# PROGRAM is a built program, as crates/b67/out/b67. COMMIT is what the change stands on, origin/main if it isn't named: the
+# PROGRAM is a built program, as crates/b67/out/b67; parts that read texts alone need none. COMMIT is what the change stands on, origin/main if it isn't named: the
 # edits outside the gate are those of the crates that changed since, and of the crates that name one whose definitions or contracts
 # changed. Of a part that failed the last thirty lines are shown.
 [ -n "${BASH_VERSION:-}" ] || { echo "usage: bash tools/before-landing.sh --list, or PROGRAM" >&2; exit 2; }
 set -u
-parts='gate rows decks tracer house signatures premises links names statement scripts documents release edits'
+parts='gate rows decks tracer modules scripts documents python shell manual house signatures premises links names made page browser release edits mends'
+with_program=' decks modules scripts documents page browser release '
 usage() {
-    printf '%s\nusage: bash tools/before-landing.sh [--skip PART].. [--only PART].. [--since COMMIT] PROGRAM\nparts: %s\n' "$1" "$parts" >&2
+    printf '%s\nusage: bash tools/before-landing.sh [--skip PART].. [--only PART].. [--since COMMIT] [PROGRAM]\nparts: %s\n' "$1" "$parts" >&2
     exit 2
 }
 means() {
@@ -21,16 +23,23 @@ means() {
     rows) echo 'the rows of b67_rows by the reference' ;;
     decks) echo 'the decks over the built program' ;;
     tracer) echo "the tracer's lines over the decks" ;;
+    modules) echo "the page's modules, by node's test runner" ;;
     house) echo 'tools/house.py: no count above its bound' ;;
     signatures) echo 'the public calls against their list' ;;
     premises) echo 'what meets the premises of each theorem' ;;
     links) echo 'each link and path of the documents' ;;
     names) echo 'what pages say of functions, calls and crates is in the code' ;;
-    statement) echo 'docs/statement.html made again: the same bytes, and no name that leads nowhere' ;;
+    made) echo 'the statement, the blocks of TRUST and PAPER, the table of crates, the page: none is older than its sources' ;;
+    python) echo 'pyflakes3 finds nothing' ;;
+    shell) echo 'shellcheck has no warning' ;;
+    manual) echo 'mandoc -Tlint has no warning of the manual pages' ;;
+    page) echo 'tools/check-web.sh: the page in node, beside the program; the page made again' ;;
+    browser) echo 'tools/check-page.sh: the page in Chromium' ;;
     scripts) echo 'tools/check-scripts.sh: each script, called carelessly' ;;
     documents) echo 'the commands of the documents' ;;
     release) echo 'tools/release.sh twice: the same bytes' ;;
     edits) echo 'the edits outside the gate, of the crates that changed and of those above' ;;
+    mends) echo 'the mends of comments that wait for the next gate: each still applies' ;;
     esac
 }
 named() {
@@ -62,9 +71,16 @@ while [ $# -gt 0 ]; do
         ;;
     esac
 done
-[ -n "$program" ] || usage 'a program is missing'
-[ -f "$program" ] && [ -x "$program" ] || usage "$program: not a program that can be run"
-program=$(cd "$(dirname "$program")" && pwd)/$(basename "$program")
+chosen() {
+    case $skip in *" $1 "*) return 1 ;; esac
+    [ "$only" = ' ' ] || case $only in *" $1 "*) ;; *) return 1 ;; esac
+}
+if [ -n "$program" ]; then
+    [ -f "$program" ] && [ -x "$program" ] || usage "$program: not a program that can be run"
+    program=$(cd "$(dirname "$program")" && pwd)/$(basename "$program")
+else
+    for part in $with_program; do ! chosen "$part" || usage "a program is missing, which $part needs"; done
+fi
 cd "$(dirname "$0")/.." || exit 2
 if [ -z "$since" ]; then
     for since in origin/main main ''; do git rev-parse -q --verify "$since^{commit}" >/dev/null 2>&1 && break; done
@@ -85,8 +101,32 @@ house() { python3 tools/house.py; }
 signatures() { python3 tools/signatures.py; }
 premises() { python3 tools/premises.py; }
 links() { python3 tools/links.py; }
-names() { python3 tools/names.py && python3 tools/heads.py --check; }
-statement() { python3 tools/statement.py --check; }
+names() { python3 tools/names.py; }
+modules() { B67=$program node --test --test-reporter=tap web/tests/*.test.js >"$room/tests" || { cat "$room/tests" && return 1; } && sed -n 's/^# pass /modules: tests passed: /p' "$room/tests"; }
+python() { found pyflakes3 && pyflakes3 tools/*.py bench/*.py reference/*.py web/build/*.py && echo 'nothing found'; }
+# (decks/run.sh lies in a crate: what is mended there waits for a gate)
+shell() { found shellcheck && shellcheck -S warning scripts/*.sh scripts/b67.bash tools/*.sh bench/*.sh web/build/*.sh && echo 'nothing found'; }
+manual() { found mandoc && mandoc -Tlint -W warning docs/*.[15] && echo 'nothing found'; }
+found() {
+    command -v "$1" >/dev/null && return
+    echo "$1 isn't on the path (Debian: apt-get install ${1%3})"
+    return 1
+}
+# each is asked, so that all that is old is named
+made() {
+    local old=0
+    python3 tools/statement.py --check || old=1
+    python3 tools/heads.py --check || old=1
+    python3 tools/refill.py --check || old=1
+    python3 web/build/join.py web/b67.html --check || old=1
+    if [ $old = 0 ]; then echo 'none is old'; else
+        echo 'some are old: make fill'
+        return 1
+    fi
+}
+page() { (cd crates/b67_web && rt lib) && sh tools/check-web.sh "$program"; }
+browser() { sh tools/check-page.sh "$program"; }
+mends() { python3 tools/mend.py; }
 scripts() { bash tools/check-scripts.sh "$program"; }
 documents() { bash tools/check-docs.sh "$program"; }
 release() {
@@ -120,12 +160,10 @@ edits() {
 
 failed=0
 for part in $parts; do
-    case $skip in *" $part "*)
-        printf '%-10s skipped\n' "$part"
+    if ! chosen "$part"; then
+        [ "$only" != ' ' ] || printf '%-10s skipped\n' "$part"
         continue
-        ;;
-    esac
-    [ "$only" = ' ' ] || case $only in *" $part "*) ;; *) continue ;; esac
+    fi
     began=$SECONDS
     if "$part" >"$room/log" 2>&1; then said=passed; else
         said=FAILED

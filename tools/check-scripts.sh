@@ -328,12 +328,14 @@ refused sh $tools/paper.sh out.pdf
 tmp=$room/none/such refused bash $tools/paper.sh out.pdf
 if [ -n "${mounted:-}" ]; then tmp=$room/full refused bash $tools/paper.sh out.pdf; else skipped=$((skipped + 1)); fi
 done_with paper.sh
-for name in refill house links sizes trust names heads premises signatures statement compiled edits minutes modules shorter unproved; do
+for name in refill house links sizes trust names heads premises signatures statement compiled mend edits minutes modules shorter unproved; do
     for words in --nonsense -h nothere folder -x --text '--own nothing' 'nothing more' '--nonsense run_twice'; do refused python3 $tools/$name.py $words; done
     done_with $name.py
 done
 for words in --nonsense -h nothere folder -x --jobs '--since nothere' 'nothing more'; do refused bash $tools/more-edits.sh $words; done
 done_with more-edits.sh
+for words in '' nothere 'nothere /tmp/none' 'binary ../files/out' 'folder /tmp/none' '../bin/b67 out' '../bin/b67 /dev/null/out' '--remove /dev/null/out' '--remove folder' --help; do refused sh $tools/install.sh $words; done
+done_with install.sh
 # those of the page: what they refuse before they begin, since each takes minutes
 for name in web check-web check-page; do
     for words in --nonsense -x - --help 'a b c' nothere/page ./nothere/page; do refused sh $tools/$name.sh $words; done
@@ -358,6 +360,13 @@ for words in 'where.sh fault' 'diagnose.sh deck' 'least-core.sh deck' 'listing.s
 done
 rmdir "$room/files/b67"
 note=
+# what is installed works from there, and nothing is left of it
+works sh $tools/install.sh ../bin/b67 "$room/files/installed"
+for words in 'where fault' 'diagnose deck' 'explain HALTED' 'least-core named' 'step fault 1' 'keep check kept'; do works sh "../files/installed/bin/b67-${words%% *}" ${words#* }; done
+works sh $tools/install.sh --remove "$room/files/installed"
+called='install.sh --remove'
+[ -z "$(find "$room/files/installed" ! -path "$room/files/installed" 2>/dev/null)" ] || wrong "it leaves $(find "$room/files/installed" | tail -1)"
+rm -rf "$room/files/installed"
 # the folder that was kept is resumed by it and the program alone
 called='b67 resume over what was kept'
 (cd "$room/files/kept" && sha256sum -c --quiet SUMS && cp backing ../copy && env -i PATH="$room/bin" b67 resume --backing ../copy <image) >"$room/out" 2>&1

@@ -12,8 +12,7 @@ usage() {
     exit 2
 }
 command -v python3 >/dev/null || usage "python3 isn't on the path"
-# shellcheck disable=SC2046 # one word for each deck
-[ $# -gt 0 ] || set -- $(cd "$top/decks" && ls */stdin | sed 's:/.*::')
+[ $# -gt 0 ] || for name in "$top"/decks/*/stdin; do name=${name%/stdin} && set -- "$@" "${name##*/}"; done
 for name in "$@"; do
     [ -f "$top/decks/$name/stdin" ] || usage "$name: not a folder of decks/"
 done

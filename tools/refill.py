@@ -1,8 +1,9 @@
 #!/usr/bin/env python3
-"""usage: refill.py
+"""usage: refill.py [--check]
 
 Makes again the blocks of docs/TRUST.md and docs/PAPER.md that tools/trust.py and tools/sizes.py print: what stands after such
-a command becomes what it prints now. Numbers in sentences are left; tools/check-docs.sh says which of them are old.
+a command becomes what it prints now. Numbers in sentences are left; tools/check-docs.sh says which of them are old. With --check
+nothing is written, and the status is 1 if a block is old.
 """
 import os
 import re
@@ -20,18 +21,23 @@ def printed(found):
 
 
 def main(arguments):
-    if arguments:
+    if arguments not in ([], ["--check"]):
         print(__doc__.split("\n")[0], file=sys.stderr)
         return 2
+    old_pages = 0
     for page in ["docs/TRUST.md", "docs/PAPER.md"]:
         path = os.path.join(TOP, page)
         with open(path, encoding="utf-8") as text:
             old = text.read()
         new = BLOCK.sub(printed, old)
+        if arguments:
+            old_pages += new != old
+            print(f"{page}: {'old: python3 tools/refill.py makes its blocks again' if new != old else 'as the scripts print it'}")
+            continue
         with open(path, "w", encoding="utf-8") as text:
             text.write(new)
         print(f"{page}: {'changed' if new != old else 'as it was'}")
-    return 0
+    return 1 if old_pages else 0
 
 
 if __name__ == "__main__":

@@ -1,4 +1,7 @@
-"""Puts the page's parts into one file: `python3 web/build/join.py MODULE.wasm OUT.html`, called by tools/web.sh.
+"""Puts the page's parts into one file: `python3 web/build/join.py MODULE OUT.html`, called by tools/web.sh. MODULE is a WebAssembly
+module, or a page, of which the module is taken: `python3 web/build/join.py web/b67.html web/b67.html` joins the page anew after
+an edit of web/src or of a document, without the kit. With --check in the place of OUT.html nothing is written, and the status is 1
+if MODULE, a page, isn't what its module and the sources give.
 
 Nine lines of page.html are placeholders. Each is replaced by a text, and nothing else is changed:
 - @STYLE@: page.css;
@@ -95,6 +98,14 @@ def script():
     return made.stdout
 
 
+def module(path):
+    """The module in base64: of a file of WebAssembly, or of a page."""
+    if path.suffix != ".html":
+        return base64.b64encode(path.read_bytes()).decode()
+    found = re.search(r"^AGFzb[A-Za-z0-9+/]+=*$", path.read_text(encoding="utf-8"), re.M) or stop(f"{path}: no module in it")
+    return found[0]
+
+
 def put(page, mark, text):
     """The page with the text in place of the line that is the mark."""
     if page.count(f"\n{mark}\n") != 1:
@@ -107,14 +118,21 @@ def put(page, mark, text):
 
 def main():
     if len(sys.argv) != 3:
-        sys.exit(print("usage: python3 web/build/join.py MODULE.wasm OUT.html", file=sys.stderr) or 2)
-    module = base64.b64encode(pathlib.Path(sys.argv[1]).read_bytes()).decode()
+        sys.exit(print("usage: python3 web/build/join.py MODULE OUT.html, or PAGE.html --check", file=sys.stderr) or 2)
+    given, out = pathlib.Path(sys.argv[1]), sys.argv[2]
+    if not given.is_file():
+        stop(f"{given}: no such file", 2)
     page = (SOURCES / "page/page.html").read_text(encoding="utf-8")
     texts = {"@STYLE@": styles(), "@DECKS@": decks(), "@MESSAGES@": messages(), "@OPERATORS@": operators(),
-             "@GLOSSARY@": glossary(), "@PROVED@": proved(), "@VERSION@": version(), "@SCRIPT@": script(), "@MODULE@": module}
+             "@GLOSSARY@": glossary(), "@PROVED@": proved(), "@VERSION@": version(), "@SCRIPT@": script(), "@MODULE@": module(given)}
     for mark, text in texts.items():
         page = put(page, mark, text)
-    pathlib.Path(sys.argv[2]).write_text(page, encoding="utf-8", newline="\n")
+    if out != "--check":
+        pathlib.Path(out).write_text(page, encoding="utf-8", newline="\n")
+    elif page != given.read_text(encoding="utf-8"):
+        stop(f"{given} is old: python3 web/build/join.py {given} {given} joins it anew")
+    else:
+        print(f"{given}: as its module and the sources give it")
 
 
 if __name__ == "__main__":
