@@ -8,6 +8,7 @@
 # Each card keeps its number; if it would be longer than 80 characters, its comment loses the end. A deck without names comes out
 # as it is. Status 2: a name without a CELL line before it, or a malformed CELL line; nothing is printed then.
 set -u
+case ${1-} in -h | --help) sed -n '1d; /^[^#]/q; s/^# \{0,1\}//p' "$0"; exit ;; esac
 usage() {
     echo "$1" >&2
     echo "usage: sh scripts/cells.sh DECK" >&2
@@ -15,7 +16,7 @@ usage() {
 }
 [ $# = 1 ] || usage "one deck is wanted"
 [ -f "$1" ] && [ -r "$1" ] || usage "$1: not a file that can be read"
-LC_ALL=C awk '
+printed=$(LC_ALL=C awk '
 BEGIN { is_assembly = 1 }
 function wrong(why) { printf "cells.sh: card %d: %s\n", NR, why > "/dev/stderr"; is_wrong = 1 }
 # a number from 0 to `most`, written as the assembler wants it
@@ -68,8 +69,11 @@ END {
     if (is_wrong) exit 2
     if (!is_changed) exit 3
     for (card = 1; card <= NR; card++) print deck[card]
-}' <"$1"
+    print "."
+}' <"$1")
 status=$?
 # without a name nothing is changed, not even the end of the last line
-[ $status = 3 ] || exit $status
-exec cat <"$1"
+[ $status != 3 ] || exec cat <"$1"
+[ $status = 0 ] || exit $status
+# the shell says when the output is full, and not every awk does; the point keeps the empty lines at the end
+printf '%s' "${printed%.}" || exit 2

@@ -7,6 +7,7 @@
 # B67 names. A tab shows as ^I, and another character that no card may have begins with M- or ^. Status 0: the deck is good;
 # 1: it is refused.
 set -u
+case ${1-} in -h | --help) sed -n '1d; /^[^#]/q; s/^# \{0,1\}//p' "$0"; exit ;; esac
 usage() {
     echo "$1" >&2
     echo "usage: sh scripts/diagnose.sh DECK" >&2

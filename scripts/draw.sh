@@ -9,6 +9,7 @@
 # References and copies then also say to what in words, since their arrows may end at such a box.
 # Nothing here is proved, and it is no part of the gate.
 set -u
+case ${1-} in -h | --help) sed -n '1d; /^[^#]/q; s/^# \{0,1\}//p' "$0"; exit ;; esac
 usage() {
     echo "$1" >&2
     echo "usage: sh scripts/draw.sh [DUMP] > stacks.svg" >&2
@@ -22,7 +23,7 @@ if [ $# = 1 ]; then
 elif [ -t 0 ]; then
     usage "a dump is missing"
 fi
-LC_ALL=C awk '
+printed=$(LC_ALL=C awk '
 function fail(why) { print "draw.sh: " why > "/dev/stderr"; failed = 1; exit 2 }
 function stray() { fail("line " NR " is no line of a dump: " substr($0, 1, 60)) }
 function number(text) { return text ~ /^[0-9]+$/ }
@@ -347,4 +348,8 @@ END {
     for (n = 1; n <= curves; n++) print behind_boxes[n]
     for (n = 1; n <= outs; n++) print out[n]
     print "</svg>"
-}'
+}')
+status=$?
+# the shell says when the output is full, and not every awk does
+[ -z "$printed" ] || printf '%s\n' "$printed" || exit 2
+exit $status

@@ -8,6 +8,7 @@
 #
 # Status 1: a line is none of b67's.
 set -u
+case ${1-} in -h | --help) sed -n '1d; /^[^#]/q; s/^# \{0,1\}//p' "$0"; exit ;; esac
 usage() {
     echo "usage: sh scripts/explain.sh LINE, or lines on standard input" >&2
     exit 2
@@ -16,7 +17,7 @@ here=$(cd "$(dirname "$0")" && pwd)
 [ $# -gt 0 ] || [ ! -t 0 ] || usage
 # no line begins with a dash
 case ${1-} in -*) usage ;; esac
-if [ $# -gt 0 ]; then printf '%s\n' "$*"; else cat; fi |
+printed=$(if [ $# -gt 0 ]; then printf '%s\n' "$*"; else cat; fi |
     awk -v pages="$here/../docs/MESSAGES.md" '
 function trim(s) {
     gsub(/^ +| +$/, "", s)
@@ -107,4 +108,8 @@ BEGIN {
 /^[A-Z]/ && ("Endings and faults:" $0) in columns { look("Endings and faults:" $0, 2); next }
 { unknown() }
 END { exit strange }
-'
+')
+status=$?
+# the shell says when the output is full, and not every awk does
+[ -z "$printed" ] || printf '%s\n' "$printed" || exit 2
+exit $status

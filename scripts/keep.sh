@@ -13,6 +13,7 @@
 # `b67` on the path, or what the variable B67 names. The status of `keep` is 0, of `resume` that of b67; 1: what is kept was
 # changed, or the run didn't halt. Nothing here is proved.
 set -u
+case ${1-} in -h | --help) sed -n '1d; /^[^#]/q; s/^# \{0,1\}//p' "$0"; exit ;; esac
 usage() {
     echo "$1" >&2
     echo "usage: sh scripts/keep.sh DECK CORE FOLDER, or check FOLDER, or resume FOLDER" >&2

@@ -7,6 +7,7 @@
 # B67 names. Each try runs the deck from the start. Only a run that ends (status 0), or that halts where its deck says so
 # (status 3), is an answer; any other end is an error.
 set -u
+case ${1-} in -h | --help) sed -n '1d; /^[^#]/q; s/^# \{0,1\}//p' "$0"; exit ;; esac
 usage() {
     echo "$1" >&2
     echo "usage: sh scripts/least-core.sh DECK" >&2
@@ -20,12 +21,17 @@ here=$(cd "$(dirname "$0")" && pwd)
 command -v "$program" >/dev/null && [ ! -d "$(command -v "$program")" ] || usage "$program: not a program that can be run: put b67 on the path, or name it as in B67=PROGRAM sh scripts/least-core.sh"
 room=$(mktemp -d) || exit 2
 trap 'rm -rf "$room"' EXIT
-trap 'exit 130' HUP INT TERM
+# what runs is a child that is waited for, so a signal ends both at once
+child=
+trap 'kill "$child" 2>/dev/null && wait "$child"; exit 130' HUP INT TERM
 sh "$here/cells.sh" "$deck" >"$room/deck" || exit 1
 core=256
 while :; do
-    "$program" run --core "$core" --backing "$room/b" <"$room/deck" >"$room/lines"
+    "$program" run --core "$core" --backing "$room/b" <"$room/deck" >"$room/lines" &
+    child=$!
+    wait $child
     status=$?
+    child=
     last=$(tail -n 1 "$room/lines")
     case $status in
     0 | 3)

@@ -9,6 +9,7 @@
 # or the hexadecimal that `b67 asm` prints. It may have names for cells (cells.sh). The program, which assembles, is `b67` on
 # the path, or what the variable B67 names.
 set -u
+case ${1-} in -h | --help) sed -n '1d; /^[^#]/q; s/^# \{0,1\}//p' "$0"; exit ;; esac
 usage() {
     echo "$1" >&2
     echo "usage: sh scripts/listing.sh DECK [JOB]" >&2
@@ -68,7 +69,7 @@ else
     cp "$room/body" "$room/hex"
 fi
 
-awk -v cards="$room/cards" -v names_of="$room/names" -v prefix="$prefix" '
+printed=$(awk -v cards="$room/cards" -v names_of="$room/names" -v prefix="$prefix" '
 function digit(c) { return index("0123456789abcdef", c) - 1 }
 function counted(words) { return words (words == 1 ? " word" : " words") }
 function number(text,    i, n) {
@@ -193,4 +194,8 @@ END {
         print prefix "data row " row ", " row_names[row] "displacement " segments + 1 + row ", " counted(words) row_cards[row]
         for (k = 0; k < words; k++) print "  " sprintf("%6d", k) "  " literal(substr(take(8), 5))
     }
-}' "$room/hex"
+}' "$room/hex")
+status=$?
+# the shell says when the output is full, and not every awk does
+[ -z "$printed" ] || printf '%s\n' "$printed" || exit 2
+exit $status

@@ -10,6 +10,7 @@
 # run in which it does. The program is `b67` on the path, or what the variable B67 names. Status 0: all are right; 1: one isn't.
 # Nothing here is proved.
 set -u
+case ${1-} in -h | --help) sed -n '1d; /^[^#]/q; s/^# \{0,1\}//p' "$0"; exit ;; esac
 usage() {
     echo "$1" >&2
     echo "usage: sh scripts/mark.sh DECK.. EXPECTED" >&2
@@ -27,7 +28,9 @@ LC_ALL=C grep -q '^[0-9][0-9]*\.[0-9][0-9]* ' <"$wanted" || usage "$wanted: no l
 LC_ALL=C grep -q '^?JOB' <"$wanted" && usage "$wanted: this is a deck: EXPECTED stands last"
 room=$(mktemp -d) || exit 2
 trap 'rm -rf "$room"' EXIT
-trap 'exit 130' HUP INT TERM
+# what runs is a child that is waited for, so a signal ends both at once
+child=
+trap 'kill "$child" 2>/dev/null && wait "$child"; exit 130' HUP INT TERM
 tr -d '\r' <"$wanted" >"$room/wanted" || exit 2
 
 # the first line of `lines` that isn't as it should be, in words; nothing if all are
@@ -61,10 +64,16 @@ while [ $# -gt 1 ]; do
         for core in least 1048575; do
             all=$((all + 1))
             if [ $core = least ]; then
-                core=$(B67=$program sh "$here/least-core.sh" "$room/deck" 2>"$room/said") || core=
+                B67=$program sh "$here/least-core.sh" "$room/deck" >"$room/core" 2>"$room/said" &
+                child=$!
+                wait $child && core=$(cat "$room/core") || core=
+                child=
             fi
             if [ -n "$core" ]; then
-                "$program" run --core "$core" --backing "$room/b" <"$room/deck" >"$room/lines"
+                "$program" run --core "$core" --backing "$room/b" <"$room/deck" >"$room/lines" &
+                child=$!
+                wait $child
+                child=
                 said=$(first)
                 said=${said:+in turns of $quantum, in $core words: $said}
             else

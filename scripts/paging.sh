@@ -7,6 +7,7 @@
 # sector, pwrite64 writes one. So strace must be there, and be allowed to watch a program. DECK may have names for cells
 # (cells.sh). The program is `b67` on the path, or what the variable B67 names.
 set -u
+case ${1-} in -h | --help) sed -n '1d; /^[^#]/q; s/^# \{0,1\}//p' "$0"; exit ;; esac
 usage() {
     echo "$1" >&2
     echo "usage: sh scripts/paging.sh DECK CORE.." >&2

@@ -10,6 +10,7 @@
 # as the tracer writes it, segment@word:syllable. Lines that are none of a dump are passed on, if there is a line of one at all.
 # Status 1: there is none, or one is cut. Nothing here is proved.
 set -u
+case ${1-} in -h | --help) sed -n '1d; /^[^#]/q; s/^# \{0,1\}//p' "$0"; exit ;; esac
 usage() {
     echo "$1" >&2
     echo "usage: sh scripts/plain.sh [DUMP]" >&2
@@ -23,7 +24,7 @@ if [ $# = 1 ]; then
 elif [ -t 0 ]; then
     usage "a dump is missing"
 fi
-LC_ALL=C exec awk '
+printed=$(LC_ALL=C awk '
 function hex(text,   i, n) {
     n = 0
     for (i = 1; i <= length(text); i++) n = n * 16 + index("0123456789abcdef", substr(text, i, 1)) - 1
@@ -100,4 +101,8 @@ has_dump { print; next }
 END {
     if (failed) exit failed
     if (held) { print "plain.sh: no line of a dump is there" > "/dev/stderr"; exit 1 }
-}'
+}')
+status=$?
+# the shell says when the output is full, and not every awk does
+[ -z "$printed" ] || printf '%s\n' "$printed" || exit 2
+exit $status

@@ -9,6 +9,7 @@
 # with `image`, in a core that has room for it; `dump` reads the machine, and plain.sh its lines. Nothing here is proved, and
 # it is no part of the gate.
 set -u
+case ${1-} in -h | --help) sed -n '1d; /^[^#]/q; s/^# \{0,1\}//p' "$0"; exit ;; esac
 usage() {
     echo "$1" >&2
     echo "usage: sh scripts/step.sh DECK FROM [TO]" >&2
@@ -111,14 +112,14 @@ while [ "$from" -le "$to" ]; do
     fi
     if [ -s "$room/before" ]; then
         task=$(maker)
-        echo "after $from${task:+, by $task$(operator "$task")}"
+        echo "after $from${task:+, by $task$(operator "$task")}" || exit 1
     else
-        echo "after $from"
+        echo "after $from" || exit 1
     fi
-    tail -n "+$(($(wc -l <"$room/shown") + 1))" "$room/lines"
+    tail -n "+$(($(wc -l <"$room/shown") + 1))" "$room/lines" || exit 1
     if [ $status = 0 ]; then
         echo "no task lives"
-        exit 0
+        exit
     fi
     sh "$here/plain.sh" "$room/dump" || exit 1
     cp "$room/lines" "$room/shown"

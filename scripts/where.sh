@@ -11,6 +11,7 @@
 # what the ending means. Status 1: no task ends by a fault, DEADLOCK or LIMIT. Nothing here is proved, and it is no part of
 # the gate.
 set -u
+case ${1-} in -h | --help) sed -n '1d; /^[^#]/q; s/^# \{0,1\}//p' "$0"; exit ;; esac
 usage() {
     echo "$1" >&2
     echo "usage: sh scripts/where.sh DECK" >&2

@@ -86,7 +86,7 @@ state() { (cd "$room" && ls -A tmp files full / && cd files && cat -- * 2>/dev/n
 refused() {
     called="$* ${note:+($note)}"
     before=$(state)
-    (cd "$room/files" && PATH=${bin-$path} TMPDIR=${tmp-$room/tmp} exec timeout -k 20 ${after:+-s ${signal:-INT}} ${after:-60} "$@" <"${in:-/dev/null}" >"${out:-$room/out}" 2>"$room/err")
+    (cd "$room/files" && PATH=${bin-$path} TMPDIR=${tmp-$room/tmp} exec timeout ${alone:+--foreground} -k 20 ${after:+-s ${signal:-INT}} ${after:-60} "$@" <"${in:-/dev/null}" >"${out:-$room/out}" 2>"$room/err")
     status=$?
     calls=$((calls + 1))
     total=$((total + 1))
@@ -157,7 +157,7 @@ programs() {
     rmdir "$room/files/b67"
     note=''
 }
-# signals SHELL SCRIPT WORD.. : ended from outside, as by Ctrl-C and by kill
+# signals SHELL SCRIPT WORD.. : ended from outside, as by Ctrl-C and by kill; with $alone the signal comes to the shell and not to its children
 signals() {
     for signal in INT TERM HUP; do
         note="signal $signal"
@@ -199,6 +199,7 @@ for name in where diagnose least-core listing; do
     fi
     refused sh $here/$name.sh $kind ../bin/b67
     case $name in where | least-core) signals sh $here/$name.sh long ;; esac
+    [ $name != least-core ] || alone=1 signals sh $here/$name.sh long
     done_with $name.sh
 done
 refused sh $here/step.sh
@@ -230,6 +231,7 @@ refused sh $here/mark.sh named lines
 out=
 programs named sh $here/mark.sh @ lines
 signals sh $here/mark.sh long lines
+alone=1 signals sh $here/mark.sh long lines
 done_with mark.sh
 refused sh $here/keep.sh
 refused sh $here/keep.sh halting 4096
@@ -350,6 +352,14 @@ out=/dev/full refused python3 ../clone/reference/trace.py deck
 out=
 done_with trace.py
 
+# each script of the users says what it is
+for file in "$top"/scripts/*.sh; do
+    works sh $here/$(basename "$file") --help
+    grep -q "scripts/$(basename "$file")" "$room/out" || wrong 'its help has no call of it'
+    out=/dev/full refused sh $here/$(basename "$file") -h
+    out=
+done
+calls=0
 # what must work: beside a folder of the program's name, with another program named, with a deck that has names
 mkdir "$room/files/b67"
 for words in 'where.sh fault' 'diagnose.sh deck' 'least-core.sh deck' 'listing.sh deck' 'step.sh fault 1 2' 'mark.sh named lines' 'least-core.sh named' 'listing.sh named' 'step.sh named 1' 'keep.sh check kept'; do
