@@ -19,6 +19,7 @@ import sys
 import tempfile
 
 sys.dont_write_bytecode = True
+import rattle_source
 import scopes
 import trust
 
@@ -152,14 +153,9 @@ class Statement:
     def crates(self):
         """The crates that are written, with what each stands on, as crates.txt has it."""
         present = {os.path.relpath(path, trust.TOP).split(os.sep)[0] for path in self.copies}
-        rows = []
-        for line in read(os.path.join(trust.TOP, "..", "crates.txt")).split("\n"):
-            name, colon, below = line.partition(":")
-            if colon and name in present:
-                rows.append((name, [one for one in below.split() if one in present or not one.startswith("b67")]))
-        own = self.function.partition("::")[0]
-        below = next(line.partition(":")[2].split() for line in read(os.path.join(trust.TOP, "..", "crates.txt")).split("\n") if line.startswith(own + ":"))
-        rows.append(("statement", sorted({one for one in below if one in present or not one.startswith("b67")} | ({own} & present))))
+        known, own = rattle_source.crates(with_kit=True), self.function.partition("::")[0]
+        rows = [(name, [one for one in below if one in present or not one.startswith("b67")]) for name, below in known.items() if name in present]
+        rows.append(("statement", sorted({one for one in known[own] if one in present or not one.startswith("b67")} | ({own} & present))))
         return rows
 
     def write(self, folder):

@@ -27,9 +27,9 @@ import sys
 import tempfile
 import time
 
-TOP = os.path.realpath(os.path.join(os.path.dirname(os.path.abspath(__file__)), ".."))
-FUNCTION = re.compile(r"^( *)(?:pub(?:\([^)]*\))? )?(?:const )?fn (\w+)", re.M)
-HOLDER = re.compile(r"^impl(?:<[^{]*?>)? (?:(\w+)(?:<[^{]*?>)? for )?(\w+)", re.M)
+import rattle_source
+
+TOP = os.path.realpath(rattle_source.TOP)
 ONLY_CALLS = re.compile(r"[\w ]+: it calls `")
 VERDICT = re.compile(r"^fn b67_\w+?::(\S+): (.*)$", re.M)
 ERROR = re.compile(r"^(?:note: )?(?:\./)?(\S+?):(\d+):\d+:(.*)$")
@@ -71,23 +71,9 @@ class Edit:
             if count != 1:
                 self.why = self.why or f"a text stands {count} times in {file}"
                 return None
-            self.functions |= functions_over(folder, file) or {function_at(file, texts[file], texts[file].index(old))}
+            self.functions |= functions_over(folder, file) or {rattle_source.function_at(file, texts[file], texts[file].index(old))}
             texts[file] = texts[file].replace(old, new)
         return texts
-
-
-def function_at(file, text, place):
-    """The function in whose text a place stands, as a check prints it; None outside functions, and in a file that isn't code."""
-    found = list(FUNCTION.finditer(text, 0, place))
-    if not file.startswith("src/") or not found:
-        return None
-    last = found[-1]
-    if re.search(rf"^{last.group(1)}\}}$", text[last.end() : place], re.M):
-        return None
-    module = file[len("src/") : -len(".rt")].replace("/", "::")
-    holders = list(HOLDER.finditer(text, 0, last.start())) if last.group(1) else []
-    holder = holders[-1].group(2) + (holders[-1].group(1) or "") if holders else ""
-    return "::".join(it for it in ("" if module in ("lib", "main") else module, holder, last.group(2)) if it)
 
 
 @functools.cache
@@ -104,7 +90,7 @@ def functions_over(folder, file):
         more = {it for it in texts if it not in named and re.search(rf"\b{os.path.basename(folder)}\.{module}\b", texts[it])}
         named |= more
         left += [it for it in more if it.startswith("specs/")]
-    return {function_at(it, texts[it], found.end()) for it in named if it.startswith("src/") for found in FUNCTION.finditer(texts[it])}
+    return {rattle_source.function_at(it, texts[it], found.end()) for it in named if it.startswith("src/") for found in rattle_source.FUNCTION.finditer(texts[it])}
 
 
 def edits_of(words):
@@ -215,7 +201,7 @@ def reason(said, texts, functions):
 
     def is_own(file, line, _text):
         if file in texts:
-            return function_at(file, texts[file], len("\n".join(texts[file].split("\n")[: int(line)]))) in functions
+            return rattle_source.function_at(file, texts[file], len("\n".join(texts[file].split("\n")[: int(line)]))) in functions
         return any(file.startswith(f"proofs/{it.replace('::', '/')}/") for it in functions)
 
     errors = [it for it in errors if is_own(*it)] or errors

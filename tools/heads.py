@@ -11,7 +11,9 @@ import os
 import re
 import sys
 
-TOP = os.path.normpath(os.path.join(os.path.dirname(os.path.abspath(__file__)), ".."))
+import rattle_source
+
+TOP = rattle_source.TOP
 PAGE = os.path.join(TOP, "docs", "ARCHITECTURE.md")
 ROW = re.compile(r"\| `(b67\w*)` \|")
 BEGIN = "Begin with "
@@ -19,17 +21,11 @@ BEGIN = "Begin with "
 
 def head(crate):
     """What a crate says of itself, and where to begin: None if it says nothing."""
-    for name in ["lib.rt", "main.rt"]:
-        path = os.path.join(TOP, "crates", crate, "src", name)
-        if os.path.exists(path):
-            with open(path, encoding="utf-8") as text:
-                lines = [line.rstrip("\n") for line in text]
-            said = [line[3:].strip() for line in lines[: next((at for at, line in enumerate(lines) if not line.startswith("//!")), len(lines))]]
-            parts = [part.strip() for part in re.split(r"\n\s*\n", "\n".join(said)) if part.strip()]
-            parts = [re.sub(r"\[(`[^`]*`)\]", r"\1", " ".join(part.split())) for part in parts if not part.startswith("- ")]
-            begin = [part[len(BEGIN):] for part in parts if part.startswith(BEGIN)]
-            return (" ".join(part for part in parts if not part.startswith(BEGIN)), " ".join(begin)) if parts else None
-    return None
+    said = rattle_source.said(rattle_source.read(rattle_source.root(crate)))
+    parts = [part.strip() for part in re.split(r"\n\s*\n", "\n".join(said)) if part.strip()]
+    parts = [re.sub(r"\[(`[^`]*`)\]", r"\1", " ".join(part.split())) for part in parts if not part.startswith("- ")]
+    begin = [part[len(BEGIN):] for part in parts if part.startswith(BEGIN)]
+    return (" ".join(part for part in parts if not part.startswith(BEGIN)), " ".join(begin)) if parts else None
 
 
 def row(crate, cells):

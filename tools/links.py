@@ -11,7 +11,9 @@ import os
 import re
 import sys
 
-TOP = os.path.normpath(os.path.join(os.path.dirname(os.path.abspath(__file__)), ".."))
+import rattle_source
+
+TOP = rattle_source.TOP
 FOLDERS = r"(?:crates|docs|decks|scripts|tools|bench|reference|web|specs|src|proofs)"
 # Files that others have: what the toolchain brings, what a crate may have, and what a call makes.
 ELSEWHERE = {"b67.html", "b67.wasm", "b67.bc", "main.rt", "lib.rt", "Lib.antt", "rtlib.py"}
@@ -77,10 +79,10 @@ NAMES = set()
 def identifiers():
     """Each name in the code, the definitions and the proofs."""
     if not NAMES:
-        for path in glob.glob(os.path.join(TOP, "crates", "*", "*", "**", "*"), recursive=True):
-            if path.endswith((".rt", ".antt")) and "/out/" not in path:
-                with open(path, encoding="utf-8") as text:
-                    NAMES.update(re.findall(r"\w+", text.read()))
+        for crate in rattle_source.crates():
+            for folder in ("src", "specs", "proofs"):
+                for path in rattle_source.files(crate, folder):
+                    NAMES.update(re.findall(r"\w+", rattle_source.read(path)))
     return NAMES
 
 

@@ -12,13 +12,10 @@ import os
 import re
 import sys
 
-TOP = os.path.normpath(os.path.join(os.path.dirname(os.path.abspath(__file__)), ".."))
+import rattle_source
+
+TOP = rattle_source.TOP
 PAGES = ["README.md", "CONTRIBUTING.md", "docs/*.md", "bench/README.md", "reference/README.md", "tools/README.md", "web/README.md"]
-CODE = re.compile(r"^\s*(?:pub(?:\([^)]*\))? )?(?:unsafe |extern \"C\" |const )*(?:fn|struct|enum|trait|type|const|static|mod|union) (?:mut )?(\w+)")
-MEMBER = re.compile(r"^\s+(?:pub(?:\([^)]*\))? )?(\w+)(?:: |,|\(| \{|$)")
-CLAUSE = re.compile(r"^\s*(?:ensures|requires) (\w+) \{")
-DEFINITION = re.compile(r"^\s*(?:(?:pub|abbrev|unfoldable|macro|record|data|ruleset) )*([^\s(){}\[\],;=:]+)(?: [:({=]|$)")
-BESIDE = re.compile(r"(?:pub )?use ([^;{]+?)(?:\.\{|::\{|;|$)(?:([^}]*)\})?", re.S)
 QUOTED = r"`([^`]+)`"
 NAME = r"[A-Za-z_]\w*(?:::\w+)*(?:-\w+)*"
 IS_FILE = re.compile(r"(?:[\w./]*/)?[\w-]+\.(?:rt|antt)$|(?:src|specs|proofs)/\w+$")
@@ -42,41 +39,12 @@ class Crate:
             self.files[kind] = {os.path.basename(edit)[:-len(".edit")] for edit in edits}
 
     def read(self, path, text):
-        names = self.files.setdefault(path, set())
+        self.files.setdefault(path, set()).update(rattle_source.declared(path, text))
         self.words.update(re.findall(r"[\w-]+", text))
-        for line in text.split("\n"):
-            if line.lstrip().startswith(("//", "--", "use ", "pub use ", "ghost use ")):
-                continue
-            for pattern in [CODE, MEMBER, CLAUSE] if path.endswith(".rt") else [DEFINITION]:
-                names.update(pattern.findall(line))
-            if path.endswith(".rt"):
-                names.update(re.findall(r"(?:let (?:mut )?|for |[(,] ?&?(?:mut )?)(\w+)(?= =|: | in )", line))
-        for passed in re.finditer(r"^\s*pub use ([^;]+?)(?:;|\n(?=\S|\n)|$)", text, re.M):
-            self.passed.update(re.findall(r"\w+(?:-\w+)*", passed.group(1)))
-        if path.endswith(".rt"):
-            self.read_bodies(text.split("\n"))
-
-    def read_bodies(self, lines):
-        """The body of each function, from the brace that opens it to the one that closes it."""
-        at = 0
-        while at < len(lines):
-            head = re.match(r"(\s*)(?:pub(?:\([^)]*\))? |unsafe |extern \"C\" |const )*fn (\w+)", lines[at])
-            if not head:
-                at += 1
-                continue
-            indent, name, contract = head.group(1), head.group(2), False
-            while at < len(lines):
-                line = lines[at]
-                contract = contract or line.lstrip().startswith(("requires", "ensures", "//"))
-                at += 1
-                if line in (indent + "{", indent + "{}") or line.endswith(";") and not contract or line.endswith(("{", "{}")) and not contract:
-                    break
-            first = at
-            if not lines[at - 1].endswith(("{}", ";")):
-                while at < len(lines) and lines[at] != indent + "}":
-                    at += 1
-            body = [line for line in lines[first:at] if not line.lstrip().startswith("//")]
-            self.bodies[name] = self.bodies.get(name, "") + "\n".join(body)
+        self.passed |= rattle_source.passed_on(text)
+        for it in rattle_source.functions(text.split("\n")) if rattle_source.is_code(path) else []:
+            body = [line for line in it.body if not line.lstrip().startswith("//")]
+            self.bodies[it.name] = self.bodies.get(it.name, "") + "\n".join(body)
 
     def declares(self, name):
         return name in self.passed or any(name in names for names in self.files.values())
@@ -97,10 +65,7 @@ class House:
     def __init__(self):
         folders = glob.glob(os.path.join(TOP, "crates", "*", ""))
         self.crates = {os.path.basename(folder.rstrip("/")): Crate(folder) for folder in folders}
-        self.all, self.given, self.below = set(), set(), {}
-        with open(os.path.join(TOP, "crates.txt"), encoding="utf-8") as lines:
-            for name, _, below in (line.partition(":") for line in lines):
-                self.below[name.strip()] = below.split()
+        self.all, self.given, self.below = set(), set(), rattle_source.crates()
         for crate in self.crates.values():
             self.all.update(*crate.files.values())
         for path in glob.glob(os.path.join(TOP, "crates", "*", "*", "**", "*"), recursive=True):

@@ -11,7 +11,8 @@ import os
 import re
 import sys
 
-TOP = os.path.join(os.path.dirname(os.path.abspath(__file__)), "..")
+import rattle_source
+
 TABLE = "docs/TRUST.md"
 HEAD = "| theorem | what meets its premises |"
 CRATES = ("b67_promises", "b67_program")
@@ -19,14 +20,8 @@ TESTS = ("b67_promises", "b67_surface")
 CALLED = r"(?<!fn )\b{}\("
 
 
-def read(path):
-    with open(os.path.join(TOP, path), encoding="utf-8") as text:
-        return text.read()
-
-
 def sources(crate):
-    folder = f"crates/{crate}/src"
-    return {f"{folder}/{name}": read(f"{folder}/{name}") for name in sorted(os.listdir(os.path.join(TOP, folder)))}
+    return {path: rattle_source.read(path) for path in rattle_source.files(crate, "src", ".rt")}
 
 
 def theorems():
@@ -36,9 +31,9 @@ def theorems():
         texts = sources(crate)
         public = set(re.findall(r"\w+", " ".join(re.findall(r"^pub use (?!b67)(.*?);", texts[f"crates/{crate}/src/lib.rt"], re.S | re.M))))
         for text in texts.values():
-            for function in re.finditer(r"^pub fn (\w+)(.*?)^\{", text, re.S | re.M):
-                if function.group(1) in public and "ensures" in function.group(2):
-                    found[function.group(1)] = crate
+            for it in rattle_source.functions(text.split("\n")):
+                if it.name in public and it.head[0].startswith("pub fn ") and any("ensures" in line for line in it.clauses()):
+                    found[it.name] = crate
     return found
 
 
@@ -47,14 +42,14 @@ def tests():
     found = {}
     for crate in TESTS:
         for path, text in sources(crate).items():
-            for name in re.findall(r"#\[test\]\s*(?:///[^\n]*\s*)*fn (\w+)", text):
+            for name in rattle_source.TEST.findall(text):
                 found.setdefault(name, []).append((path, text))
     return found
 
 
 def rows():
     """Of each theorem of the table what meets it: pairs of a kind and a name."""
-    text = read(TABLE)
+    text = rattle_source.read(TABLE)
     if HEAD not in text:
         sys.exit(f"{TABLE}: no table that begins with {HEAD}")
     found = {}
@@ -88,7 +83,7 @@ def main():
             if kind == "test":
                 texts = told.get(by, [])
             else:
-                texts = list(sources(by).items()) if os.path.exists(os.path.join(TOP, f"crates/{by}/src/main.rt")) else []
+                texts = list(sources(by).items()) if os.path.exists(os.path.join(rattle_source.TOP, f"crates/{by}/src/main.rt")) else []
             if not texts:
                 problems.append(f"{name}: there is no {kind} {by}")
             elif not any(re.search(CALLED.format(name), text) for path, text in texts):

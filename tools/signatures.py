@@ -12,27 +12,16 @@ import os
 import re
 import sys
 
-TOP = os.path.join(os.path.dirname(os.path.abspath(__file__)), "..")
+import rattle_source
+
+TOP = rattle_source.TOP
 LIST = "docs/signatures.txt"
 SURFACE = "crates/b67_surface/src"
-FUNCTION = re.compile(r"^pub fn ((\w+)(?:<[^(]*>)?\(.*?\)(?: -> .*?)?)(?:\s*\{|\n\s+(?:requires|ensures))", re.S | re.M)
 NAME = re.compile(r"^(\w+)(<.*?>)?\((.*)\)(?: -> (.*))?$", re.S)
-
-
-def one_line(text):
-    """A signature without the line ends and the last comma that a formatter writes."""
-    text = re.sub(r"\s+", " ", text).replace("( ", "(").replace(", )", ")")
-    return text.strip()
 
 
 def snake(name):
     return re.sub(r"(?<=[a-z])(?=[A-Z])", "_", name).lower()
-
-
-def body_of(text, start):
-    """The body of the function whose signature begins at this place: what stands between the braces that begin a line or end it."""
-    found = re.compile(r"(?:^|(?<= ))\{\n(.*?)^\}", re.S | re.M).search(text, start)
-    return found.group(1) if found else ""
 
 
 def call_of(signature, body):
@@ -59,21 +48,21 @@ def surface(problems):
     for file in sorted(os.listdir(os.path.join(TOP, SURFACE))):
         if file.endswith("_rows.rt") or file in ("lib.rt", "given.rt"):
             continue
-        with open(os.path.join(TOP, SURFACE, file), encoding="utf-8") as source:
-            text = source.read()
-        crates = [(m.start(), m.group(1)) for m in re.finditer(r"^// (b67_\w+)$", text, re.M)]
-        for found in FUNCTION.finditer(text):
-            crate = [name for at, name in crates if at < found.start()][-1]
-            signature, body = one_line(found.group(1)), body_of(text, found.end(1))
-            owner, call = call_of(signature, body)
-            function = found.group(2)
+        lines, crate = rattle_source.read(f"{SURFACE}/{file}").split("\n"), {}
+        for at, line in enumerate(lines, 1):
+            crate[at] = line[3:] if re.match(r"// b67_\w+$", line) else crate.get(at - 1)
+        for it in rattle_source.functions(lines):
+            if not it.head[0].startswith("pub fn "):
+                continue
+            function, body = it.name, "\n".join(it.body)
+            owner, call = call_of(it.signature().removeprefix("fn "), body)
             short = re.match(r"(?:\w+::)?(\w+)", call).group(1)
             wanted = f"{snake(re.sub('<.*', '', owner))}_{short}" if owner else short
             if function != wanted:
                 problems.append(f"{SURFACE}/{file}: {function} makes a call of {call.partition('(')[0]}, and would be named {wanted}")
             if re.search(r"\bas\b|;", body):
                 problems.append(f"{SURFACE}/{file}: {function} does more than make its call")
-            calls.append(f"{crate} {call}")
+            calls.append(f"{crate[it.first]} {call}")
     return calls
 
 

@@ -8,7 +8,9 @@ import os
 import re
 import sys
 
-TOP = os.path.join(os.path.dirname(os.path.abspath(__file__)), "..", "crates")
+import rattle_source
+
+TOP = os.path.join(rattle_source.TOP, "crates")
 PARTS = [
     ("model and text formats", r"model|model_text"),
     ("laws of the model", r"law\w*"),
@@ -26,28 +28,16 @@ PARTS = [
 ]
 
 
-def lines_of(path):
-    with open(path, encoding="utf-8") as text:
-        return sum(1 for line in text if line.strip() and not line.strip().startswith(("//", "--")))
-
-
 def sizes_of(crate):
     """The lines of a crate: code, definitions, proofs, tests."""
-    with open(os.path.join(TOP, crate, "src", root_of(crate)), encoding="utf-8") as root:
-        tests = set(re.findall(r"#\[cfg\(test\)\]\n(?:pub )?mod (\w+);", root.read()))
+    tests = rattle_source.test_modules(crate)
     counts = [0, 0, 0, 0]
     for column, folder in enumerate(["src", "specs", "proofs"]):
-        for base, _, names in os.walk(os.path.join(TOP, crate, folder)):
-            for name in names:
-                if name.endswith((".rt", ".antt")):
-                    below = os.path.relpath(os.path.join(base, name), os.path.join(TOP, crate, folder))
-                    is_test = crate == "b67_surface" or folder != "specs" and re.split(r"[/.]", below)[0] in tests
-                    counts[3 if is_test else column] += lines_of(os.path.join(base, name))
+        for path in rattle_source.files(crate, folder):
+            below = os.path.relpath(path, f"crates/{crate}/{folder}")
+            is_test = crate == "b67_surface" or folder != "specs" and re.split(r"[/.]", below)[0] in tests
+            counts[3 if is_test else column] += rattle_source.counted(rattle_source.read(path))
     return counts
-
-
-def root_of(crate):
-    return "lib.rt" if os.path.isfile(os.path.join(TOP, crate, "src", "lib.rt")) else "main.rt"
 
 
 def main(arguments):
