@@ -82,7 +82,7 @@ A stack machine after the Burroughs B6700, proved before it was built.
     b67 run --core 4096 --backing b < decks/sum/stdin
 
 prints 1.1 5 and 1.1 ENDED. The program needs Linux on x86-64 with the GNU C library 2.34 or later (Debian 12, Ubuntu 22.04,
-RHEL 9); it is built, so skip what the documents say of rt. From here: docs/TOUR.md, three lessons with commands;
+RHEL 9); it is built, so skip what the documents say of rt and make. From here: docs/TOUR.md, three lessons with commands;
 docs/TEACHING.md, six lessons for whoever gives a course; docs/ASSEMBLER.md, how to write decks, and decks/exercises/README.md,
 tasks for it. man -l man/man1/b67.1 has the commands, man -l man/man5/b67-deck.5 the cards, man -l man/man5/b67-image.5 the
 image of a halted machine; docs/statement.html, in a browser, what is proved. The scripts need sh and an awk as POSIX has it, the tracer (reference/trace.py) Python 3.11.
