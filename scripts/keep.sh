@@ -78,9 +78,10 @@ case $# in
     [ "$1" = resume ] || exit 0
     [ "$(sums <"$program" | sed 's/ .*//')" = "$(sed -n 's/  b67$//p' "$folder/made-by")" ] ||
         echo "keep.sh: another program than this one made it, which may be as good: see made-by" >&2
-    room=$(mktemp -d) || exit 2
+    room=
     trap 'rm -rf "$room"' EXIT
     trap 'exit 130' HUP INT TERM
+    room=$(mktemp -d) || exit 2
     cp "$folder/backing" "$room/backing" && chmod u+w "$room/backing" || {
         echo "keep.sh: there is no room for a copy of the backing file, and nothing is run" >&2
         exit 1

@@ -22,9 +22,10 @@ job=${2:-1}
 here=$(cd "$(dirname "$0")" && pwd)
 case $job in [1-8]) ;; *) usage "$job: a job is a number from 1 to 8" ;; esac
 [ -f "$deck" ] && [ -r "$deck" ] || usage "$deck: not a file that can be read"
-room=$(mktemp -d) || exit 2
+room=
 trap 'rm -rf "$room"' EXIT
 trap 'exit 130' HUP INT TERM
+room=$(mktemp -d) || exit 2
 
 sh "$here/cells.sh" "$deck" >"$room/deck" || exit 1
 # the body, each card on the line that it has in the deck; `kind` says what it is, `prefix` which job of several

@@ -26,11 +26,12 @@ done
 command -v "$program" >/dev/null && [ ! -d "$(command -v "$program")" ] || usage "$program: not a program that can be run: put b67 on the path, or name it as in B67=PROGRAM sh scripts/mark.sh"
 LC_ALL=C grep -q '^[0-9][0-9]*\.[0-9][0-9]* ' <"$wanted" || usage "$wanted: no lines of a run: EXPECTED stands last"
 LC_ALL=C grep -q '^?JOB' <"$wanted" && usage "$wanted: this is a deck: EXPECTED stands last"
-room=$(mktemp -d) || exit 2
+room=
 trap 'rm -rf "$room"' EXIT
 # what runs is a child that is waited for, so a signal ends both at once
 child=
 trap 'kill "$child" 2>/dev/null && wait "$child"; exit 130' HUP INT TERM
+room=$(mktemp -d) || exit 2
 tr -d '\r' <"$wanted" >"$room/wanted" || exit 2
 
 # the first line of `lines` that isn't as it should be, in words; nothing if all are

@@ -28,9 +28,10 @@ done
 [ "$from" -le "$to" ] || usage "$from comes after $to"
 [ -f "$deck" ] && [ -r "$deck" ] || usage "$deck: not a file that can be read"
 command -v "$program" >/dev/null && [ ! -d "$(command -v "$program")" ] || usage "$program: not a program that can be run: put b67 on the path, or name it as in B67=PROGRAM sh scripts/step.sh"
-room=$(mktemp -d) || exit 2
+room=
 trap 'rm -rf "$room"' EXIT
 trap 'exit 130' HUP INT TERM
+room=$(mktemp -d) || exit 2
 sh "$here/cells.sh" "$deck" >"$room/deck" || exit 2
 "$program" check <"$room/deck" >"$room/checked" || { tail -n 1 "$room/checked" | grep . >&2 || echo "$program: it answers nothing" >&2; exit 2; }
 grep -v '^?HALT' <"$room/deck" >"$room/whole"

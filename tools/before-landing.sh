@@ -86,9 +86,10 @@ if [ -z "$since" ]; then
     for since in origin/main main ''; do git rev-parse -q --verify "$since^{commit}" >/dev/null 2>&1 && break; done
 fi
 [ -z "$since" ] || git rev-parse -q --verify "$since^{commit}" >/dev/null || usage "no commit $since"
-room=$(mktemp -d) || exit 2
+room=
 trap 'rm -rf "$room"' EXIT
 trap 'exit 130' HUP INT TERM
+room=$(mktemp -d) || exit 2
 echo 'room for what is said' >"$room/log" || exit 2
 [ -z "$(git status --porcelain --untracked-files=no)" ] || echo 'Some changes are not committed: the parts documents and edits do not see them.'
 

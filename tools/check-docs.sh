@@ -32,9 +32,10 @@ usage() {
 program=$(cd "$(dirname "$1")" && pwd)/$(basename "$1")
 shift
 top=$(cd "$(dirname "$0")/.." && pwd)
-room=$(mktemp -d) || exit 2
+room=
 trap 'rm -rf "$room"' EXIT
 trap 'exit 130' HUP INT TERM
+room=$(mktemp -d) || exit 2
 git clone -q "$top" "$room/clone"
 mkdir -p "$room/bin" "$room/blocks" "$room/clone/crates/b67/out"
 for place in "$room/bin/b67" "$room/clone/crates/b67/out/b67"; do

@@ -16,9 +16,10 @@ command -v python3 >/dev/null || usage "python3 isn't on the path"
 for name in "$@"; do
     [ -f "$top/decks/$name/stdin" ] || usage "$name: not a folder of decks/"
 done
-room=$(mktemp -d) || exit 2
+room=
 trap 'rm -rf "$room"' EXIT
 trap 'exit 130' HUP INT TERM
+room=$(mktemp -d) || exit 2
 passed=0
 failed=0
 for name in "$@"; do
