@@ -3,8 +3,9 @@
 
 Mends of comments and data under crates/ that wait for the next gate, since an edit there voids what was proved of the crate and of
 all above it. They stand in tools/mends.txt, in the form of a must-fail edit: a line `file: PATH`, and then pairs of lines `old: TEXT`
-and `new: TEXT`. Prints each file with the number of its mends, and what can't be applied, as each old text must stand once in its
-file; then ends with status 1. With --apply, all are applied, and the file of mends keeps its first lines alone.
+and `new: TEXT`, in which `\\n` stands for the end of a line. Prints each file with the number of its mends, and what can't be applied,
+as each old text must stand once in its file; then ends with status 1. With --apply, all are applied, and the file of mends keeps its
+first lines alone.
 """
 import os
 import sys
@@ -23,7 +24,7 @@ def mends(lines):
     file = old = None
     for line in lines:
         kind, _, text = line.partition(":")
-        text = text.removeprefix(" ")
+        text = text.removeprefix(" ").replace("\\n", "\n")
         if kind == "file":
             file, old = text.strip(), None
         elif kind == "old":
@@ -43,7 +44,7 @@ def tried(waiting):
             continue
         text = texts.setdefault(file, read(path))
         if text.count(old) != 1:
-            flaws.append(f"{file}: stands {text.count(old)} times: {old}")
+            flaws.append(f"{file}: stands {text.count(old)} times: {old!r}")
             continue
         texts[file] = text.replace(old, new)
         counts[file] = counts.get(file, 0) + 1
@@ -67,7 +68,7 @@ def main(arguments):
         with open(WAITING, "w", encoding="utf-8") as text:
             text.write("\n".join(line for line in lines if line.startswith("#")) + "\n")
     say = "applied" if arguments and not flaws else "wait for the next gate: python3 tools/mend.py --apply"
-    print(f"{sum(counts.values())} mends in {len(counts)} files {say}" if counts or not flaws else f"{len(flaws)} mends can't be applied")
+    print(f"{sum(counts.values())} mends in {len(counts)} files {say}" if counts else f"{len(flaws)} mends can't be applied" if flaws else "no mend waits")
     return 1 if flaws else 0
 
 
