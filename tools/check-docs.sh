@@ -32,6 +32,9 @@ usage() {
 program=$(cd "$(dirname "$1")" && pwd)/$(basename "$1")
 shift
 top=$(cd "$(dirname "$0")/.." && pwd)
+for document in "$@"; do
+    [ "$(git -C "$top" cat-file -t "HEAD:$document" 2>/dev/null)" = blob ] || usage "$document: not a document of the repository"
+done
 room=
 trap 'rm -rf "$room"' EXIT
 trap 'exit 130' HUP INT TERM
@@ -47,9 +50,6 @@ mkdir -p "$HOME"
 cd "$room/clone" || exit 2
 [ $# -gt 0 ] || set -- *.md docs/*.md bench/README.md decks/README.md reference/README.md tools/README.md web/README.md
 if strace -o "$room/traced" true 2>/dev/null; then strace=1; else strace=; fi
-for document in "$@"; do
-    [ -f "$document" ] || usage "$document: not a document of the repository"
-done
 
 passed=0
 failed=0
