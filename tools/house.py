@@ -4,6 +4,7 @@
 Counts what keeps the house in order, prints one line for each count, and ends with status 1 if a count is above its bound."""
 import collections
 import os
+import re
 import sys
 
 import rattle_source
@@ -16,6 +17,12 @@ BOUNDS = {
     'definition names in two crates': 50,
     'longest function outside tests': 37,
     'contracts over eight clauses': 13,
+    'fields that are premises alone': 0,
+}
+
+# Optional fields that stand in a premise of their record and are tied by what another field's definition says of them.
+TIED = {
+    'IsCarriedOut machine': '`due` says of each answer whether there is a machine',
 }
 
 
@@ -34,17 +41,51 @@ def chain_and_ways(rows):
     return max(long.values()), sum(ways.values())
 
 
+def records(lines):
+    """The records of a file of definitions: name, first line, and of each field its name and its type."""
+    name = None
+    for at, line in enumerate(lines):
+        if not line.startswith(' ') and line.strip():
+            if name:
+                yield name, first, fields
+            head = re.match(r"(?:pub )?record ([^\s(){}\[\],;=:]+)(?= [({:])", line)
+            name, first, fields = (head.group(1) if head else None), at + 1, {}
+        field = re.match(r"  (?:pub )?([\w'-]+) : (.*)", line)
+        if field:
+            last = field.group(1)
+            fields[last] = field.group(2)
+        elif name and fields and line.startswith('   '):
+            fields[last] += ' ' + line.strip()
+    if name:
+        yield name, first, fields
+
+
+def premises_alone(lines):
+    """The optional fields of records of which a premise asks whether they are told, and of which no field says that they are: a body
+    may choose None, and then what stands behind the premise says nothing."""
+    for record, at, fields in records(lines):
+        for field, kind in fields.items():
+            if kind.startswith('Option') and record + ' ' + field not in TIED:
+                name = r"(?<![\w'.])%s(?![\w'])" % re.escape(field)
+                others = [text for other, text in fields.items() if other != field]
+                asked = any(re.search(name + r' (?:≢ None|≡ Some \S+) →', text) for text in others)
+                if asked and not any(re.search(name + r' ≢ None$|' + name + r' ≡ [^→]*$', text) for text in others):
+                    yield '%s:%d' % (record, at), field
+
+
 def main():
     if sys.argv[1:]:
         print(__doc__.split('\n')[0], file=sys.stderr)
         return 2
     rows = rattle_source.crates()
     chain, ways = chain_and_ways(rows)
-    where, found = collections.defaultdict(set), []
+    where, found, alone = collections.defaultdict(set), [], []
     for crate in rows:
         for path in rattle_source.files(crate, 'specs', '.antt'):
-            for name in rattle_source.public_definitions(rattle_source.read(path).split('\n')):
+            lines = rattle_source.read(path).split('\n')
+            for name in rattle_source.public_definitions(lines):
                 where[name].add(crate)
+            alone += ['%s %s %s' % (path, record, field) for record, field in premises_alone(lines)]
         tests = {name + '.rt' for name in rattle_source.test_modules(crate)}
         for path in rattle_source.files(crate, 'src', '.rt'):
             if os.path.basename(path) not in tests:
@@ -60,6 +101,7 @@ def main():
         'longest function outside tests': (len(longest.body), ' lines: %s:%d %s' % (longest_in, longest.first, longest.name)),
         'contracts over eight clauses': (len(over), ' of %d: %s' % (
             len(found), ', '.join('%s:%d %s (%d)' % (path, it.first, it.name, count) for path, it, count in over))),
+        'fields that are premises alone': (len(alone), ' '.join(['', *alone])),
     }
     for name, (count, rest) in counts.items():
         print('%s: %d%s' % (name, count, rest))
