@@ -104,4 +104,5 @@ def main():
             print(f"| {name} | {half:.3f} s | {whole:.3f} s | {whole / half:.1f} | {status} | `{line}` |", flush=True)
 
 
-main()
+if __name__ == "__main__":
+    main()

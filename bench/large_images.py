@@ -87,6 +87,12 @@ def deck_of(kind: str, stack: int, count: int, jobs: int, children: int) -> byte
     return deck_with(program, stack, count, jobs)
 
 
+def full_stacks(kind: str, turns: float, room: float, stack: int) -> tuple[bytes, int]:
+    """A deck of 120 tasks that halts when their stacks are nearly full, and the words of core that it wants."""
+    count = 120 * (40 + int(turns * stack * 9 // 10)) + (24 * stack if "high" in kind else 0)
+    return deck_of(kind, stack, count, 8, 14), 160 + 8 * 1_100 + int(120 * stack * room)
+
+
 def deck_with(program: str, stack: int, count: int, jobs: int) -> bytes:
     """A deck of so many jobs of one program, that halts at a count."""
     cards = f"?HALT {count}\n?STACK {stack}\n?QUANTUM 500\n"
@@ -167,9 +173,8 @@ def main() -> int:
         # how many operators fill a word of a stack, and how much core it takes
         for kind, turns, room in KINDS:
             for stack in (600, 1_250, 2_500, 5_000):
-                count = 120 * (40 + int(turns * stack * 9 // 10)) + (24 * stack if "high" in kind else 0)
-                core = 160 + 8 * 1_100 + int(120 * stack * room)
-                measured.show(f"{kind}, 120 stacks of {stack}", few(measured.image(deck_of(kind, stack, count, 8, 14), core)))
+                deck, core = full_stacks(kind, turns, room, stack)
+                measured.show(f"{kind}, 120 stacks of {stack}", few(measured.image(deck, core)))
         job = least.jobs[0]
         room = GREATEST_IMAGE - 10_000 - len(with_links(least, 2_000))
         for part in (4, 2, 1):
