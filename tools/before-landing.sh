@@ -100,7 +100,7 @@ decks() { sh decks/run.sh "$program"; }
 tracer() { sh tools/check-trace.sh; }
 house() { python3 tools/house.py; }
 signatures() { python3 tools/signatures.py; }
-premises() { python3 tools/premises.py; }
+premises() { python3 tools/premises.py && python3 tools/check-premises.py; }
 links() { python3 tools/links.py; }
 names() { python3 tools/names.py; }
 modules() { B67=$program node --test --test-reporter=tap web/tests/*.test.js >"$room/tests" || { cat "$room/tests" && return 1; } && sed -n 's/^# pass /modules: tests passed: /p' "$room/tests"; }

@@ -1,97 +1,235 @@
 #!/usr/bin/env python3
-"""usage: premises.py
+"""usage: premises.py [TOP]
 
-A theorem whose premises nothing meets says nothing. docs/TRUST.md has a table of the theorems of b67_promises and b67_program, and
-of what meets the premises of each: a test or a program, which calls it, or another theorem, through which it is met. This checks
-that each function with an `ensures` that those crates make public has its row; that each test stands in a file of its crate, and
-that this file calls the function; that each program calls it; that each theorem that is named has a row, and that following these
-one comes to a test or a program. Prints what is wrong, or how many theorems are met. Ends with status 1 if something is wrong.
+A clause whose premises nothing meets says nothing. docs/TRUST.md has a table of the clauses with premises of the theorems of
+b67_promises and b67_program, and of what meets the premises of each: a test, with the statuses that it wants; a program; another
+theorem, through which they are met; or nothing yet, with the reason. This checks that
+
+- each such clause of each function that those crates make public has its row, and each law, which has no clause;
+- a test's body calls the theorem, itself or by a function of its file, in an arm of a choice that its body names; comments and texts
+  are no calls. The statuses of the row are those that the test wants;
+- a program's body calls it, or what it calls does;
+- a theorem through which a clause is met calls the other one, or, where that is a law, states what the row names, as the law does; and following these
+  one comes to a test or a program.
+
+Prints what is wrong, and of how many clauses the premises are met. Ends with status 1 if something is wrong. TOP is a repository.
 """
+import functools
 import os
 import re
 import sys
 
-import rattle_source
+import trust
 
+HERE = os.path.dirname(os.path.abspath(__file__))
 TABLE = "docs/TRUST.md"
-HEAD = "| theorem | what meets its premises |"
+HEAD = "| theorem | clause | what meets its premises |"
 CRATES = ("b67_promises", "b67_program")
 TESTS = ("b67_promises", "b67_surface")
-CALLED = r"(?<!fn )\b{}\("
+FUNCTION = re.compile(r"^( *)(?:pub(?:\([^)]*\))? )?(?:const )?fn (\w+)", re.M)
+ARM = re.compile(r"^( *)([A-Z]\w*::[A-Z]\w*)(?: \{[^}]*\}|\([^)]*\))? =>", re.M)
 
 
-def sources(crate):
-    return {path: rattle_source.read(path) for path in rattle_source.files(crate, "src", ".rt")}
+def bare(text):
+    """A file of code without its comments and texts, line for line."""
+    return re.sub(r'b?"(?:[^"\\]|\\.)*"|//[^\n]*', lambda it: '""' if it.group(0)[-1] == '"' else "", text)
 
 
-def theorems():
-    """The functions with a contract that the crates make public, each with its crate."""
+class Function:
+    """A function of a file: its clauses, its body without comments and texts, and whether it is a test."""
+
+    def __init__(self, crate, path, text, head):
+        end = re.compile(rf"^{head.group(1)}\}}", re.M).search(text, head.end())
+        whole = text[head.start() : end.end() if end else len(text)]
+        opening = re.search(rf"^{head.group(1)}\{{|\{{\}}$|\{{$", whole, re.M)
+        self.crate, self.path, self.name = crate, path, head.group(2)
+        self.contract, self.body = whole[: opening.start()], bare(whole[opening.start() :])
+        self.is_public = whole.startswith("pub fn")
+        self.is_test = text[: head.start()].rstrip().endswith("#[test]") or re.search(r"#\[test\]\s*(?:///[^\n]*\s*)*\Z", text[: head.start()]) is not None
+        self.is_law = bool(re.match(r"pub fn \w+\(\)", whole))
+
+    def clauses(self):
+        """The names of the clauses with premises; of a law the empty name."""
+        found = re.findall(r"^ +ensures\*? ?(\w*) ?\{(.*?)\}(?=\s*(?:\Z|\n\s*(?:ensures|requires|//|\{)))", self.contract, re.S | re.M)
+        return [""] if self.is_law and found else [name for name, text in found if "→" in text]
+
+
+def read(top, path):
+    with open(os.path.join(top, path), encoding="utf-8") as text:
+        return text.read()
+
+
+def functions(top):
+    """The functions of the crates and of the programs, by path."""
+    found = {}
+    for crate in sorted(set(CRATES + TESTS) | {it for it in os.listdir(f"{top}/crates") if os.path.exists(f"{top}/crates/{it}/src/main.rt")}):
+        for file in sorted(os.listdir(f"{top}/crates/{crate}/src")):
+            path = f"crates/{crate}/src/{file}"
+            text = read(top, path)
+            found[path] = [Function(crate, path, text, head) for head in FUNCTION.finditer(text)]
+    return found
+
+
+def theorems(top, code):
+    """The functions with a contract that the crates make public, by name."""
     found = {}
     for crate in CRATES:
-        texts = sources(crate)
-        public = set(re.findall(r"\w+", " ".join(re.findall(r"^pub use (?!b67)(.*?);", texts[f"crates/{crate}/src/lib.rt"], re.S | re.M))))
-        for text in texts.values():
-            for it in rattle_source.functions(text.split("\n")):
-                if it.name in public and it.head[0].startswith("pub fn ") and any("ensures" in line for line in it.clauses()):
-                    found[it.name] = crate
+        text = read(top, f"crates/{crate}/src/lib.rt")
+        public = set(re.findall(r"\w+", " ".join(re.findall(r"^pub use (?!b67)(.*?);", text, re.S | re.M))))
+        for path, held in code.items():
+            if path.startswith(f"crates/{crate}/"):
+                found.update({it.name: it for it in held if it.is_public and it.name in public and "ensures" in it.contract})
     return found
 
 
-def tests():
-    """The files that have each test."""
-    found = {}
-    for crate in TESTS:
-        for path, text in sources(crate).items():
-            for name in rattle_source.TEST.findall(text):
-                found.setdefault(name, []).append((path, text))
-    return found
+class Row:
+    """A row of the table: a theorem, a clause, and what meets its premises: kinds, names, statuses."""
+
+    def __init__(self, names, clauses, met):
+        self.names, self.clauses = re.findall(r"`(\w+)`", names), re.findall(r"`(\w+)`", clauses) or [""]
+        self.met = re.findall(r"\b(test|program|through) `(\w+)`(?:, (\d+(?:, \d+)*)|: `(\w+)`)?", met)
+        self.lacks, self.has_none = met.startswith("nothing yet"), met.startswith("it has no premise")
 
 
-def rows():
-    """Of each theorem of the table what meets it: pairs of a kind and a name."""
-    text = rattle_source.read(TABLE)
+def rows(top):
+    text = read(top, TABLE)
     if HEAD not in text:
         sys.exit(f"{TABLE}: no table that begins with {HEAD}")
-    found = {}
+    found = []
     for line in text[text.index(HEAD) :].split("\n")[2:]:
         if not line.startswith("|"):
-            break
-        names, met = (cell.strip() for cell in line.strip("|").split("|")[:2])
-        for name in re.findall(r"`(\w+)`", names):
-            found.setdefault(name, []).extend(re.findall(r"(test|program|through) `(\w+)`", met))
+            return found
+        found.append(Row(*(cell.strip() for cell in line.strip("|").split("|")[:3])))
     return found
 
 
-def reaches(name, table, seen=()):
-    """Whether one comes from a theorem to a test or a program."""
-    return name not in seen and any(kind != "through" or reaches(by, table, (*seen, name)) for kind, by in table.get(name, []))
+def arms_of(body, names):
+    """A body without the arms of choices of which these texts don't name the case."""
+    arms = list(ARM.finditer(body))
+    for arm, after in reversed(list(zip(arms, [*arms[1:], None]))):
+        if not re.search(rf"\b{arm.group(2)}\b", names):
+            end = after.start() if after else len(body)
+            body = body[: arm.end()] + body[end:] if after else body[: arm.end()]
+    return body
+
+
+def reached(function, held):
+    """The text of a function's body and of those of its file that it calls, without arms that it doesn't choose."""
+    text, left, seen = "", [function], set()
+    while left:
+        now = left.pop()
+        if now.name not in seen:
+            seen.add(now.name)
+            body = now.body if now is function else arms_of(now.body, text)
+            text += "\n" + body
+            left += [it for it in held if re.search(rf"(?<![\w.]){it.name}\(", body)]
+    return text
+
+
+def calls(name, text):
+    return re.search(rf"(?<!fn )(?<![\w.]){name}\(", text) is not None
+
+
+def statuses(text):
+    """The statuses that a test wants: tuples and numbers that are compared, and exit codes in their order."""
+    found = [it.replace(",", "").split() for it in re.findall(r"\bsame\([^;]*?\((\d+(?:, \d+)*)\)\)?,?\s*\)?;", text)]
+    found += [[it] for it in re.findall(r"\bsame\([^;]*, (\d+)\);", text)]
+    codes = [it or "0" for it in re.findall(r"ExitCode::(?:SUCCESS|from\((\d+)\))", text)]
+    return found + [codes[at:] for at in range(len(codes))] + [[it] for it in codes]
+
+
+def wrong_test(name, by, wanted, code):
+    """What is wrong with a test that is to meet a theorem's premises; empty if nothing."""
+    for held in code.values():
+        for test in (it for it in held if it.name == by and it.is_test):
+            text = reached(test, held)
+            if not calls(name, text):
+                return f"{name}: the test {by} doesn't call it"
+            if wanted and wanted.split(", ") not in statuses(text):
+                return f"{name}: the test {by} doesn't want {wanted}"
+            return "" if wanted or not re.search(r"\(u8|-> u8|ExitCode", text + name) else ""
+    return f"{name}: there is no test {by}"
+
+
+def wrong_program(name, by, code, known):
+    held = code.get(f"crates/{by}/src/main.rt")
+    if not held:
+        return f"{name}: there is no program {by}"
+    text = "".join(it.body for path, those in code.items() if path.startswith(f"crates/{by}/") for it in those)
+    return "" if calls(name, text) else f"{name}: the program {by} doesn't call it"
+
+
+def wrong_through(name, by, stated, known):
+    """What is wrong with a theorem through which another's premises are to be met."""
+    if by not in known:
+        return f"{name}: {by} is no theorem"
+    if not known[name].is_law:
+        return "" if calls(name, known[by].body) else f"{name}: {by} doesn't call it"
+    law = re.search(r"ensures \{ (\w+) \}", known[name].contract)
+    own = next((it for it in rests_on(known[name].crate, name) if law and it.name == law.group(1)), None)
+    if not stated or not own or not re.search(rf"\b{stated}\b", "\n".join(own.text)):
+        return f"{name}: the row doesn't name what the law states"
+    return "" if any(it.name == stated for it in rests_on(known[by].crate, by)) else f"{name}: {by} doesn't state {stated}"
+
+
+@functools.cache
+def rests_on(crate, theorem):
+    """The definitions that a theorem's statement rests on, as they stand in this repository."""
+    return trust.rests_on(f"{crate}::{theorem}", [])[1]
+
+
+def problems_of(row, clause, code, known):
+    """What is wrong with a row's clause."""
+    for name in row.names:
+        if name not in known:
+            yield f"{name} is no theorem of {' or '.join(CRATES)}"
+        elif clause not in known[name].clauses() and (clause or known[name].clauses()):
+            yield f"{name}: it has no clause {clause or 'without a name'} with premises"
+        elif row.has_none and not known[name].is_law:
+            yield f"{name} {clause}: it has premises"
+        elif not row.met and not row.lacks and not row.has_none:
+            yield f"{name} {clause}: nothing is said to meet it"
+        else:
+            for kind, by, wanted, stated in row.met:
+                yield {"test": wrong_test(name, by, wanted, code), "program": wrong_program(name, by, code, known), "through": ""}[kind] or (
+                    wrong_through(name, by, stated, known) if kind == "through" else ""
+                )
+
+
+def reaches(met, table, seen=()):
+    """Whether one comes from what is said to meet a clause to a test or a program."""
+    return any(
+        kind != "through" or by not in seen and any(reaches(row.met, table, (*seen, by)) for row in table if by in row.names) for kind, by, _, _ in met
+    )
+
+
+def judged(top):
+    """What is wrong, of how many clauses the premises are met, and of how many by nothing yet."""
+    code, table = functions(top), rows(top)
+    known = theorems(top, code)
+    has = {(name, clause) for row in table for name in row.names for clause in row.clauses}
+    problems = [f"{name} {clause}: no row".replace(" :", ":") for name, it in known.items() for clause in it.clauses() if (name, clause) not in has]
+    met, lacks = 0, 0
+    for row in table:
+        for clause in row.clauses:
+            found = [it for it in problems_of(row, clause, code, known) if it]
+            found += [f"{name} {clause}: no test or program meets it" for name in row.names if name in known and not (row.lacks or row.has_none or reaches(row.met, table))]
+            problems += found
+            met += 0 if found or row.lacks else len(row.names)
+            lacks += len(row.names) if row.lacks else 0
+    return list(dict.fromkeys(problems)), met, lacks
 
 
 def main():
-    if sys.argv[1:]:
+    sys.setrecursionlimit(10_000)
+    top = sys.argv[1] if sys.argv[1:] else os.path.join(HERE, "..")
+    if len(sys.argv) > 2 or top.startswith("-") or not os.path.isfile(os.path.join(top, TABLE)):
         print(__doc__.split("\n")[0], file=sys.stderr)
         return 2
-    wanted, table, told, problems = theorems(), rows(), tests(), []
-    problems += [f"{crate}: {name} has no row" for name, crate in wanted.items() if name not in table]
-    problems += [f"{name} is no theorem of {' or '.join(CRATES)}" for name in table if name not in wanted]
-    for name, met in table.items():
-        for kind, by in met:
-            if kind == "through":
-                if by not in table:
-                    problems.append(f"{name}: {by} has no row")
-                continue
-            if kind == "test":
-                texts = told.get(by, [])
-            else:
-                texts = list(sources(by).items()) if os.path.exists(os.path.join(rattle_source.TOP, f"crates/{by}/src/main.rt")) else []
-            if not texts:
-                problems.append(f"{name}: there is no {kind} {by}")
-            elif not any(re.search(CALLED.format(name), text) for path, text in texts):
-                problems.append(f"{name}: {texts[0][0]}, with the {kind} {by}, doesn't call it")
-        if name in wanted and not reaches(name, table):
-            problems.append(f"{name}: no test or program meets it")
-    print("\n".join([*problems, f"{sum(reaches(name, table) for name in wanted)} of {len(wanted)} theorems have their premises met"]))
+    problems, met, lacks = judged(top)
+    print("\n".join([*problems, f"of {met} clauses the premises are met, of {lacks} by nothing yet"]))
     return 1 if problems else 0
 
 
-sys.exit(main())
+if __name__ == "__main__":
+    sys.exit(main())
