@@ -330,11 +330,11 @@ refused sh $tools/paper.sh out.pdf
 tmp=$room/none/such refused bash $tools/paper.sh out.pdf
 if [ -n "${mounted:-}" ]; then tmp=$room/full refused bash $tools/paper.sh out.pdf; else skipped=$((skipped + 1)); fi
 done_with paper.sh
-for name in refill house links sizes trust names heads premises signatures statement compiled mend edits minutes modules shorter unproved; do
+for name in refill house links sizes trust names heads premises signatures statement compiled mend check-edits check-premises edits minutes modules shorter unproved; do
     for words in --nonsense -h nothere folder -x --text '--own nothing' 'nothing more' '--nonsense run_twice'; do refused python3 $tools/$name.py $words; done
     done_with $name.py
 done
-for words in --nonsense -h nothere folder -x --jobs '--since nothere' 'nothing more'; do refused bash $tools/more-edits.sh $words; done
+for words in --nonsense -h nothere folder -x --jobs '--into nothere/lines' '--into folder' '--jobs 0' 'nothing more'; do refused bash $tools/more-edits.sh $words; done
 done_with more-edits.sh
 for words in '' nothere 'nothere /tmp/none' 'binary ../files/out' 'folder /tmp/none' '../bin/b67 out' '../bin/b67 /dev/null/out' '--remove /dev/null/out' '--remove folder' --help; do refused sh $tools/install.sh $words; done
 done_with install.sh
