@@ -126,6 +126,7 @@ EDITS = {
     "sum_for_a_call": ([("    twice(n)", "    n + n")], "accepted", "with other answers"),
     "once": ([("    twice(n)", "    n")], "for a name", "of both"),
     "lesser_and_two_above": ([("if a < b { b } else { a }", "if a < b { a } else { b }"), ("    n + 1", "    n + 2")], "refused", "of greater"),
+    "equal_too_and_same_number": ([("if a < b { b } else { a }", "if a <= b { b } else { a }"), ("    n + 1", "    n + 0")], "refused by search", "of above"),
     "not_there": ([("    n - 1", "    n + 2")], "doesn't apply", "stands 0 times"),
 }
 
@@ -135,7 +136,7 @@ PLANTED = [
     ("answers that don't fit stay", 'return "accepted", "with other answers"', 'return "refused by search", "of above"', ["two_above"]),
     ("an answer that doesn't fit is a refusal", "return own or None", 'return "refused", "of above"', ["two_above"]),
     ("a name that is missed isn't told", '("for a name" if missed else "not told")', '"not told"', ["once"]),
-    ("one proved function of two is enough", "if all(it.is_proved for it in told):\n            return \"accepted\", \"\"", "if any(it.is_proved for it in told):\n            return \"accepted\", \"\"", ["lesser_and_two_above"]),
+    ("one proved function of two is enough", "if all(it.is_proved for it in told):\n            return \"accepted\", \"\"", "if any(it.is_proved for it in told):\n            return \"accepted\", \"\"", ["equal_too_and_same_number"]),
     ("what is open isn't looked at", "if it.open and not it.missed:", "if False:", ["lesser"]),
     ("the reason is of another function", 'f"`{goal}` of {self.function}"', 'f"`{goal}` of main"', ["lesser"]),
     ("a text that isn't there is no matter", "if count != 1:", "if count > 1:", ["not_there"]),
