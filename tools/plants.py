@@ -4,7 +4,7 @@
 Wrong bodies that nobody chose: calls `rt plant` in each crate, or in those that are named, lowest first, with at most N bodies (400) in at
 most N minutes (10) each, and keeps in FILE what it says: a line `crate` with the counts and with the sum of the crate's texts, and a
 line for each body that is still proved and for each function that any body passes. A crate that stands there with the same sum isn't
-tried again, so what was cut off goes on where it was.
+tried again, so what was cut off goes on where it was; but one that is named is, if some of its bodies weren't run.
 
 Then it prints a table by crate. An answer to a line is a line of docs/plants.txt, `CRATE FUNCTION: BODY = why that body is right`.
 A line without an answer is printed below the table, and the status is 1. --table prints the table alone, of what FILE has.
@@ -57,6 +57,9 @@ class Kept:
 
     def has(self, name):
         return name in self.crates and self.crates[name][0] == edits.crate_sum(name, TOP)[:16]
+
+    def is_whole(self, name):
+        return self.has(name) and self.crates[name][1].get("not-run") == "0"
 
     def add(self, name, counts, rows):
         total = edits.crate_sum(name, TOP)[:16]
@@ -112,7 +115,7 @@ def main():
         return print(__doc__.splitlines()[0], file=sys.stderr) or 2
     try:
         kept = Kept(options["--into"])
-        for name in (it for it in names or crates() if "--table" not in words and not kept.has(it)):
+        for name in (it for it in names or crates() if "--table" not in words and not (kept.is_whole(it) if names else kept.has(it))):
             found = planted(name, options)
             if found:
                 kept.add(name, *found)
