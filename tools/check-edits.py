@@ -140,7 +140,7 @@ PLANTED = [
     ("what is open isn't looked at", "if it.open and not it.missed:", "if False:", ["lesser"]),
     ("the reason is of another function", 'f"`{goal}` of {self.function}"', 'f"`{goal}` of main"', ["lesser"]),
     ("a text that isn't there is no matter", "if count != 1:", "if count > 1:", ["not_there"]),
-    ("no answer is taken out", "gone |= more", "gone = set(); break", ["same_number"]),
+    ("no answer is taken out", "for name, part in parts.items() if name not in gone", "for name, part in parts.items()", ["same_number"]),
     ("all is written down as refused", 'out.write("\\t".join((f"{edit.crate}/{edit.name}", sum_of(edit), kind,', 'out.write("\\t".join((f"{edit.crate}/{edit.name}", sum_of(edit), "refused",', ["equal_too"]),
     ("a changed crate isn't tried anew", "texts.update(it.encode() + text.read())", "pass", ["equal_too"]),
 ]
@@ -188,9 +188,8 @@ def change(path, old, new):
         out.write(whole.replace(old, new))
 
 
-def again(room, crate, names):
+def again(room, crate, names, first):
     """The problems of a second call, and of a third over a changed crate: what was written is taken, and what changed is tried."""
-    first, _ = told(room, names)
     size = os.path.getsize(f"{room}/lines")
     second, _ = told(room, names)
     problems = [] if first == second and os.path.getsize(f"{room}/lines") == size else ["a second call tells something else, or tries again"]
@@ -219,7 +218,7 @@ def planted(room, crate):
         if os.path.exists(f"{room}/lines"):
             os.remove(f"{room}/lines")
         came, _ = told(room, names)
-        found = wrong(came, names) or again(room, crate, names)
+        found = wrong(came, names) or again(room, crate, names, came)
         print(f"{'found' if found else 'NOT FOUND'}: {what}{': ' + found[0] if found else ''}", flush=True)
         problems += [] if found else [what]
     return problems
@@ -231,7 +230,7 @@ def main():
     with tempfile.TemporaryDirectory() as room:
         crate = made(room)
         came, said = told(room, list(EDITS))
-        problems = wrong(came, list(EDITS)) + again(room, crate, ["equal_too"])
+        problems = wrong(came, list(EDITS)) + again(room, crate, list(EDITS), came)
         print("\n".join(problems) or f"{len(EDITS)} edits, each told as it is")
         if problems:
             print(said)
