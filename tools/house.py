@@ -43,7 +43,7 @@ def chain_and_ways(rows):
 
 def records(lines):
     """The records of a file of definitions: name, first line, and of each field its name and its type."""
-    name = None
+    name, first, fields = None, 0, {}
     for at, line in enumerate(lines):
         if not line.startswith(' ') and line.strip():
             if name:
