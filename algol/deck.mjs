@@ -1,10 +1,10 @@
 // Makes a deck of segments: their cards with names, labels and comments, and what the machine's limits forbid.
 
-import {displacement, PARTS} from './segments.mjs';
+import {displacement, NONE, PARTS} from './segments.mjs';
 
 const [MOST_SEGMENTS, MOST_ENTRIES, MOST_WORDS, MOST_LEVEL, MOST_OF_CARD] = [255, 255, 8191, 31, 80];
-const LITERALS = ['LT48', 'MPCW'];
-const BRANCHES = ['BRUN', 'BRTR', 'BRFL'];
+const LITERALS = new Set(['LT48', 'MPCW']);
+const BRANCHES = new Set(['BRUN', 'BRTR', 'BRFL']);
 // How segments are called that have no name in the program, and what their heading says.
 const NAMES = {thunk: 'T', block: 'BLOCK', label: 'LABEL', switch: 'SWITCH'};
 const HEADINGS = {procedure: seg => `procedure ${seg.name}`, wrapper: seg => `${seg.name} with arguments by name`, thunk: () => 'an argument by name', block: () => 'a block with arrays',
@@ -13,25 +13,25 @@ const HEADINGS = {procedure: seg => `procedure ${seg.name}`, wrapper: seg => `${
 // The greatest displacement of a couple in a segment of this level.
 const greatest = level => level < 4 ? 4095 : level < 8 ? 2047 : level < 16 ? 1023 : 511;
 // The syllables of an operator; a literal has a word besides.
-const syllables = op => op === 'VALC' || op === 'NAMC' || op === 'LT8' ? 2 : op === 'LT16' || BRANCHES.includes(op) ? 3 : 1;
+const syllables = op => op === 'VALC' || op === 'NAMC' || op === 'LT8' ? 2 : op === 'LT16' || BRANCHES.has(op) ? 3 : 1;
 
 // The words that some cards take; `from` counts syllables.
 function wordsOf(cards, from = 0) {
   let at = from;
   for (const {op} of cards) {
     at += syllables(op);
-    if (LITERALS.includes(op)) at = 6 * Math.ceil(at / 6) + 6;
+    if (LITERALS.has(op)) at = 6 * Math.ceil(at / 6) + 6;
   }
   return Math.ceil(at / 6);
 }
 
 // Puts the cards that make a segment's cells before its code.
 function complete(seg) {
-  const made = seg.parts.pcw.map(cell => ({op: 'MPCW', arg: cell.target, line: cell.line ?? 0, labels: [], makes: cell}));
+  const made = seg.parts.pcw.map(cell => ({op: 'MPCW', arg: cell.target, line: cell.line ?? 0, labels: NONE, makes: cell}));
   for (const cell of seg.parts.var) {
     const n = cell.init ?? 0, m = Math.abs(n), line = cell.at ?? cell.line ?? 0;
-    made.push({op: m > 1 ? 'LT8' : m ? 'ONE' : 'ZERO', arg: m > 1 ? m : undefined, line, labels: [], makes: cell});
-    if (n < 0) made.push({op: 'CHSN', line, labels: []});
+    made.push({op: m > 1 ? 'LT8' : m ? 'ONE' : 'ZERO', arg: m > 1 ? m : undefined, line, labels: NONE, makes: cell});
+    if (n < 0) made.push({op: 'CHSN', line, labels: NONE});
   }
   if (seg.waiting.length) seg.code.push({op: 'EXIT', line: seg.line, labels: seg.waiting.splice(0)});
   seg.code = made.concat(seg.code);
@@ -53,7 +53,7 @@ function pack(segs) {
 function carry(carrier, seg) {
   seg.carrier = carrier;
   seg.entry = {};
-  seg.code[0].labels.push(seg.entry);
+  seg.code[0].labels = [...seg.code[0].labels, seg.entry];
   carrier.entries.push(seg.entry);
   carrier.code = carrier.code.concat(seg.code);
 }
@@ -71,9 +71,11 @@ function name(segs) {
 }
 // Gives the labels of a segment that are aimed at their names.
 function label(seg) {
-  const aimed = new Set(seg.code.filter(c => BRANCHES.includes(c.op)).map(c => c.arg).concat(seg.entries ?? []));
+  const aimed = new Set(seg.entries);
+  for (const {op, arg} of seg.code) if (BRANCHES.has(op)) aimed.add(arg);
   let n = 0;
   for (const card of seg.code) {
+    if (card.labels === NONE) continue;
     const labels = card.labels.filter(it => aimed.has(it));
     if (labels.length) { card.label = `L${++n}`; for (const it of labels) it.name = card.label; }
   }
@@ -94,7 +96,7 @@ const couple = cell => typeof cell === 'string' ? cell : `${cell.seg.level},${di
 // The operand of a card.
 function operand({op, arg}) {
   if (arg === undefined) return '';
-  if (BRANCHES.includes(op)) return ' ' + arg.name;
+  if (BRANCHES.has(op)) return ' ' + arg.name;
   if (op === 'MPCW') return ' ' + (arg.carrier ? `${arg.carrier.card}:${arg.entry.name}` : arg.card);
   return ' ' + (op === 'VALC' || op === 'NAMC' ? couple(arg) : arg);
 }

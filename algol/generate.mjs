@@ -1,6 +1,6 @@
 // Makes the operators of each segment from a checked tree.
 
-import {Seg} from './segments.mjs';
+import {NONE, Seg} from './segments.mjs';
 import {constant} from './constant.mjs';
 import {isGeneric, leaves} from './pass.mjs';
 
@@ -38,7 +38,7 @@ export class Generator {
   // Appends an operator to the segment in hand; the labels that wait stand before it. ENTR leaves as many words as `left`.
   emit(op, arg, left = 0) {
     const {seg} = this;
-    seg.code.push({op, arg, line: this.line, labels: seg.waiting.splice(0)});
+    seg.code.push({op, arg, line: this.line, labels: seg.waiting.length ? seg.waiting.splice(0) : NONE});
     if (op === 'MKST') { seg.open.push(0); seg.height++; return; }
     if (op === 'ENTR') { seg.height -= seg.open.pop() + 1; this.grow(left); } else this.grow(GROWTH[op] ?? 0);
   }

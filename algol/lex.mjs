@@ -36,10 +36,12 @@ class Lexer {
   put(t, v, place) { this.tokens.push({t, v, ...place}); }
   // Reads the whole text.
   all() {
-    while (this.at < this.text.length) {
-      const blankBefore = !this.text.slice(this.start, this.at).trim();
-      if (/\s/.test(this.text[this.at])) this.next();
-      else if (this.text[this.at] === '$' && blankBefore) this.option();
+    for (;;) {
+      this.match(/[^\S\n]+/y);
+      if (this.at >= this.text.length) break;
+      const c = this.text[this.at];
+      if (c === '\n') this.next();
+      else if (c === '$' && !this.text.slice(this.start, this.at).trim()) this.option();
       else this.token();
     }
     this.put('eof', null, this.here());

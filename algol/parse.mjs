@@ -2,8 +2,9 @@
 
 const DEEPEST = 300;
 const STOP = Symbol('stop');
-const LEVELS = [['eqv'], ['imp'], ['or'], ['and']];
-const RELATIONS = ['<', '<=', '=', '>=', '>', '<>'];
+// How strongly operators bind.
+const [NOT, RELATION, SUM] = [5, 6, 7];
+const RANKS = {eqv: 1, imp: 2, or: 3, and: 4, '<': RELATION, '<=': RELATION, '=': RELATION, '>=': RELATION, '>': RELATION, '<>': RELATION, '+': SUM, '-': SUM, '*': 8, div: 8, mod: 8, '^': 9};
 const TYPES = ['integer', 'boolean'];
 // What can begin a declaration or a specification, besides the types.
 const BEGINNINGS = ['procedure', 'real', 'array', 'own', 'switch', 'string', 'label'];
@@ -12,9 +13,15 @@ const NOT_HERE = {
   string: '`string` is refused: the machine prints numbers only.',
   array: 'An array without a type is a real array: write `integer array` or `Boolean array`.'};
 
+// Makes a node deeper than a part of it, or than each of a list.
+function deepen(node, part) {
+  if (Array.isArray(part)) for (const one of part) deepen(node, one);
+  else if (part?.d >= node.d) node.d = part.d + 1;
+}
+
 export class Parser {
   // Sets out on tokens; `fail(at, sentence)` takes each error.
-  constructor(tokens, fail) { Object.assign(this, {tokens, fail, at: 0, depth: 0}); }
+  constructor(tokens, fail) { Object.assign(this, {tokens, fail, at: 0, depth: 0, blocks: [{decls: [], late: false}]}); }
   // The token in hand, and the kind of a later one.
   get tok() { return this.tokens[this.at]; }
   peek(n = 1) { return this.tokens[Math.min(this.at + n, this.tokens.length - 1)].t; }
@@ -25,7 +32,10 @@ export class Parser {
   // Takes it if it is of this kind.
   may(t) { return this.is(t) ? this.take() : null; }
   // Takes a token of this kind, or gives up the statement.
-  must(t, where) { return this.may(t) ?? this.stop(`Here ${t === 'id' ? 'an identifier' : `\`${t}\``} is wanted${where ? ' ' + where : ''}, not ${this.shown()}.`); }
+  must(t, where) {
+    const word = t === 'id' && /^[a-z]/.test(this.tok.t) && this.tok.t !== 'num' && this.tok.t !== 'eof';
+    return this.may(t) ?? this.stop(`Here ${t === 'id' ? 'an identifier' : `\`${t}\``} is wanted${where ? ' ' + where : ''}, not ${this.shown()}${word ? ', which is a word of the language' : ''}.`);
+  }
   // The token in hand as a message shows it.
   shown() { const {t, v} = this.tok; return t === 'eof' ? 'the end of the text' : `\`${v ?? t}\``; }
   // Tells an error and gives up what is being parsed.
@@ -33,7 +43,7 @@ export class Parser {
   // Makes a node; `d` is the depth of its tree.
   node(k, at, more) {
     const found = {k, line: at.line, col: at.col, d: 1, ...more};
-    for (const part of Object.values(found).flat()) if (part?.d >= found.d) found.d = part.d + 1;
+    for (const key in more) deepen(found, more[key]);
     if (found.d > 2 * DEEPEST) this.stop('This is too long or too deep: divide it.', at);
     return found;
   }
@@ -44,8 +54,9 @@ export class Parser {
   }
   // Parses a part; after an error passes on to a semicolon, or an `end` of this block.
   guarded(parse) {
-    const from = this.at;
+    const from = this.at, blocks = this.blocks.length;
     try { return parse(); } catch (e) { if (e !== STOP) throw e; }
+    this.blocks.length = blocks;
     if (this.at === from) this.take();
     for (let nest = 0; !this.is('eof'); this.take()) {
       if (this.is('begin')) nest++;
@@ -67,12 +78,14 @@ export class Parser {
   // A block or a compound statement; one without declarations is a compound statement.
   block() {
     const at = this.must('begin'), decls = [], stmts = [];
+    this.blocks.push({decls, late: false});
     while (this.is(...TYPES, ...BEGINNINGS)) {
       const found = this.guarded(() => this.declaration());
       for (const d of found ?? []) decls.push(d);
       if (!this.may(';')) break;
     }
     do stmts.push(this.guarded(() => this.statement()) ?? this.node('dummy', this.tok)); while (this.may(';') || this.astray());
+    this.blocks.pop();
     const end = this.may('end') ?? (this.fail(this.tok, `The \`begin\` of line ${at.line} has no \`end\`.`), this.tok);
     return this.node('block', at, {decls, stmts, end: end.line});
   }
@@ -190,16 +203,23 @@ export class Parser {
       case 'go': case 'goto': return this.jump();
       case 'process': return this.node('drop', at, {expr: this.primary()});
       case ';': case 'end': case 'else': case 'eof': return this.node('dummy', at);
-      case 'id': return this.peek() === ':=' || this.peek() === '[' ? this.assignment() : this.node('call', at, {expr: this.primary()});
+      case 'id': return this.peek() === ':=' || this.peek() === '[' ? this.assignment() : this.called(at);
       case 'integer': case 'boolean': case 'procedure': case 'real': case 'own': case 'array': case 'switch': case 'label': case 'string': return this.late();
       default: return this.stop(`A statement cannot begin with ${this.shown()}.`);
     }
   }
-  // A declaration among statements: refused, and passed over.
+  // A procedure statement.
+  called(at) {
+    const expr = this.primary();
+    if (this.is('=')) this.stop('An assignment is written `:=`.');
+    return this.node('call', at, {expr});
+  }
+  // A declaration among statements: the first one of a block is refused, and each is taken as if it stood at the beginning.
   late() {
-    const at = this.tok;
-    this.fail(at, 'Declarations stand before the statements of a block.');
-    this.declaration();
+    const at = this.tok, block = this.blocks.at(-1);
+    if (!block.late) this.fail(at, 'Declarations stand before the statements of a block.');
+    block.late = true;
+    for (const d of this.declaration()) block.decls.push(d);
     return this.node('dummy', at);
   }
   // A go to, with its designational expression.
@@ -250,49 +270,34 @@ export class Parser {
     return this.node('step', at, {from, step, until: this.expr()});
   }
   // An expression.
-  expr() { return this.deeper(() => this.is('if') ? this.choice() : this.logic(0)); }
+  expr() { return this.deeper(() => this.is('if') ? this.choice() : this.binary(1)); }
   // A conditional expression.
   choice() {
     const at = this.take(), cond = this.expr();
     this.must('then', 'after the condition');
     if (this.is('if')) this.stop('After `then` another `if` needs parentheses around it.');
-    const yes = this.deeper(() => this.logic(0));
+    const yes = this.deeper(() => this.binary(1));
     this.must('else', 'in an expression');
     return this.node('choice', at, {cond, yes, no: this.expr()});
   }
-  // A chain of operators of equal rank, from the left.
-  chain(kinds, operand) {
-    let left = operand();
-    while (this.is(...kinds)) {
+  // A chain of operators that bind at least as strongly as `least`; those of one rank from the left.
+  binary(least) {
+    let left = this.operand(least);
+    for (let rank; (rank = RANKS[this.tok.t]) >= least;) {
       const op = this.take();
-      left = this.node('bin', op, {op: op.t, a: left, b: operand()});
+      left = this.node('bin', op, {op: op.t, a: left, b: this.binary(rank + 1)});
+      if (rank === RELATION && RANKS[this.tok.t] === RELATION) this.stop('Relations cannot be chained: write `a < b and b < c`.');
     }
     return left;
   }
-  // The logical operators, from the weakest.
-  logic(n) { return n === LEVELS.length ? this.negation() : this.chain(LEVELS[n], () => this.logic(n + 1)); }
-  negation() {
-    const at = this.may('not');
-    return at ? this.deeper(() => this.node('un', at, {op: 'not', a: this.is('not') ? this.stop('`not not` needs parentheses.') : this.relation()})) : this.relation();
+  // What stands before the first operator: `not` only before a relation, a sign only before the first term of a sum.
+  operand(least) {
+    const at = this.tok;
+    if (least <= NOT && this.may('not')) return this.deeper(() => this.node('un', at, {op: 'not', a: this.is('not') ? this.stop('`not not` needs parentheses.') : this.binary(RELATION)}));
+    if (least > SUM || (at.t !== '+' && at.t !== '-')) return this.primary();
+    this.take();
+    return this.node('un', at, {op: at.t, a: this.binary(SUM + 1)});
   }
-  // A relation, or an arithmetic expression alone.
-  relation() {
-    const left = this.sum();
-    if (!this.is(...RELATIONS)) return left;
-    const op = this.take(), found = this.node('bin', op, {op: op.t, a: left, b: this.sum()});
-    if (this.is(...RELATIONS)) this.stop('Relations cannot be chained: write `a < b and b < c`.');
-    return found;
-  }
-  // Sums, products and powers; a sign stands before the first term alone.
-  sum() {
-    let signed = this.is('+', '-') ? this.take() : null;
-    return this.chain(['+', '-'], () => {
-      const at = signed, term = this.term();
-      signed = null;
-      return at ? this.node('un', at, {op: at.t, a: term}) : term;
-    });
-  }
-  term() { return this.chain(['*', 'div', 'mod'], () => this.chain(['^'], () => this.primary())); }
   // A number, a truth value, a variable, a call, or an expression in parentheses.
   primary() {
     const at = this.take();

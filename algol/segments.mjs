@@ -3,6 +3,9 @@
 // The parts of a record, in the order in which its cells are made.
 export const PARTS = ['param', 'pcw', 'var', 'array'];
 
+// The labels of an operator that has none.
+export const NONE = Object.freeze([]);
+
 // A segment to be: the program, a procedure, a thunk, or a block with arrays.
 export class Seg {
   constructor(kind, name, parent, at) {

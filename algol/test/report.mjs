@@ -2,7 +2,7 @@
 // even the reading of the text. Procedures follow the copy rule: what a name parameter stands for is worked out in the place of the call,
 // anew each time. It has no tasks, and what it is given is right: it looks for no mistakes.
 
-const GREATEST = 549755813887, MOST_STEPS = 300000;
+const GREATEST = 549755813887, MOST_STEPS = 100000;
 const WORDS = new Set(('begin end if then else for step until while do go to goto procedure value integer boolean array true false and or not imp eqv div mod own switch label comment').split(' '));
 const TYPES = ['integer', 'boolean'];
 
@@ -20,6 +20,7 @@ function tokensOf(text) {
   const tokens = [], data = [];
   const source = text.replace(/^[ \t]*\$(\w+)(.*)$/gm, (line, word, rest) => {
     if (/data/i.test(word)) data.push(...rest.trim().split(/\s+/).map(Number));
+    if (/text/i.test(word)) data.push(...Array.from(rest.slice(1), c => c.charCodeAt(0)), 10);
     return '';
   });
   const token = /[A-Za-z][A-Za-z0-9]*|\d+|:=|<=|>=|<>|\*\*|[-+*^<>=();:,[\]]/g;
