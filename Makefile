@@ -11,7 +11,7 @@ DECK = decks/sum/stdin
 CORE = 4096
 ARCHIVE = out/b67-$(shell sed -n 's/^version: //p' CITATION.cff).tar.gz
 PARTS = bash tools/before-landing.sh
-TESTS = decks rows tracer modules scripts
+TESTS = decks rows algol tracer modules scripts
 LINTS = python shell manual house signatures premises links names made mends
 
 .PHONY: help try build prove gate test page page-test lint fill release install uninstall land
@@ -35,7 +35,7 @@ prove: ## proves one crate, and the crates below it: make prove CRATE=b67_area
 gate: ## proves all, tries wrong bodies, runs tests and programs: one to two hours
 	.ci/run
 
-test: $(PROGRAM) ## decks, rows, the tracer, the page's modules, and each script called carelessly
+test: $(PROGRAM) ## decks, rows, ALGOL, the tracer, the page's modules, and each script called carelessly
 	$(PARTS) $(TESTS:%=--only %) "$(PROGRAM)"
 
 page: ## joins web/src into web/b67.html; MODULE=new makes the machine in it too, of the proved crates

@@ -11,8 +11,8 @@
 # changed. Of a part that failed the last thirty lines are shown.
 [ -n "${BASH_VERSION:-}" ] || { echo "usage: bash tools/before-landing.sh --list, or PROGRAM" >&2; exit 2; }
 set -u
-parts='gate rows decks tracer modules scripts documents python shell manual house signatures premises links names made page browser release edits mends'
-with_program=' decks modules scripts documents page browser release '
+parts='gate rows decks algol tracer modules scripts documents python shell manual house signatures premises links names made page browser release edits mends'
+with_program=' decks algol modules scripts documents page browser release '
 usage() {
     printf '%s\nusage: bash tools/before-landing.sh [--skip PART].. [--only PART].. [--since COMMIT] [PROGRAM]\nparts: %s\n' "$1" "$parts" >&2
     exit 2
@@ -22,6 +22,7 @@ means() {
     gate) echo 'rt ci: proofs, tests, must-fail edits, programs; one to two hours' ;;
     rows) echo 'the rows of b67_rows by the reference' ;;
     decks) echo 'the decks over the built program' ;;
+    algol) echo 'the translator from ALGOL 60: its programs and exercises over the built program' ;;
     tracer) echo "the tracer's lines over the decks" ;;
     modules) echo "the page's modules, by node's test runner" ;;
     house) echo 'tools/house.py: no count above its bound' ;;
@@ -97,6 +98,7 @@ echo 'room for what is said' >"$room/log" || exit 2
 gate() { .ci/run; }
 rows() { python3 reference/compare_rows.py reference crates/b67_rows/data; }
 decks() { sh decks/run.sh "$program"; }
+algol() { sh tools/check-algol.sh "$program"; }
 tracer() { sh tools/check-trace.sh; }
 house() { python3 tools/house.py; }
 signatures() { python3 tools/signatures.py; }
