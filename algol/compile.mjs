@@ -27,8 +27,8 @@ class Told {
 
 // The segments of a text, and what its `$` lines say; null if there are errors.
 function segmentsFrom(text, fail, warn, errors) {
-  const {tokens, options} = lex(text, fail, warn), tree = new Parser(tokens, fail).program();
-  const checker = new Checker(fail, errors.list.length > 0);
+  const {tokens, options} = lex(text, fail, warn), parser = new Parser(tokens, fail), tree = parser.program();
+  const checker = new Checker(fail, parser.lost);
   checker.program(tree);
   new Passing(checker).all();
   if (errors.list.length) return null;

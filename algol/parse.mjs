@@ -20,8 +20,8 @@ function deepen(node, part) {
 }
 
 export class Parser {
-  // Sets out on tokens; `fail(at, sentence)` takes each error.
-  constructor(tokens, fail) { Object.assign(this, {tokens, fail, at: 0, depth: 0, blocks: [{decls: [], late: false}]}); }
+  // Sets out on tokens; `fail(at, sentence)` takes each error. Something is `lost` if what followed an error was passed over.
+  constructor(tokens, fail) { Object.assign(this, {tokens, fail, at: 0, depth: 0, lost: false, blocks: [{decls: [], late: false}]}); }
   // The token in hand, and the kind of a later one.
   get tok() { return this.tokens[this.at]; }
   peek(n = 1) { return this.tokens[Math.min(this.at + n, this.tokens.length - 1)].t; }
@@ -57,6 +57,7 @@ export class Parser {
     const from = this.at, blocks = this.blocks.length;
     try { return parse(); } catch (e) { if (e !== STOP) throw e; }
     this.blocks.length = blocks;
+    this.lost = true;
     if (this.at === from) this.take();
     for (let nest = 0; !this.is('eof'); this.take()) {
       if (this.is('begin')) nest++;
@@ -72,6 +73,7 @@ export class Parser {
     if (at !== this.tok || this.is('eof')) this.fail(at, 'A program is one block: it begins with `begin`.');
     const tree = this.is('eof') ? this.node('block', at, {decls: [], stmts: []}) : this.guarded(() => this.block()) ?? this.node('block', at, {decls: [], stmts: []});
     this.may(';');
+    if (!this.is('eof')) this.lost = true;
     if (!this.is('eof')) this.fail(this.tok, 'The program has ended before this: one `end` is too many, or a `begin` is missing.');
     return tree;
   }
