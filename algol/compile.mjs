@@ -32,7 +32,7 @@ function segmentsFrom(text, fail, warn, errors) {
   checker.program(tree);
   new Passing(checker).all();
   if (errors.list.length) return null;
-  const made = new Generator(checker.arrays.filter(d => d.own)).program(tree), tasks = checker.processes.flatMap(call => segmentsOf(call.sym));
+  const made = new Generator(checker.arrays.filter(d => d.own), tokens).program(tree), tasks = checker.processes.flatMap(call => segmentsOf(call.sym));
   options.stack ??= stackFor([tree.seg, ...tasks], tasks.length > 0);
   const segs = finish(made);
   limits(segs, fail);
@@ -53,7 +53,7 @@ export function compile(text, {names = false} = {}) {
 }
 
 // The segments as a picture wants them: of one that is carried by another, where it begins.
-const segmentsTold = segs => segs.map(seg => ({name: (seg.carrier ?? seg).card, entry: seg.entry?.name ?? '', kind: seg.kind, level: seg.level, line: seg.line, card: (seg.carrier ?? seg).at}));
+const segmentsTold = segs => segs.map(seg => ({name: (seg.carrier ?? seg).card, entry: seg.entry?.name ?? '', kind: seg.kind, level: seg.level, line: seg.line, text: seg.text ?? seg.name, card: (seg.carrier ?? seg).at}));
 
 // The cells of all segments, for a picture that shows variables by name.
 const cellsOf = segs => segs.flatMap(seg => PARTS.flatMap(part => seg.parts[part]).map(cell => ({segment: (seg.carrier ?? seg).card, level: seg.level, displacement: displacement(cell),

@@ -2,12 +2,12 @@
 
 import {displacement, NONE, PARTS} from './segments.mjs';
 
-const [MOST_SEGMENTS, MOST_ENTRIES, MOST_WORDS, MOST_LEVEL, MOST_OF_CARD] = [255, 255, 8191, 31, 80];
+const [MOST_SEGMENTS, MOST_ENTRIES, MOST_WORDS, MOST_LEVEL, MOST_OF_CARD, MOST_OF_NAME] = [255, 255, 8191, 31, 80, 24];
 const LITERALS = new Set(['LT48', 'MPCW']);
 const BRANCHES = new Set(['BRUN', 'BRTR', 'BRFL']);
 // How segments are called that have no name in the program, and what their heading says.
 const NAMES = {thunk: 'T', block: 'BLOCK', label: 'LABEL', switch: 'SWITCH'};
-const HEADINGS = {procedure: seg => `procedure ${seg.name}`, wrapper: seg => `${seg.name} with arguments by name`, thunk: () => 'an argument by name', block: () => 'a block with arrays',
+const HEADINGS = {procedure: seg => `procedure ${seg.name}`, wrapper: seg => `${seg.name} with arguments by name`, thunk: seg => `${seg.text}, by name`, block: () => 'a block with arrays',
   label: () => 'a label as an argument', switch: () => 'a switch as an argument', program: () => 'the outer block'};
 
 // The greatest displacement of a couple in a segment of this level.
@@ -142,7 +142,10 @@ class Writer {
     for (const entry of seg.entries ?? []) this.card(`ENTRY ${entry.name}`, '', 0);
   }
   cellNames(seg) {
-    for (const cell of PARTS.flatMap(part => seg.parts[part])) if (!cell.name.includes(' ')) this.card(`; CELL ${cell.name.toLowerCase().slice(0, 16)} ${couple(cell)}`, '', 0);
+    for (const cell of PARTS.flatMap(part => seg.parts[part])) {
+      const thunk = cell.target && cell.target.kind !== 'procedure';
+      if (thunk || !cell.name.includes(' ')) this.card(`; CELL ${cell.name.replaceAll(' ', '_').slice(0, MOST_OF_NAME)} ${couple(cell)}`, '', 0);
+    }
   }
   // One operator, with the cell that it makes or the line that it comes from.
   operator(card) {

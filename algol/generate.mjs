@@ -13,8 +13,8 @@ const GROWTH = {VALC: 1, NAMC: 1, ZERO: 1, ONE: 1, LT8: 1, LT16: 1, LT48: 1, DUP
 const INTRINSICS = {print: 9, printrow: 10, read: 11, await: 13, status: 14, wait: 15, cause: 16};
 
 export class Generator {
-  // Sets out; `own` are the arrays that the outer block makes for others.
-  constructor(own = []) { Object.assign(this, {own, segs: [], seg: null, line: 0, power: null}); }
+  // Sets out; `own` are the arrays that the outer block makes for others, `tokens` those of the text.
+  constructor(own = [], tokens = []) { Object.assign(this, {own, tokens, segs: [], seg: null, line: 0, power: null}); }
   // The segments of a program, the outer block first.
   program(tree) {
     this.within(tree.seg, () => {
@@ -588,7 +588,8 @@ export class Generator {
   // The cell of a thunk: a procedure that returns the value of an argument, or the address if the parameter is assigned to. That of a label or a switch goes there.
   thunk(p, a) {
     const kind = p.mode === 'label' || p.mode === 'switch' ? p.mode : 'thunk';
-    const seg = new Seg(kind, kind === 'thunk' ? 'T' : kind, this.seg, a), cell = this.seg.cell('pcw', `argument of line ${a.line}`, {target: seg, line: a.line});
+    const seg = new Seg(kind, kind === 'thunk' ? 'T' : kind, this.seg, a), cell = this.seg.cell('pcw', this.textOf(a), {target: seg, line: a.line});
+    seg.text = cell.name;
     if (a.unit) a.unit.seg = seg;
     this.within(seg, () => {
       if (kind === 'label') { this.designate(a); return this.emit('EXIT'); }
@@ -599,6 +600,11 @@ export class Generator {
       this.emit('RETN');
     });
     return cell;
+  }
+  // An argument as it is written, without most spaces.
+  textOf({span}) {
+    const words = span ? this.tokens.slice(...span).map(tok => String(tok.v ?? tok.t)) : [];
+    return words.join(' ').replace(/ ?([^\w ]+) ?/g, '$1') || 'argument';
   }
   // What the MCP does, and the standard functions.
   builtin(e) {

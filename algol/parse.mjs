@@ -311,6 +311,12 @@ export class Parser {
     if (at.t !== 'eof') this.at--;
     return this.stop(`An expression is wanted here, not ${this.shown()}.`, at);
   }
+  // An argument, with the tokens of which it is made.
+  argument() {
+    const from = this.at, found = this.expr();
+    found.span = [from, this.at];
+    return found;
+  }
   // An identifier with what follows it: arguments, a subscript, or nothing.
   named(at) {
     if (this.may('[')) {
@@ -321,7 +327,7 @@ export class Parser {
     }
     if (!this.may('(')) return this.node('id', at, {name: at.v});
     const args = [];
-    do args.push(this.expr()); while (this.may(',') || this.delimiter());
+    do args.push(this.argument()); while (this.may(',') || this.delimiter());
     this.must(')', 'after the arguments');
     return this.node('fun', at, {name: at.v, args});
   }

@@ -6,6 +6,7 @@ if MODULE, a page, isn't what its module and the sources give.
 Nine lines of page.html are placeholders. Each is replaced by a text, and nothing else is changed:
 - @STYLE@: page.css;
 - @DECKS@: for each deck of decks/ that is run, a line `#DECK NAME CORE`, a line `#ABOUT` with the first line of its README, and its cards;
+  then so the programs in ALGOL 60 that ALGOL names, as `algol-NAME`;
 - @MESSAGES@: the headings and the rows of tables of docs/MESSAGES.md;
 - @OPERATORS@: the tables of operators and intrinsics of docs/MACHINE.md, sections 11 and 12;
 - @GLOSSARY@: the rows of tables of docs/GLOSSARY.md;
@@ -26,6 +27,26 @@ SOURCES = WEB / "src"
 TOP = WEB.parent
 ESBUILD = "0.17.0"  # the version of Debian 12; another one may give other bytes
 ABOUT = {"ten": "An array of 100 words: how few words of core will do?"}  # in place of a README's line that names a file or tells an answer
+# programs in ALGOL 60 of algol/programs that stand in the list of decks, and what they show
+ALGOL = {
+    "sum": "A sum over the elements of an array: the term is called by name.",
+    "manboy": "Man or Boy, with k = 10: each B must find the k of its own A.",
+    "jensen2": "Jensen's device: a sum of sums, and a sum whose variable is an element.",
+    "swap": "swap(i, A[i]) by name does not swap.",
+    "order": "What is worked out first: subscripts on the left, then the value.",
+    "ackermann": "Ackermann's function: deep recursion.",
+    "quicksort": "Quicksort of the numbers that read gives.",
+    "sieve": "Primes: an array whose bounds are worked out.",
+    "queens": "Eight queens: 92 ways.",
+    "matrix": "Arrays of two dimensions, also by value.",
+    "threelevels": "Procedures as parameters, through three levels.",
+    "leave": "Go tos out of procedures, labels and switches as parameters.",
+    "calculator": "An interpreter of arithmetic: each line of $TEXT is worked out.",
+    "pl0": "A translator and an interpreter of PL/0, which pages in its least core.",
+    "producer": "A producer and a consumer: two tasks that wait and cause.",
+    "dining": "Five philosophers, who wait for ever.",
+    "bank": "Two tasks that move money, one at a time.",
+}
 OPTIONS = ["--bundle", "--format=iife", "--charset=utf8", "--target=es2022", "--log-level=error"]
 
 
@@ -46,6 +67,8 @@ def decks():
             about = ABOUT.get(folder.name) or (folder / "README").read_text(encoding="utf-8").split("\n")[0]
             cards = (folder / "stdin").read_text(encoding="utf-8")
             parts.append(f"#DECK {folder.name} {words[2]}\n#ABOUT {about}\n{cards}" + "\n" * (not cards.endswith("\n")))
+    for name, about in ALGOL.items():
+        parts.append(f"#DECK algol-{name} 4096\n#ABOUT {about}\n" + (TOP / f"algol/programs/{name}.alg").read_text(encoding="utf-8"))
     return "".join(parts)
 
 

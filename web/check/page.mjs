@@ -1,10 +1,11 @@
 // The page in a browser without a window: node page.mjs BROWSER PAGE PROGRAM DECKS [FOLDER], called by tools/check-page.sh. BROWSER is
 // Chromium's program, Firefox's, or WebKit's MiniBrowser.
 //
-// Tries the parts that decks.mjs, inputs.mjs and course.mjs have, or those that TRIES names. With FOLDER it also writes pictures there.
+// Tries the parts that decks.mjs, inputs.mjs, course.mjs and algol.mjs have, or those that TRIES names. With FOLDER it also writes pictures there.
 // Prints each difference, each complaint of the console, and at last `N the same, M different`.
 import fs from 'node:fs';
 import path from 'node:path';
+import {algol} from './algol.mjs';
 import {course, sheets} from './course.mjs';
 import {aloud, each_deck, follows, pinned, signs, two_cores} from './decks.mjs';
 import {bad_input, faults, keeps, long_decks, mistakes, names, policies} from './inputs.mjs';
@@ -33,7 +34,7 @@ async function without_wasm(it) {
 }
 
 async function tries_all(it) {
-  const parts = {each_deck, two_cores, follows, signs, pinned, aloud, bad_input, faults, mistakes, names, keeps, long_decks, course, sheets, ...(it.isChromium ? {policies} : {}), ...(pictures ? {takes_pictures} : {})};
+  const parts = {each_deck, two_cores, follows, signs, pinned, aloud, bad_input, faults, mistakes, names, keeps, long_decks, course, sheets, algol, ...(it.isChromium ? {policies} : {}), ...(pictures ? {takes_pictures} : {})};
   const named = process.env.TRIES?.split(',');
   await it.starts();
   for (const [name, part] of Object.entries(parts)) if (!named || named.includes(name)) await part(it);

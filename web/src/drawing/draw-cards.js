@@ -3,6 +3,7 @@ import {element, put, putKept, taskClass} from '../page/elements.js';
 import {cardsOf} from '../reader/cards.js';
 import {cardKey} from '../machine/search.js';
 import {explained} from '../words/messages.js';
+import {thunkAt} from '../algol/translation.js';
 
 const [MOST_ROWS, PART] = [1000, 300]; // of a long deck a part has rows, that around the card that is made
 const lists = new WeakMap(); // by its box: the cards, what makes their rows, and which ones have rows
@@ -87,17 +88,22 @@ export function markCards(box, state, stops, faulty) {
   if (moved && shown && (at < scrollTop + 20 || at > scrollTop + clientHeight - 60)) box.scrollTop = at - clientHeight / 2;
 }
 
-// The text in ALGOL beside the cards: the line of the operator just made, and that of the next one.
-export function showAlgol(box, {algol, state}) {
+// The text in ALGOL beside the cards: the line of the operator just made, and that of the next one; a click at a line sets a breakpoint
+// where it begins. In a thunk it says what is worked out.
+export function showAlgol(box, {algol, state, stops}, stopsAt) {
   box.parentNode.hidden = !algol;
   if (!algol) return;
-  if (box.dataset.text !== algol.lines[0] + algol.lines.length) put(box, algol.lines.map(line => element('li', {}, line)));
+  if (box.dataset.text !== algol.lines[0] + algol.lines.length) put(box, algol.lines.map((line, k) => element('li', {onclick: algol.firsts ? () => stopsAt(k) : undefined}, line)));
   box.dataset.text = algol.lines[0] + algol.lines.length;
   const [now, next] = [state.operator, state.next].map(it => box.children[algol.cards.get(it?.card)]);
-  for (const row of box.children) {
+  const thunk = thunkAt(algol, state.operator?.card);
+  put(box.parentNode.querySelector('#thunk'), thunk ? `thunk: works out ${thunk.text}, line ${thunk.line}` : '');
+  [...box.children].forEach((row, k) => {
     row.classList.toggle('now', row === now);
     row.classList.toggle('next', row === next);
-  }
+    row.classList.toggle('thunk', Boolean(thunk));
+    row.classList.toggle('stopped', Boolean(algol.firsts?.[k]?.some(key => stops.has(key))));
+  });
   const {scrollTop, clientHeight} = box, shown = now ?? next;
   if (shown && (shown.offsetTop < scrollTop || shown.offsetTop > scrollTop + clientHeight - 24)) box.scrollTop = shown.offsetTop - clientHeight / 2;
 }

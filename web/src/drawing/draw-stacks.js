@@ -19,7 +19,8 @@ function textAt(x, y, kind, ...text) {
 function shownText(cell) {
   const intrinsic = cell.kind === 'NAME' && /^0,/.test(cell.text) ? ` ${INTRINSICS[cell.text.slice(2)] ?? ''}` : '';
   const copy = cell.kind === 'ROW' || cell.kind === 'ELEMENT';
-  return `${cell.text}${intrinsic}${copy ? (cell.absent ? ' → original' : ' → core') : cell.tag === 5 && cell.absent ? ' · not in core' : ''}`;
+  const named = cell.kind === 'REF' && cell.toName ? ` = ${cell.toName}` : '';
+  return `${cell.text}${intrinsic}${named}${copy ? (cell.absent ? ' → original' : ' → core') : cell.tag === 5 && cell.absent ? ' · not in core' : ''}`;
 }
 
 function linkText(record) {

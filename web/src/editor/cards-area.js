@@ -22,7 +22,7 @@ export function partOf(text, card) {
 
 export class CardsArea {
   constructor() {
-    Object.assign(this, {before: '', after: '', first: 0, cards: 1, refused: 0});
+    Object.assign(this, {before: '', after: '', first: 0, cards: 1, refused: 0, wrong: new Set()});
   }
   get field() {
     return byId('deck');
@@ -111,7 +111,7 @@ export class CardsArea {
   draw() {
     const {scrollTop, clientHeight} = this.field, height = this.height(), top = Math.max(0, Math.floor(scrollTop / height) - MORE);
     const many = Math.min(this.part ?? 1, top + Math.ceil(clientHeight / height) + 2 * MORE + 1) - top, number = k => this.first + top + k + 1;
-    const numbers = Array.from({length: Math.max(0, many)}, (_, k) => element('div', {class: number(k) === this.refused ? 'refused' : undefined}, String(number(k))));
+    const numbers = Array.from({length: Math.max(0, many)}, (_, k) => element('div', {class: number(k) === this.refused ? 'refused' : this.wrong.has(number(k)) ? 'wrong' : undefined}, String(number(k))));
     put(byId('gutter'), element('div', {style: `transform:translateY(${top * height - scrollTop}px)`}, numbers));
   }
 }

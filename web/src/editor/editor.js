@@ -4,6 +4,8 @@ import {GROUPS, START} from '../page/decks.js';
 import {OwnDecks, saveFile} from './keep.js';
 import {MOST_OF_ADDRESS, packed} from './share.js';
 import {CardsArea} from './cards-area.js';
+import {AlgolView} from '../algol/algol-view.js';
+import {coreFor, isAlgol, START_ALGOL, translationOf} from '../algol/translation.js';
 import {showJobs, showRan} from '../page/deck-view.js';
 
 export const USUAL_CORE = 4096;
@@ -11,7 +13,7 @@ const KEEP_MILLISECONDS = 300;
 
 // The name of a deck's first job.
 function firstJob(text) {
-  return /^\?JOB +(\S+)/m.exec(text)?.[1] ?? '';
+  return /^[?$]JOB +(\S+)/m.exec(text)?.[1] ?? '';
 }
 
 // How a task is called for which a deck was written.
@@ -29,6 +31,7 @@ export class Editor {
   // the course for which a new deck is written.
   constructor(decks, storage, changed) {
     Object.assign(this, {decks, changed, own: new OwnDecks(storage), area: new CardsArea(), name: '', about: '', kept: Boolean(storage), task: ''});
+    this.algol = new AlgolView(this, deck => this.take(deck, 'The cards of a program in ALGOL 60.', this.name));
   }
 
   get text() {
@@ -69,6 +72,10 @@ export class Editor {
     byId('core').value = USUAL_CORE;
     this.take(START.text, START.about);
   }
+  beginAlgol() {
+    byId('core').value = START_ALGOL.core;
+    this.take(START_ALGOL.text, START_ALGOL.about);
+  }
 
   open(text, name, about) {
     Object.assign(this, {name, about});
@@ -80,6 +87,7 @@ export class Editor {
     byId('take').disabled = byId('resume').disabled = true;
     showJobs(text);
     byId('welcome').hidden = true;
+    this.algol.show('algol');
     this.changed();
   }
 
@@ -94,8 +102,14 @@ export class Editor {
       this.tell();
     }
     this.area.changed();
+    this.algol.soon();
     this.keepSoon();
     this.changed();
+  }
+
+  // A program that calls itself wants a great stack: core is made large enough for it, and never smaller.
+  fitsCore() {
+    if (isAlgol(this.text)) byId('core').value = Math.max(byId('core').value, coreFor(translationOf(this.text)));
   }
 
   keepSoon() {
@@ -129,7 +143,7 @@ export class Editor {
 
   save() {
     this.keepNow();
-    saveFile(this.text, `${(firstJob(this.text) || this.name).toLowerCase().replace(/[^a-z0-9_-]+/g, '-')}.deck`);
+    saveFile(this.text, `${(firstJob(this.text) || this.name).toLowerCase().replace(/[^a-z0-9_-]+/g, '-')}.${isAlgol(this.text) ? 'alg' : 'deck'}`);
   }
 
   // Removes the decks that were written for exercises; one of them that is open gives way to the first deck of the page.

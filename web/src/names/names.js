@@ -1,7 +1,7 @@
 // Names for cells. A line `CELL name level,displacement` in a program of ?ASM names a cell, and `VALC name` and `NAMC name` mean its
 // couple, up to the next CELL line of that name or the next ?JOB. The machine knows no names: a deck is given to it with couples, and
 // with each CELL line as a comment, so that each card keeps its number. From these comments the page knows the names of a picture.
-const [LINE, USE, COMMENT] = [/^\s*CELL(?=\s|$)/, /^(\s*(?:[A-Z][A-Z0-9]*:\s*)?(?:VALC|NAMC)\s+)([a-z][^\s;]*)(.*)$/, /^; CELL ([a-z][a-z0-9_]{0,15}) (\d+),(\d+)\s*(?:;.*)?$/];
+const [LINE, USE, COMMENT] = [/^\s*CELL(?=\s|$)/, /^(\s*(?:[A-Z][A-Z0-9]*:\s*)?(?:VALC|NAMC)\s+)([a-z][^\s;]*)(.*)$/, /^; CELL (\S{1,24}) (\d+),(\d+)\s*(?:;.*)?$/];
 const GIVEN = /^\s*CELL\s+(\S+)\s+(\d{1,2},\d{1,5})\s*(?:;.*)?$/;
 const [NAME, MOST_OF_CARD] = [/^[a-z][a-z0-9_]{0,15}$/, 80];
 

@@ -27,7 +27,7 @@ export class Commands {
     this.ran = {status: result.status, text: result.text};
     if (result.status === 2 && !refusedOf) result.place = await this.placeOf(text, result.text);
     const refused = showResult(page.rows, {words, ...result, byHand: /^\?HEX/m.test(text), word: refusedWord(result.text, text), text: name === 'image' ? withoutImage(result.text) : result.text}, refusedOf);
-    page.editor.area.marks(refused, true);
+    page.marks(refused, true);
     if (result.status === 0 && /run|check/.test(name) && !hasJob(text)) page.say(NO_JOB);
     if (/^(run|resume|check)$/.test(name) && result.status < 4) await page.course.ran({words, text: resumes ? this.halted.text : text, result, core, halt: resumes ? this.halted.halt : null});
     return result;
@@ -45,7 +45,9 @@ export class Commands {
     const {page} = this;
     page.show('deck');
     return page.guard(async () => {
-      const core = page.core(), text = page.given(), result = await this.command(runWords(core), {text});
+      const text = page.given();
+      page.editor.fitsCore();
+      const core = page.core(), result = await this.command(runWords(core), {text});
       await this.helps(text, core, result);
     });
   }
@@ -64,7 +66,7 @@ export class Commands {
       const found = await page.client.ask('fault', {deck: text, core});
       if (!found || text !== page.given()) return;
       showFault(page.rows, found, () => page.steps.step(found.count - 1));
-      page.editor.area.marks(found.operator.card || found.after);
+      page.marks(found.operator.card || found.after);
     };
     if (milliseconds < SOON_FOUND) await find();
     else offer('Find the operator of the first fault', () => page.guard(find));

@@ -8,6 +8,7 @@ export const GROUPS = [
   ['calls and names', ['factorial', 'levels', 'jensen', 'swap', 'names', 'manboy', 'mapproc', 'chain']],
   ['arrays and paging', ['two', 'ten', 'leave', 'lengths', 'turned', 'bst', 'forty', 'full']],
   ['tasks and jobs', ['shared', 'switched', 'order', 'family', 'event', 'producer', 'generator', 'status', 'dining', 'bank', 'bank2', 'quantum', 'jobs', 'rivals', 'eight', 'crowd']],
+  ['in ALGOL 60', ['sum', 'manboy', 'jensen2', 'swap', 'order', 'ackermann', 'quicksort', 'sieve', 'queens', 'matrix', 'threelevels', 'leave', 'calculator', 'pl0', 'producer', 'dining', 'bank'].map(name => `algol-${name}`)],
   ['faults and ends', ['fault', 'protect', 'critical', 'limit', 'halt']],
 ];
 

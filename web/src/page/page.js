@@ -14,6 +14,7 @@ import {helpLine, setLetters} from './keys.js';
 import {Lexicon} from '../words/lexicon.js';
 import {tablesOf} from '../words/messages.js';
 import {NamesRefused, withoutNames} from '../names/names.js';
+import {AlgolRefused, deckOf, isAlgol, lineOf} from '../algol/translation.js';
 import {perform, toggleLessons} from './acts.js';
 import {Places} from './places.js';
 import {SheetEditor} from '../course/sheet-view.js';
@@ -57,7 +58,7 @@ export class Page {
   }
 
   lists() {
-    put(byId('part'), [...this.decks.keys()].map(name => element('option', {value: name, selected: name === 'library'}, name)));
+    put(byId('part'), [...this.decks.keys()].filter(name => !name.startsWith('algol-')).map(name => element('option', {value: name, selected: name === 'library'}, name)));
     this.course.list();
     put(byId('help-line'), helpLine((act, way) => perform(this, act, way)));
     const letters = element('input', {type: 'checkbox', id: 'letter-keys', onchange: event => this.letterKeys(event.target.checked)});
@@ -105,6 +106,7 @@ export class Page {
       return await work();
     } catch (problem) {
       if (problem instanceof NamesRefused) this.refuses(problem);
+      else if (problem instanceof AlgolRefused) this.refusesAlgol(problem);
       else this.say(problem.message === STOPPED ? stoppedText(problem.seconds) : problem.message, problem.goes);
     } finally {
       this.working--;
@@ -115,6 +117,16 @@ export class Page {
     this.commands.ran = {status: 2, text: `${message}\n`};
     showRefusal(message);
     this.editor.area.marks(card, true);
+  }
+  refusesAlgol({errors, message}) {
+    this.show('deck');
+    showRefusal(message);
+    this.editor.algol.goes(errors[0]);
+  }
+  // Marks a card in the editor; of a program in ALGOL its line.
+  marks(card, selects) {
+    const {editor} = this;
+    editor.area.marks(card && isAlgol(editor.text) ? lineOf(editor.text, card) : card, selects);
   }
 
   // ------------------------------------------------------------ what is open
@@ -134,9 +146,14 @@ export class Page {
     if (this.shows('step')) return this.steps.step(this.steps.session.state.count, this.steps.session.other);
   }
 
-  // The deck of the editor as the machine gets it: with couples in the place of names.
+  // The deck of the editor: of a program in ALGOL the cards that it becomes.
+  deck() {
+    const {text} = this.editor;
+    return isAlgol(text) ? deckOf(text) : text;
+  }
+  // It as the machine gets it: with couples in the place of names.
   given() {
-    return withoutNames(this.editor.text);
+    return withoutNames(this.deck());
   }
 
   shows(view) {

@@ -44,7 +44,7 @@ function listenToDeck(page) {
     ...Object.fromEntries(['run', 'check', 'image', 'resume', 'exercise', 'bind', 'take'].map(name => [name, () => page.commands[name]()])),
     step: () => page.steps.step(), edit: () => page.show('deck'), two: () => perform(page, 'two'), 'help-button': () => perform(page, 'help'),
     'lessons-button': () => toggleLessons(page), link: () => page.places.link(), save: () => page.editor.save(), 'delete': () => page.editor.remove(),
-    'new': () => page.guard(() => page.places.leaves(() => page.editor.begin())), 'link-copy': () => copyLink(), 'put-numbers': () => putNumbers(page), stop: () => perform(page, 'escape'),
+    'new': () => page.guard(() => page.places.leaves(() => page.editor.begin())), 'new-algol': () => page.guard(() => page.places.leaves(() => page.editor.beginAlgol())), 'link-copy': () => copyLink(), 'put-numbers': () => putNumbers(page), stop: () => perform(page, 'escape'),
     'welcome-lesson': () => { location.hash = '#lesson:1'; }, 'welcome-step': () => page.steps.step(),
   };
   for (const [id, act] of Object.entries(clicks)) byId(id).onclick = act;
@@ -56,8 +56,9 @@ function listenToDeck(page) {
   byId('deck').oninput = () => page.editor.typed();
   document.addEventListener('selectionchange', () => showCardHelp(page));
   addEventListener('pagehide', () => page.editor.keepNow());
-  byId('deck').onscroll = () => page.editor.area.draw();
-  new ResizeObserver(() => page.editor.area.draw()).observe(byId('deck'));
+  const drawn = () => { page.editor.area.draw(); page.editor.algol.under(); };
+  byId('deck').onscroll = drawn;
+  new ResizeObserver(drawn).observe(byId('deck'));
   byId('job').onchange = () => { byId('numbers').value = numbersForRead(page.editor.text, Number(byId('job').value)); };
 }
 

@@ -119,7 +119,7 @@ function measured() {
 }
 
 // Draws all of a session's state.
-export function showMoment(session, view, rows, {act, ...ways}) {
+export function showMoment(session, view, rows, {act, stopsAt, ...ways}) {
   const {state, stops} = session, fault = faultShown(session), shown = state.remains ?? state;
   document.body.classList.toggle('two', Boolean(session.otherState));
   byId('pair').hidden = !session.otherState;
@@ -128,7 +128,7 @@ export function showMoment(session, view, rows, {act, ...ways}) {
   showFaultNote(fault, rows, act);
   const {stacks, line} = measured();
   markCards(byId('cards'), state, stops, faultyOf(fault));
-  showAlgol(byId('algol'), session);
+  showAlgol(byId('algol'), session, stopsAt);
   showPrinted(byId('printed'), state.lines, state.fresh.length);
   byId('stacks').classList.toggle('past', shown !== state);
   showStacks(byId('stacks'), shown, session.operators, {...view, wrong: new Set(fault?.wrongs.flatMap(it => it.cells))}, stacks);

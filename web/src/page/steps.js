@@ -3,6 +3,7 @@ import {byId} from './elements.js';
 import {perform} from './acts.js';
 import {cardKey} from '../machine/search.js';
 import {algolOf} from '../course/algol.js';
+import {algolBeside, isAlgol} from '../algol/translation.js';
 import {hasJob} from '../reader/cards.js';
 import {STOPPED} from './client.js';
 import {NO_JOB} from './commands.js';
@@ -53,7 +54,9 @@ export class Steps {
   // Steps through the deck of the editor: at a count, or where it was left if deck and core are the same.
   step(count, other) {
     return this.page.guard(async () => {
-      const core = this.page.core(), text = this.page.given(), kept = this.session?.text === text && this.session.core === core;
+      const text = this.page.given();
+      this.page.editor.fitsCore();
+      const core = this.page.core(), kept = this.session?.text === text && this.session.core === core;
       if (!kept && !await this.begins(text, core)) return;
       if (other !== undefined) this.session.other = other;
       await this.goTo(count ?? this.session.state?.count ?? 0);
@@ -65,7 +68,7 @@ export class Steps {
     const {page} = this, {editor} = page, {status} = await page.commands.command(['check'], {text, sectors: 1});
     if (status) return page.show('deck');
     if (!hasJob(text)) throw new Error(NO_JOB);
-    this.session = {text, core, raw: editor.text, name: editor.name, algol: algolOf(editor.name), code: await editor.addressed(), stops: new Set(), briefs: new Map(),
+    this.session = {text, core, raw: page.deck(), name: editor.name, algol: isAlgol(editor.text) ? algolBeside(editor.text) : algolOf(editor.name), code: await editor.addressed(), stops: new Set(), briefs: new Map(),
       states: new Map(), faults: new Map(), end: null, other: null, wanted: null, way: 1};
     Object.assign(this.view, {followed: '', walked: ''});
     const begun = await page.client.ask('operators', {deck: text, core});
@@ -235,7 +238,7 @@ export class Steps {
   draws() {
     const {page, session} = this;
     byId('what').title = page.lexicon.ofCard(session.state.operator?.text ?? '');
-    showMoment(session, this.view, page.rows, {act: act => perform(page, act), ...this.ways});
+    showMoment(session, this.view, page.rows, {act: act => perform(page, act), stopsAt: line => this.toggleLine(line), ...this.ways});
   }
   // The ways that lead from what is drawn: to the next of some counts, and to the next sign of a kind.
   get ways() {
@@ -274,6 +277,13 @@ export class Steps {
       this.drawing = null;
       if (this.shown) showLine(this.session, this.ways);
     }, 60);
+  }
+
+  // Sets breakpoints where a line of the text in ALGOL begins, or takes them away.
+  toggleLine(line) {
+    const {stops, algol} = this.session, keys = algol.firsts?.[line] ?? [], on = !keys.some(key => stops.has(key));
+    for (const key of keys) if (on) stops.add(key); else stops.delete(key);
+    this.redraw();
   }
 
   toggle(key) {
