@@ -1,6 +1,6 @@
 // The page's other parts, by data: expected values stand here, never from the program.
 import assert from 'node:assert/strict';
-import {readFileSync} from 'node:fs';
+import {existsSync, readFileSync} from 'node:fs';
 import {spawnSync} from 'node:child_process';
 import {test} from 'node:test';
 import {fileURLToPath} from 'node:url';
@@ -209,8 +209,9 @@ test('what a card’s operator does', () => {
 });
 
 test('each deck of the page is in one group', () => {
-  const grouped = GROUPS.flatMap(([, names]) => names);
-  assert.deepEqual(grouped.toSorted(), [START, ...decks()].map(deck => deck.name).toSorted());
+  const grouped = GROUPS.flatMap(([, names]) => names), isAlgol = name => name.startsWith('algol-');
+  assert.deepEqual(grouped.filter(name => !isAlgol(name)).toSorted(), [START, ...decks()].map(deck => deck.name).toSorted());
+  for (const name of grouped.filter(isAlgol)) assert.ok(existsSync(new URL(`../../algol/programs/${name.slice(6)}.alg`, import.meta.url)), name);
 });
 
 test('what is followed', () => {
