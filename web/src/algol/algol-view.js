@@ -64,14 +64,15 @@ export class AlgolView {
     area.field.setSelectionRange(from, from + (/^\w+/.exec(area.field.value.slice(from))?.[0].length ?? 1));
   }
 
-  // The first mistake of each line that is in view: a mark under it, and its sentence under the line.
+  // The first mistake of each line that is in view: a mark under it, and its sentence under the line, behind what the next line has.
   under() {
-    const {area} = this.editor, {field} = area, height = area.height(), letter = letterWidth(field), seen = new Set();
+    const {area} = this.editor, {field} = area, height = area.height(), letter = letterWidth(field), seen = new Set(), rows = field.value.split('\n');
     const marks = byId('deck').hidden || !this.on ? [] : (this.mistakes ?? []).filter(it => !seen.has(it.line) && seen.add(it.line)).flatMap(it => {
       const top = (it.line - area.first) * height - field.scrollTop + field.offsetTop + parseFloat(getComputedStyle(field).paddingTop);
       if (top < field.offsetTop || top > field.offsetTop + field.clientHeight) return [];
       const left = field.offsetLeft + parseFloat(getComputedStyle(field).paddingLeft) + (it.col - 1) * letter - field.scrollLeft;
-      return [element('div', {class: `mistake ${it.kind}`, style: `top:${top}px;left:${Math.max(field.offsetLeft, left)}px`}, element('span', {}, it.text))];
+      const behind = Math.max(0, (rows[it.line - area.first] ?? '').length + 2 - it.col) * letter;
+      return [element('div', {class: `mistake ${it.kind}`, style: `top:${top}px;left:${Math.max(field.offsetLeft, left)}px`}, element('span', {style: `margin-left:${behind}px`}, it.text))];
     });
     put(byId('under'), marks);
   }
