@@ -52,8 +52,8 @@ export function compile(text, {names = false} = {}) {
   return done({deck, lines: Array.from(lines, it => it ?? []), cells: cellsOf(found.made), segments: segmentsTold(found.made), stack: found.options.stack});
 }
 
-// The segments as a picture wants them: of one that is carried by another, where it begins.
-const segmentsTold = segs => segs.map(seg => ({name: (seg.carrier ?? seg).card, entry: seg.entry?.name ?? '', kind: seg.kind, level: seg.level, line: seg.line, text: seg.text ?? seg.name, card: (seg.carrier ?? seg).at}));
+// The segments as a picture wants them: `card` is that before their first operator, also of one that is carried by another.
+const segmentsTold = segs => segs.map(seg => ({name: (seg.carrier ?? seg).card, entry: seg.entry?.name ?? '', kind: seg.kind, level: seg.level, line: seg.line, text: seg.text ?? seg.name, card: seg.at}));
 
 // The cells of all segments, for a picture that shows variables by name.
 const cellsOf = segs => segs.flatMap(seg => PARTS.flatMap(part => seg.parts[part]).map(cell => ({segment: (seg.carrier ?? seg).card, level: seg.level, displacement: displacement(cell),

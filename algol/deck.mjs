@@ -54,6 +54,7 @@ function carry(carrier, seg) {
   seg.carrier = carrier;
   seg.entry = {};
   seg.code[0].labels = [...seg.code[0].labels, seg.entry];
+  seg.code[0].begins = seg;
   carrier.entries.push(seg.entry);
   carrier.code = carrier.code.concat(seg.code);
 }
@@ -149,6 +150,7 @@ class Writer {
   }
   // One operator, with the cell that it makes or the line that it comes from.
   operator(card) {
+    if (card.begins) card.begins.at = this.cards.length;
     const text = `${card.label ? card.label + ': ' : ''}${card.op}${operand(card)}`, cell = card.makes, alone = cell && card.op !== 'ENTR' && cell.at === undefined;
     const comment = this.comment(card.line);
     this.card(text, [cell && `${couple(cell)} ${cell.name}`, alone ? '' : comment].filter(Boolean).join('; '), card.line);

@@ -7,6 +7,7 @@ usage() {
     printf '%s\nusage: sh tools/check-algol.sh PROGRAM [COUNT]\n' "$1" >&2
     exit 2
 }
+case ${1-} in -h | --help) sed -n '1d; /^[^#]/q; s/^# \{0,1\}//p' "$0"; exit ;; esac
 [ $# -ge 1 ] && [ $# -le 2 ] || usage 'a program, and a number at most'
 [ -f "$1" ] && [ -x "$1" ] || usage "$1: not a program that can be run"
 case ${2-1} in '' | 0* | *[!0-9]*) usage "$2: not a number" ;; esac

@@ -1,4 +1,5 @@
-// The long tests of the translator: node algol/test/long.mjs [COUNT [FIRST]]; B67 is the built program.
+// The long tests of the translator: node algol/test/long.mjs [COUNT [FIRST [PART]]]; B67 is the built program. PART is one of `programs`,
+// `texts` and `limits`; all three are tried if it isn't said.
 // COUNT random programs (10,000 if nothing is said), numbered from FIRST (1), print the same by the machine as by the reference, in ample
 // core and in the least one; COUNT mutated texts neither break the translator nor give a deck that b67 refuses; and each limit of the
 // machine is reached, and one more is a mistake with a line. What differs is kept in a folder, which is told. The status is 1 if something does.
@@ -119,12 +120,12 @@ function limits() {
   return wrong;
 }
 
-const [count, first] = [process.argv[2] ?? '10000', process.argv[3] ?? '1'].map(Number);
-if (process.argv.length > 4 || !(count > 0) || !(first > 0)) {
-  console.error('usage: node algol/test/long.mjs [COUNT [FIRST]]');
+const [count, first] = [process.argv[2] ?? '10000', process.argv[3] ?? '1'].map(Number), PARTS = {programs: compare, texts: mutate, limits}, [, , , , part] = process.argv;
+if (process.argv.length > 5 || !(count > 0) || !(first > 0) || (part !== undefined && !Object.hasOwn(PARTS, part))) {
+  console.error('usage: node algol/test/long.mjs [COUNT [FIRST [programs, texts or limits]]]');
   process.exitCode = 2;
 } else {
-  const wrong = compare(count, first) + mutate(count, first) + limits();
+  const wrong = Object.entries(PARTS).filter(([name]) => !part || name === part).reduce((sum, [, tries]) => sum + tries(count, first), 0);
   console.log(wrong ? `${wrong} wrong` : 'all the same');
   process.exitCode = wrong ? 1 : 0;
 }

@@ -34,6 +34,15 @@ for (const name of ['jensen', 'manboy', 'factorial', 'sort']) test(`${name} has 
   assert.ok(made <= 1.5 * hand, `${made} operators, and ${hand} by hand`);
 });
 
+test('more thunks than the machine has segments share some, by entries', () => {
+  const many = 300, calls = Array.from({length: many}, (_, k) => `s := s + f(x + ${k})`).join(';\n');
+  const made = compile(`begin integer x, s; integer procedure f(a); integer a; f := a + a;\nx := 1; s := 0;\n${calls};\nprint(s) end`), thunks = made.segments.filter(it => it.kind === 'thunk');
+  assert.equal(run(made.deck), `1.1 ${2 * many + many * (many - 1)}\n1.1 ENDED\n`);
+  assert.equal(thunks.length, many);
+  const cards = made.deck.split('\n');
+  for (const it of thunks) assert.match(cards[it.card], /^(L\d+: )?VALC 2,/);
+});
+
 test('the program of size pages in the least core', () => {
   const text = read('pl0.alg'), {deck} = compile(text), {core} = runInLeast(deck);
   assert.ok(text.slice(text.indexOf('\nbegin')).split('\n').length > 400);

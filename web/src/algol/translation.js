@@ -55,6 +55,7 @@ export function algolBeside(text) {
 
 // The thunk in which a card stands, null if it stands in none: what it works out, and its line.
 export function thunkAt({segments = []}, card) {
-  const found = segments.filter(it => it.card <= card && !it.entry).at(-1);
+  let found = null;
+  for (const it of segments) if (it.card < card && it.card >= (found?.card ?? 0)) found = it;
   return found?.kind === 'thunk' ? found : null;
 }
