@@ -52,6 +52,11 @@ done
 # the outer block calls its procedure again and again
 sed -e '0,/^MKST$/s//L: MKST/' -e '0,/^EXIT$/s//BRUN L/' -e 's/^?ASM/?LIMIT 1\n?ASM/' "$here/../decks/manboy/stdin" >"$room/manboy"
 row man-or-boy "$room/manboy" 32768
+# a translator and interpreter of PL/0, from ALGOL 60: in ample core, and where it pages
+if command -v node >/dev/null && node "$here/../algol/algol.mjs" "$here/../algol/programs/pl0.alg" >"$room/pl0"; then
+    row pl0 "$room/pl0" 65536
+    row pl0 "$room/pl0" 2300
+fi
 # the same loop by one task alone, and while others live
 few=$(sh "$here/tasks.sh" 0 200000 | sed '/^?SWITCH/d; /^?END/q' | count 16384)
 many=$(sh "$here/tasks.sh" 0 400000 | sed '/^?SWITCH/d; /^?END/q' | count 16384)
