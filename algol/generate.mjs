@@ -88,7 +88,7 @@ export class Generator {
   arrays(d) {
     const {bounds} = d.syms[0];
     this.line = d.line;
-    d.bounds.forEach((b, n) => this.bounds(b, bounds[n]));
+    d.bounds.forEach((b, n) => { this.bounds(b, bounds[n]); if (bounds.length > 1) this.positive(bounds[n].length); });
     for (const sym of d.syms) {
       this.line = sym.line;
       this.intrinsic(ARRAYDEC, () => bounds[0].length === null ? this.length(d.bounds[0], bounds[0]) : this.product(bounds));
@@ -99,6 +99,15 @@ export class Generator {
   bounds({lower, upper}, bound) {
     if (typeof bound.lower !== 'number') { this.expr(lower); this.made(bound.lower); }
     if (bound.length !== null && typeof bound.length !== 'number') { this.length({upper}, bound); this.made(bound.length); }
+  }
+  // Looks whether a dimension has elements, since two lengths below 0 have a product above it: a length that isn't is refused by ARRAYDEC.
+  positive(length) {
+    if (typeof length === 'number') return;
+    const good = {};
+    for (const step of [['VALC', length], ['ZERO'], ['GRTR'], ['BRTR', good]]) this.emit(...step);
+    this.intrinsic(ARRAYDEC, () => this.emit('VALC', length));
+    this.emit('NVLD');
+    this.put(good);
   }
   // What was pushed last is a cell of the record from now on.
   made(cell) {

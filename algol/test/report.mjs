@@ -256,7 +256,7 @@ class Run {
     }
   }
   exhausted({step, until}, get, scope) {
-    const v = get(), limit = this.value(until, scope), fixed = step.kind === 'number' ? 1 : step.kind === 'minus' && step.a.kind === 'number' ? -1 : 0;
+    const v = get(), limit = this.value(until, scope), fixed = step.kind === 'number' ? Math.sign(step.n) : step.kind === 'minus' && step.a.kind === 'number' ? -Math.sign(step.a.n) : 0;
     if (fixed) return fixed > 0 ? whole(v) > whole(limit) : whole(v) < whole(limit);
     const past = fit(whole(v) - whole(limit));
     return fit(past * Math.sign(whole(this.value(step, scope)))) > 0;
