@@ -56,8 +56,8 @@ mapfile -t files < <(git ls-files README.md CHANGES.md CITATION.cff CONTRIBUTING
 put "${files[@]}"
 # the page stands at the top, where a pupil finds it
 sed -i 's:`web/b67\.html`:`b67.html`:; s:node web/b67\.mjs:node b67.mjs:' "$out/README.md" "$out/docs/TEACHING.md" "$out/web/README.md"
-# the scripts need only the program, sh and awk
-mapfile -t files < <(git ls-files scripts)
+# the scripts need only the program, sh and awk; the translator from ALGOL 60 only node
+mapfile -t files < <(git ls-files scripts algol)
 put "${files[@]}"
 # the paper in print, if there is what prints it
 bash tools/paper.sh "$out/docs/PAPER.pdf" || [ $? = 3 ] || usage 'the paper was not printed'
@@ -83,7 +83,7 @@ A stack machine after the Burroughs B6700, proved before it was built.
 
 prints 1.1 5 and 1.1 ENDED. The program needs Linux on x86-64 with the GNU C library 2.34 or later (Debian 12, Ubuntu 22.04,
 RHEL 9); it is built, so skip what the documents say of rt and make. From here: docs/TOUR.md, three lessons with commands;
-docs/TEACHING.md, six lessons for whoever gives a course; docs/ASSEMBLER.md, how to write decks, and decks/exercises/README.md,
+docs/TEACHING.md, six lessons for whoever gives a course; docs/ALGOL.md, programs in ALGOL 60 (node); docs/ASSEMBLER.md, how to write decks, and decks/exercises/README.md,
 tasks for it. man -l man/man1/b67.1 has the commands, man -l man/man5/b67-deck.5 the cards, man -l man/man5/b67-image.5 the
 image of a halted machine; docs/statement.html, in a browser, what is proved. The scripts need sh and an awk as POSIX has it, the tracer (reference/trace.py) Python 3.11.
 TEXT
