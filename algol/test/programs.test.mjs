@@ -34,6 +34,12 @@ for (const name of ['jensen', 'manboy', 'factorial', 'sort']) test(`${name} has 
   assert.ok(made <= 1.5 * hand, `${made} operators, and ${hand} by hand`);
 });
 
+test('the stack that is worked out has room for a long expression', () => {
+  const deep = 200, made = compile(`begin integer x; x := 1; print(${'x + ('.repeat(deep)}x${')'.repeat(deep)}) end`);
+  assert.ok(made.stack > deep && made.stack < deep + 50, `a stack of ${made.stack}`);
+  assert.equal(run(made.deck), `1.1 ${deep + 1}\n1.1 ENDED\n`);
+});
+
 test('more thunks than the machine has segments share some, by entries', () => {
   const many = 300, calls = Array.from({length: many}, (_, k) => `s := s + f(x + ${k})`).join(';\n');
   const made = compile(`begin integer x, s; integer procedure f(a); integer a; f := a + a;\nx := 1; s := 0;\n${calls};\nprint(s) end`), thunks = made.segments.filter(it => it.kind === 'thunk');

@@ -59,6 +59,7 @@ async function mistaken(it) {
   it.wants(await it.shown('#mistakes li') === '' && await it.shown('#under .mistake') === '', 'a mended mistake stays');
   await it.types('begin integer n;\n  n := 0;\n  print(1 div n)\nend\n');
   await it.click('#run');
+  if (await it.shown('.offer')) await it.click('.offer'); // the run took more than a second
   it.wants(await it.shown('#gutter .refused') === '3', `a fault marks line ${told(await it.shown('#gutter .refused'))}`);
   await it.types('?JOB A\n?ASM\nSEGMENT MAIN 2\nEXIT\n?END\n');
   it.wants(await it.shown('#tabs') === '', 'a deck has the tabs of a program');
