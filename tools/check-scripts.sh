@@ -356,9 +356,10 @@ done_with trace.py
 
 # each script of the users says what it is
 for file in "$top"/scripts/*.sh; do
-    works sh $here/$(basename "$file") --help
-    grep -q "scripts/$(basename "$file")" "$room/out" || wrong 'its help has no call of it'
-    out=/dev/full refused sh $here/$(basename "$file") -h
+    name=${file##*/}
+    works sh "$here/$name" --help
+    grep -q "scripts/$name" "$room/out" || wrong 'its help has no call of it'
+    out=/dev/full refused sh "$here/$name" -h
     out=
 done
 calls=0
