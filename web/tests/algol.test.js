@@ -1,7 +1,7 @@
 // A text in ALGOL 60 in the editor: which texts are such, what stands beside the cards, and how large core is made.
 import {test} from 'node:test';
 import assert from 'node:assert/strict';
-import {AlgolRefused, algolBeside, coreFor, deckOf, isAlgol, lineOf, START_ALGOL, thunkAt, translationOf} from '../src/algol/translation.js';
+import {AlgolRefused, algolBeside, coreFor, deckOf, isAlgol, lineOf, START_ALGOL, thunkAt, translationOf, withData} from '../src/algol/translation.js';
 import {namesIn} from '../src/names/names.js';
 
 const {text} = START_ALGOL;
@@ -25,6 +25,11 @@ test('cards know their lines, lines their first cards, and thunks what they work
 test('cells have the names of the program, thunks their expressions', () => {
   const [{cells}] = namesIn(deckOf(text)), named = (level, at) => cells.filter(it => it.level === level && it.at === at).map(it => it.name);
   assert.deepEqual([named(2, 2), named(2, 3), named(2, 5), named(3, 5)], [['sum'], ['A[i]'], ['A'], ['term']]);
+});
+
+test('numbers for read are a line of the text', () => {
+  assert.equal(withData('$DATA 1 2\nbegin end\n $data 3\n', ' 4, 5 '), '$DATA 4 5\nbegin end\n');
+  assert.equal(withData('$DATA 1\nbegin end\n', ''), 'begin end\n');
 });
 
 test('mistakes are no deck', () => {

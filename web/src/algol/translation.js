@@ -19,6 +19,12 @@ export function translationOf(text) {
   return last.made;
 }
 
+// The text with other numbers for read.
+export function withData(text, numbers) {
+  const data = numbers.trim().split(/[\s,]+/).filter(Boolean).join(' '), rest = text.replace(/^[ \t]*\$DATA\b.*\n?/gim, '');
+  return data ? `$DATA ${data}\n${rest}` : rest;
+}
+
 // A core in which a program runs: its stacks and some room, for the usual core is too small for deep recursion.
 export function coreFor({stack, deck}) {
   const tasks = deck && /\bNAMC 0,12\b/.test(deck) ? 6 : 1;

@@ -115,6 +115,6 @@ export class Commands {
     const bytes = new Uint8Array(await file.arrayBuffer());
     this.page.show('deck');
     byId('core').value = USUAL_CORE;
-    this.page.editor.take(new TextDecoder('latin1').decode(bytes).replace(/\r\n/g, '\n'), `The file ${file.name}.`);
+    this.page.editor.take(new TextDecoder(/\.alg$/i.test(file.name) ? 'utf-8' : 'latin1').decode(bytes).replace(/\r\n/g, '\n'), `The file ${file.name}.`);
   }
 }

@@ -12,6 +12,7 @@ import {COURSE} from '../course/course.js';
 import {csvOf, handsOf, linesOf, marksOf, tasksFor} from '../course/class.js';
 import {decksOf} from './decks.js';
 import {withoutNames} from '../names/names.js';
+import {isAlgol, withData} from '../algol/translation.js';
 
 // A key for the machine that was pressed in a field of a number, where it means nothing: the field takes its number, and then the key acts.
 function isStep(page, {target, key}) {
@@ -63,7 +64,8 @@ function listenToDeck(page) {
 }
 
 function putNumbers(page) {
-  page.editor.area.put(withNumbers(page.editor.text, Number(byId('job').value), byId('numbers').value));
+  const {text} = page.editor, numbers = byId('numbers').value;
+  page.editor.area.put(isAlgol(text) ? withData(text, numbers) : withNumbers(text, Number(byId('job').value), numbers));
   page.editor.typed();
 }
 
