@@ -21,18 +21,18 @@ here=$(cd "$(dirname "$0")" && pwd)
 command -v "$program" >/dev/null && [ ! -d "$(command -v "$program")" ] || usage "$program: not a program that can be run: put b67 on the path, or name it as in B67=PROGRAM sh scripts/least-core.sh"
 room=
 trap 'rm -rf "$room"' EXIT
-# what runs is a child that is waited for, so a signal ends both at once
-child=
-trap 'kill "$child" 2>/dev/null && wait "$child"; exit 130' HUP INT TERM
+# what runs is a child that is waited for, so a signal ends both; twice, since a child that is no program yet loses the first
+running=
+trap '[ -z "$running" ] || { kill $!; sleep 0.2; kill $!; } 2>/dev/null; exit 130' HUP INT TERM
 room=$(mktemp -d) || exit 2
 sh "$here/cells.sh" "$deck" >"$room/deck" || exit 1
 core=256
 while :; do
+    running=1
     "$program" run --core "$core" --backing "$room/b" <"$room/deck" >"$room/lines" &
-    child=$!
-    wait $child
+    wait $!
     status=$?
-    child=
+    running=
     last=$(tail -n 1 "$room/lines")
     case $status in
     0 | 3)

@@ -28,9 +28,9 @@ LC_ALL=C grep -q '^[0-9][0-9]*\.[0-9][0-9]* ' <"$wanted" || usage "$wanted: no l
 LC_ALL=C grep -q '^?JOB' <"$wanted" && usage "$wanted: this is a deck: EXPECTED stands last"
 room=
 trap 'rm -rf "$room"' EXIT
-# what runs is a child that is waited for, so a signal ends both at once
-child=
-trap 'kill "$child" 2>/dev/null && wait "$child"; exit 130' HUP INT TERM
+# what runs is a child that is waited for, so a signal ends both; twice, since a child that is no program yet loses the first
+running=
+trap '[ -z "$running" ] || { kill $!; sleep 0.2; kill $!; } 2>/dev/null; exit 130' HUP INT TERM
 room=$(mktemp -d) || exit 2
 tr -d '\r' <"$wanted" >"$room/wanted" || exit 2
 
@@ -65,16 +65,16 @@ while [ $# -gt 1 ]; do
         for core in least 1048575; do
             all=$((all + 1))
             if [ $core = least ]; then
-                B67=$program sh "$here/least-core.sh" "$room/deck" >"$room/core" 2>"$room/said" &
-                child=$!
-                wait $child && core=$(cat "$room/core") || core=
-                child=
+                running=1
+                B67=$program TMPDIR=$room sh "$here/least-core.sh" "$room/deck" >"$room/core" 2>"$room/said" &
+                wait $! && core=$(cat "$room/core") || core=
+                running=
             fi
             if [ -n "$core" ]; then
+                running=1
                 "$program" run --core "$core" --backing "$room/b" <"$room/deck" >"$room/lines" &
-                child=$!
-                wait $child
-                child=
+                wait $!
+                running=
                 said=$(first)
                 said=${said:+in turns of $quantum, in $core words: $said}
             else
