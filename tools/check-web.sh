@@ -3,7 +3,7 @@
 #
 #     sh tools/check-web.sh [PROGRAM]
 #
-# PROGRAM is `b67` on the path if it isn't given. Six parts, and each line says how long one took:
+# PROGRAM is `b67` on the path if it isn't given. Seven parts, and each line says how long one took:
 #
 # heap      the heap of the module by itself, built by the kit's clang and lowered by binaryen
 # reader    the page's reader of images and its other parts, by node's own test runner
@@ -13,8 +13,11 @@
 # searches  of each deck that is run: images from marks and by the command `image`; searches by one run and by a look at each state
 # shell     web/b67.mjs, the machine as a command of node: decks/run.sh over it, and the rows of crates/b67_rows, with their backing files
 #
-# The last line is `check-web: all the same`, or names the parts that differ or can't be tried. Six minutes on a machine that does
-# nothing else. Status 1 if anything differs, 2 if something is missing: then what can be tried is tried. No part of the gate.
+# c         b67.c, made from the page by web/c/make.sh twice with the same bytes, and compiled by `cc`: the rows with their backing files, calls
+#           that a shell makes, images that one of both halted and the other resumes, decks/run.sh
+#
+# The last line is `check-web: all the same`, or names the parts that differ or can't be tried. Seven minutes on a machine that does
+# nothing else. PARTS='shell c' tries these parts alone. Status 1 if anything differs, 2 if something is missing: then what can be tried is tried. No part of the gate.
 set -eu
 usage() {
     echo "usage: sh tools/check-web.sh [PROGRAM]" >&2
@@ -31,6 +34,11 @@ program=$(command -v "${1:-b67}") || missing "${1:-b67}: no such program"
 page=$top/web/b67.html
 [ -f "$page" ] || missing "web/b67.html isn't there: sh tools/web.sh"
 command -v node >/dev/null || missing "node isn't on the path"
+all='heap reader page module searches shell c'
+parts=${PARTS:-$all}
+for part in $parts; do
+    case " $all " in *" $part "*) ;; *) missing "$part is no part: $all" ;; esac
+done
 room=$(mktemp -d)
 trap 'rm -rf "$room"' EXIT
 kit=$(command -v rt >/dev/null && dirname "$(dirname "$(readlink -f "$(command -v rt)")")")/toolchain/bin
@@ -71,9 +79,15 @@ searches() {
 shell() {
     node "$top/web/check/shell.mjs" "$top/web/b67.mjs" "$page" "$program" "$top/decks" "$top/crates/b67_rows/data"
 }
+c() {
+    command -v cc >/dev/null || { echo "cc isn't on the path (Debian: apt-get install gcc)"; return 2; }
+    sh "$top/web/c/make.sh" "$room/b67.c" "$page" && sh "$top/web/c/make.sh" "$room/again.c" "$page" || return
+    cmp "$room/b67.c" "$room/again.c" && cc -std=c99 -pedantic -O1 -Wall -Wextra -Werror -o "$room/b67-of-c" "$room/b67.c" || return 1
+    node "$top/web/check/command.mjs" "$room/b67-of-c" "$program" "$top/decks" "$top/crates/b67_rows/data"
+}
 
 differ='' lacking='' begun=$(date +%s)
-for part in heap reader page module searches shell; do
+for part in $parts; do
     since=$(date +%s) status=0
     $part >"$room/said" 2>&1 || status=$?
     case $status in
@@ -91,4 +105,4 @@ elif [ -n "$lacking" ]; then
     echo "check-web: the same, but not tried:$lacking ($took)"
     exit 2
 fi
-echo "check-web: all the same ($took)"
+if [ "$parts" = "$all" ]; then echo "check-web: all the same ($took)"; else echo "check-web: the same: $parts ($took)"; fi

@@ -2,7 +2,8 @@
 # Makes one archive of what a class needs: the built program, the page b67.html if there is one, the manual pages, decks with
 # the exercises but not their answers, documents, scripts, the tracer, and a sum of each file. Nothing in it needs the toolchain. The same tree and program give
 # the same bytes: files are in the order of their names, and their time is the version's date. Needs git and GNU tar.
-# The paper is printed too (docs/PAPER.pdf), if pandoc and weasyprint are there; the same versions of both give the same bytes. A link
+# The paper is printed too (docs/PAPER.pdf), if pandoc and weasyprint are there; the same versions of both give the same bytes. So is b67.c,
+# the program as one file of C, if wasm2c is there (Debian: wabt). A link
 # of a document that leads to no file of the archive is an error.
 #
 #     bash tools/release.sh PROGRAM FILE.tar.gz [PAGE]
@@ -51,6 +52,8 @@ cp docs/b67.1 "$out/man/man1/b67.1"
 cp docs/*.5 "$out/man/man5/"
 [ ! -f "$page" ] || cp "$page" "$out/b67.html"
 [ ! -f "$page" ] || cp web/b67.mjs "$out/b67.mjs"
+# the same program as one file of C, if there is what makes it
+[ ! -f "$page" ] || sh web/c/make.sh "$out/b67.c" "$page" >"$room/said" || [ $? = 2 ] || usage 'b67.c was not made'
 mapfile -t files < <(git ls-files README.md CHANGES.md CITATION.cff CONTRIBUTING.md docs bench/README.md tools/README.md web/README.md reference \
     crates/b67/src/main.rt crates/b67_promises/src/lib.rt crates/b67_promises/src/shipped.rt crates/b67_recorded/src)
 put "${files[@]}"
@@ -92,6 +95,11 @@ TEXT
 b67.html is the machine in a page: open it in a browser of 2024 or later. It needs nothing of the above, so it runs on Windows, on
 a Mac, on an older Linux and on a phone; its button Lessons has the course. b67.mjs, beside it, is the same machine as a command,
 wherever there is node 18 or later: node b67.mjs run --core 4096 < decks/sum/stdin
+TEXT
+    [ ! -f "$out/b67.c" ] || cat <<'TEXT'
+
+b67.c is the same machine as one file of C, for a Mac, a Raspberry Pi and other POSIX systems: cc -O2 -o b67 b67.c makes the command.
+It takes a minute; on a machine of 512 MB compile it with clang, or by cc -O0.
 TEXT
     printf '\nEach file has its sum in SHA256SUMS: sha256sum -c SHA256SUMS\n'
 } >"$out/START.txt"
