@@ -241,7 +241,7 @@ export class Machine {
   }
 
   compare(printed, expected) {
-    const {status, bytes} = this.program.call(['dump'], printed, {sectors: 1, room: LEAST_ROOM + 2 * expected.length});
+    const {status, bytes} = this.program.call(['dump'], printed, {room: LEAST_ROOM + 2 * expected.length});
     if (status !== 0 || textOf(bytes) !== expected) {
       throw new Error('The page has misread an image: dump prints something else. Please report this deck and this count.');
     }

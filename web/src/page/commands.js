@@ -22,8 +22,8 @@ export class Commands {
   }
 
   // Calls the machine, and shows what it gives; `refusedOf` says of what a refusal is, if not of the deck.
-  async command(words, {text = this.page.given(), refusedOf, sectors, resumes} = {}) {
-    const {page} = this, result = await page.client.ask('call', {words, text, sectors, resumes}), core = page.core(), [name] = words;
+  async command(words, {text = this.page.given(), refusedOf, resumes} = {}) {
+    const {page} = this, result = await page.client.ask('call', {words, text, resumes}), core = page.core(), [name] = words;
     this.ran = {status: result.status, text: result.text};
     if (result.status === 2 && !refusedOf) result.place = await this.placeOf(text, result.text);
     const refused = showResult(page.rows, {words, ...result, byHand: /^\?HEX/m.test(text), word: refusedWord(result.text, text), text: name === 'image' ? withoutImage(result.text) : result.text}, refusedOf);
@@ -53,7 +53,7 @@ export class Commands {
   }
   check() {
     this.page.show('deck');
-    return this.page.guard(() => this.command(['check'], {sectors: 1}));
+    return this.page.guard(() => this.command(['check']));
   }
 
   // After a run that ended otherwise than it should: a core that suffices, or the place of the first fault, at once if that is soon found.
@@ -101,7 +101,7 @@ export class Commands {
     const {page} = this;
     return page.guard(async () => {
       const text = page.given() + page.decks.get(byId('part').value).text;
-      const result = await this.command(['bind', ...byId('pairs').value.trim().split(/\s+/)], {text, sectors: 1, refusedOf: 'both'});
+      const result = await this.command(['bind', ...byId('pairs').value.trim().split(/\s+/)], {text, refusedOf: 'both'});
       this.bound = result.status === 0 ? result.text : '';
       byId('take').disabled = !this.bound;
     });

@@ -65,7 +65,7 @@ export class Steps {
 
   // Begins with another deck or core; gives whether that is possible.
   async begins(text, core) {
-    const {page} = this, {editor} = page, {status} = await page.commands.command(['check'], {text, sectors: 1});
+    const {page} = this, {editor} = page, {status} = await page.commands.command(['check'], {text});
     if (status) return page.show('deck');
     if (!hasJob(text)) throw new Error(NO_JOB);
     this.session = {text, core, raw: page.deck(), name: editor.name, algol: isAlgol(editor.text) ? algolBeside(editor.text) : algolOf(editor.name), code: await editor.addressed(), stops: new Set(), briefs: new Map(),

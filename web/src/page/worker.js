@@ -37,10 +37,9 @@ export class Desk {
   }
 
   // Carries out a command; `resumes`: over the text and the sectors that the last image has left.
-  call({words, text, room = MOST_SHOWN, sectors = 65536, resumes}) {
+  call({words, text, room = MOST_SHOWN, resumes}) {
     const begun = performance.now();
-    const over = resumes ? this.left.sectors : sectors;
-    const called = this.program.call(words, resumes ? this.left.bytes : text, {room: words[0] === 'image' ? MOST_OF_IMAGE : room, sectors: over});
+    const called = this.program.call(words, resumes ? this.left.bytes : text, {room: words[0] === 'image' ? MOST_OF_IMAGE : room, sectors: resumes ? this.left.sectors : undefined});
     const {status, bytes} = called;
     if (words[0] === 'image') this.left = status === 3 ? {bytes: bytes.slice(), sectors: called.sectors.slice()} : null;
     return {status, text: textOf(bytes), milliseconds: performance.now() - begun};

@@ -87,7 +87,7 @@ function operandText(byte, first, second) {
 export function operatorsOf(program, deck, job) {
   const {kind, text} = bodyOf(deck, job);
   if (!kind) return {};
-  const made = kind === 'ASM' ? textOf(program.call(['asm'], text, {sectors: 1, room: 1 << 23}).bytes) : text;
+  const made = kind === 'ASM' ? textOf(program.call(['asm'], text, {room: 1 << 23}).bytes) : text;
   const cards = kind === 'ASM' ? operatorCards(text) : [];
   const operators = {};
   segmentsOf(bytesOfDigits(made)).forEach((segment, k) => {
