@@ -9,9 +9,9 @@ const KEYS = {Enter: '\uE007', Backspace: '\uE003', Tab: '\uE004', Escape: '\uE0
   ArrowLeft: '\uE012', ArrowUp: '\uE013', ArrowRight: '\uE014', ArrowDown: '\uE015'};
 const SHIFT = '\uE008';
 // Firefox and WebKit have no log of their console for a driver: what a page complains of is gathered in it.
-const WATCHES = `window.complaints = [];
+const WATCHES = `(() => { window.complaints = [];
   for (const kind of ['error', 'unhandledrejection']) addEventListener(kind, it => complaints.push(String(it.message ?? it.reason)));
-  console.error = (...words) => complaints.push(words.join(' '));`;
+  console.error = (...words) => complaints.push(words.join(' ')); })()`;
 
 // Which browser a program is.
 export function kindOf(program) {
@@ -21,9 +21,10 @@ export function kindOf(program) {
 
 export class Browser {
   // Starts a browser, by its program, and opens an empty page of this size. `errors` has what pages have complained of so far.
-  static async started(program, width = 1400, height = 900) {
+  // `dark`: on a dark desktop, of WebKit.
+  static async started(program, {width = 1400, height = 900, dark} = {}) {
     const it = new Browser(), kind = kindOf(program);
-    Object.assign(it, {kind, gathers: kind !== 'chromium', errors: [], driver: await {firefox: Marionette, webkit: WebKit, chromium: Chromedriver}[kind].started(program)});
+    Object.assign(it, {kind, gathers: kind !== 'chromium', strict: false, errors: [], driver: await {firefox: Marionette, webkit: WebKit, chromium: Chromedriver}[kind].started(program, dark)});
     await it.driver.call('SetTimeouts', {script: 300000});
     await it.opens('about:blank');
     await it.size(width, height);
@@ -33,12 +34,12 @@ export class Browser {
   async opens(url) {
     await this.hears();
     await this.driver.call('Navigate', {url});
-    if (this.gathers) await this.value(`${WATCHES} 0`);
+    if (this.gathers) await this.value(WATCHES);
   }
   async reloads() {
     await this.hears();
     await this.driver.call('Refresh');
-    if (this.gathers) await this.value(`${WATCHES} 0`);
+    if (this.gathers) await this.value(WATCHES);
   }
 
   // Lets a script run before those of each page.
@@ -56,11 +57,11 @@ export class Browser {
     }
   }
 
-  // The value of an expression in the page, waited for if it is a promise.
+  // The value of an expression in the page, waited for if it is a promise. `strict`: the page's policy forbids `eval`.
   async value(expression) {
-    const script = `const done = arguments[1];
-      Promise.resolve().then(() => (0, window.eval)(arguments[0])).then(value => done({value}), error => done({error: String(error)}));`;
-    const {value, error} = await this.driver.call('ExecuteAsyncScript', {script, args: [expression]});
+    const script = `const done = arguments[1], [text] = arguments;
+      Promise.resolve().then(() => ${this.strict ? `(${expression})` : '(0, window.eval)(text)'}).then(value => done({value}), error => done({error: String(error)}));`;
+    const {value, error} = await this.driver.call('ExecuteAsyncScript', {script, args: [this.strict ? '' : expression]});
     if (error) throw new Error(`${expression.slice(0, 80)}: ${error}`);
     return value;
   }
@@ -82,7 +83,7 @@ export class Browser {
     return this.driver.call('SetWindowRect', {width: 2 * width - inner, height: 2 * height - high});
   }
   dark(is_dark) {
-    if (this.kind === 'webkit') return; // it follows its desktop
+    if (this.kind === 'webkit') return; // it follows its desktop: Browser.started
     if (this.kind === 'firefox') return this.driver.setting('layout.css.prefers-color-scheme.content-override', is_dark ? 0 : 1);
     return this.driver.devtools('Emulation.setEmulatedMedia', {features: [{name: 'prefers-color-scheme', value: is_dark ? 'dark' : 'light'}]});
   }
@@ -99,10 +100,18 @@ export class Browser {
     const value = KEYS[key] ?? (shift ? key.toUpperCase() : key), held = shift ? [{type: 'keyDown', value: SHIFT}] : [];
     return this.acts('keys', 'key', [...held, {type: 'keyDown', value}, {type: 'keyUp', value}, ...held.map(() => ({type: 'keyUp', value: SHIFT}))]);
   }
-  // A click on the middle of an element.
+  // A click on the middle of an element, once it stands still: it hasn't moved between two pictures.
   async click(selector) {
-    const [x, y] = await this.value(`(() => { const it = document.querySelector(${JSON.stringify(selector)}); it.scrollIntoView({block: 'nearest'});
-      const r = it.getBoundingClientRect(); return [Math.round(r.x + r.width / 2), Math.round(r.y + r.height / 2)]; })()`);
+    const [x, y] = await this.value(`(async () => { let before = '';
+      for (let k = 0; k < 100; k++) {
+        const it = document.querySelector(${JSON.stringify(selector)});
+        it.scrollIntoView({block: 'nearest'});
+        const r = it.getBoundingClientRect(), at = [Math.round(r.x + r.width / 2), Math.round(r.y + r.height / 2)];
+        if (at.join() === before) return at;
+        before = at.join();
+        await Promise.race([new Promise(requestAnimationFrame), new Promise(goes => setTimeout(goes, 200))]);
+      }
+      throw new Error('it never stands still'); })()`);
     return this.acts('mouse', 'pointer', [{type: 'pointerMove', x, y, duration: 0, origin: 'viewport'}, {type: 'pointerDown', button: 0}, {type: 'pointerUp', button: 0}]);
   }
 

@@ -105,11 +105,11 @@ async function displayOf(room) {
 
 // WebKit, Safari's engine, in the small browser that WebKitGTK brings with it.
 export class WebKit extends ByHttp {
-  static async started(program) {
-    const it = new WebKit(), port = await freePort();
+  static async started(program, dark) {
+    const it = new WebKit(), port = await freePort(), desktop = dark ? {GTK_THEME: 'Adwaita:dark'} : {};
     it.room = roomFor('webkit');
     it.display = await displayOf(it.room);
-    it.child = spawn('WebKitWebDriver', [`--port=${port}`], {stdio: 'ignore', env: {...process.env, ...it.display.env, HOME: it.room, XDG_DATA_HOME: it.room, XDG_CACHE_HOME: it.room}});
+    it.child = spawn('WebKitWebDriver', [`--port=${port}`], {stdio: 'ignore', env: {...process.env, ...it.display.env, ...desktop, HOME: it.room, XDG_DATA_HOME: it.room, XDG_CACHE_HOME: it.room}});
     it.address = `http://127.0.0.1:${port}/session`;
     (await connected(port)).destroy();
     const {sessionId} = await it.asks('POST', '', {capabilities: {alwaysMatch: {'webkitgtk:browserOptions': {binary: program, args: ['--automation']}}}});

@@ -1,6 +1,4 @@
-// Bad input, faults, decks of one's own, names for cells, long decks, and policies.
-import fs from 'node:fs';
-import http from 'node:http';
+// Bad input, faults, decks of one's own, names for cells, and long decks.
 import {told} from './tried.mjs';
 
 const LOOP = '?JOB LOOP\n?ASM\nSEGMENT MAIN 2\nTOP: BRUN TOP\n?END\n';
@@ -181,33 +179,4 @@ export async function long_decks(it) {
   await it.types(await browser.value("document.getElementById('deck').value.replace('EXIT', 'EXIT ; the end')"));
   const text = (await it.state()).text.split('\n');
   it.wants(text.length === 77007 && text[77004] === 'EXIT ; the end' && text[0] === '?JOB LONG', `a change at the end of a long deck: ${text.length} ${text[77004]}`);
-}
-
-// Under policies that forbid workers, storage or scripts the page runs, or says truly why not.
-const POLICIES = [
-  ["script-src 'unsafe-inline' 'wasm-unsafe-eval' blob:; worker-src blob:", ''],
-  ["script-src 'unsafe-inline' 'wasm-unsafe-eval'; worker-src 'none'", ''],
-  ["sandbox allow-scripts; script-src 'unsafe-inline' 'wasm-unsafe-eval' blob:", ''],
-  ["script-src 'unsafe-inline'; worker-src 'none'", 'forbids WebAssembly'],
-];
-export async function policies(it) {
-  const {browser} = it, bytes = fs.readFileSync(it.page);
-  const server = http.createServer((asked, answer) => {
-    const policy = POLICIES[Number(asked.url.slice(1))]?.[0];
-    answer.writeHead(200, {'content-type': 'text/html', ...(policy && {'content-security-policy': policy})}).end(bytes);
-  });
-  await new Promise(goes => server.listen(0, '127.0.0.1', goes));
-  await browser.hears();
-  const {length} = browser.errors;
-  for (const [k, [policy, sentence]] of POLICIES.entries()) {
-    await browser.opens(`http://127.0.0.1:${server.address().port}/${k}`);
-    await it.ready();
-    await browser.click('#new');
-    const {ran, message} = await it.click('#run');
-    it.wants(sentence ? message.includes(sentence) : ran?.text === '1.1 5\n1.1 ENDED\n' && !message, `under ${policy}: ${told(ran?.text)} ${message}`);
-  }
-  await browser.hears();
-  browser.errors.length = length; // a policy's complaints are wanted here
-  server.closeAllConnections();
-  server.close();
 }

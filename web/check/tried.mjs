@@ -58,8 +58,8 @@ export class Tried {
 
   // ------------------------------------------------------------ the page
 
-  async starts(script) {
-    this.browser = await Browser.started(this.program);
+  async starts({script, dark} = {}) {
+    this.browser = await Browser.started(this.program, {dark});
     if (script) await this.browser.before(script);
     await this.opensPage('?compare');
   }

@@ -5,10 +5,11 @@ import {Desk} from './worker.js';
 export const STOPPED = 'stopped'; // the reason that Stop gives to what was asked
 
 export class Client {
-  // `source` is the script's text, `bytes` the module's; `hear` gets what the worker tells unasked, `busy` whether it works.
-  constructor(source, bytes, {compares, hear, busy}) {
+  // `script` is the page's own script, within it or a file beside it, `bytes` the module; `hear` gets what the worker tells unasked, `busy`
+  // whether it works.
+  constructor(script, bytes, {compares, hear, busy}) {
     Object.assign(this, {bytes, compares, hear, busy, asked: new Map(), number: 0});
-    this.address = URL.createObjectURL(new Blob([source], {type: 'text/javascript'}));
+    this.address = script.src || URL.createObjectURL(new Blob([script.textContent], {type: 'text/javascript'}));
   }
 
   // Starts a worker, or a desk in the page where no worker has ever started; fails where the browser can't run the module. A start that

@@ -46,7 +46,7 @@ export class Page {
   // Starts the worker, or says why it can't run.
   async begin() {
     const bytes = Uint8Array.from(atob(byId('module').textContent.replace(/\s/g, '')), c => c.charCodeAt(0));
-    this.client = new Client(byId('script').textContent, bytes, {
+    this.client = new Client(byId('script'), bytes, {
       compares: /[?&]compare/.test(location.search), hear: it => this.steps.hear(it), busy: many => this.busy(many),
     });
     this.lists();
