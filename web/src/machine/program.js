@@ -105,7 +105,9 @@ export class Program {
 
 // A program over the module's bytes; where the browser has no WebAssembly, or forbids it, this fails.
 export async function programOf(bytes) {
-  return new Program(await WebAssembly.compile(bytes));
+  const program = new Program(await WebAssembly.compile(bytes));
+  program.instance(); // here, too, a policy may forbid it: WebKit compiles all the same
+  return program;
 }
 
 // The words of Run in a core of so many words.
