@@ -4,8 +4,10 @@
 // those of the program `b67` (docs/MACHINE.md, section 20, and docs/MESSAGES.md). Otherwise than there:
 //
 // - `--backing FILE` may be left out of `run` and `image`: then the sectors are memory. A file has the program's form, so each goes on from
-//   the other's; it is read before the run and written after it, and not locked: give each run a file of its own.
+//   the other's. It is read before the run and written after it. It is locked as the program locks it; on Linux by the command `flock`, and
+//   without that command give each run a file of its own.
 // - All lines are printed at the end; of more than 1 GiB the beginning, with status 8. `bind` takes four pairs at most. A closed input is an empty one.
+//   `resume` over a file that can't be used is BACKING FAULT at once.
 // - Status 10 and a sentence on standard error: what was asked can't be done here.
 //
 // Two commands for teachers, over the same module and the page's own scripts, in one process:
@@ -18,6 +20,7 @@
 // deck of constants doesn't know. No job makes more than 1,000,000 operators, and no run prints much more than EXPECTED has. Status 1 if a
 // deck is wrong. `class` takes the links that pupils have handed in out of files, or of all files of a folder, does each work again, and
 // prints a table: 1 for a work that came out again, 0 for one that didn't, t for one that can't be done again. Nothing of it is proved.
+import {spawnSync} from 'node:child_process';
 import fs from 'node:fs';
 import path from 'node:path';
 import stream from 'node:stream';
@@ -26,8 +29,12 @@ import vm from 'node:vm';
 import zlib from 'node:zlib';
 
 const [SECTORS, SECTOR_BYTES, MOST_WORDS] = [65536, 240, 5];
+const SECTORS_OF = {run: [1024, SECTORS], image: [SECTORS], resume: [SECTORS], exercise: [4096]}; // they are copied, so a run begins with few; an image names all
 const ROOMS = [24, 27, 30].map(power => 2 ** power); // bytes of lines; a run that prints more is made again in the next one
-const [USAGE, READING_FAULT, BACKING_FAULT, PRINTING, CANT] = [1, 7, 6, 8, 10];
+const [USAGE, BACKING_FULL, BACKING_FAULT, READING_FAULT, PRINTING, CANT] = [1, 5, 6, 7, 8, 10];
+const [ANOTHER_TASK, OPENED] = [1, 1]; // a kind of the machine's searches, and its status where nothing is found
+// How a file is locked as it is opened: by O_EXLOCK, or, on Windows, shared with nobody (libuv's UV_FS_O_EXLOCK). Elsewhere `flock` does it.
+const LOCKING = {darwin: 0x20, freebsd: 0x20, openbsd: 0x20, netbsd: 0x20, win32: 0x10000000}[process.platform] ?? 0;
 
 class Cant extends Error {}
 
@@ -44,9 +51,8 @@ export function pageOf(file = process.env.B67_PAGE ?? fileURLToPath(new URL('b67
   return {html, bytes: Buffer.from(found[0], 'base64')};
 }
 
-// A call in an instance of its own: words, a text, and sectors as a file has them, or null for so many of zeros. Gives the status, what is
-// printed, and the sectors.
-function called(module, words, text, {sectors, many, room}) {
+// An instance of the machine: what it exports, a view of its memory, room in it, and what puts bytes there.
+function instanceOf(module) {
   const x = new WebAssembly.Instance(module, {}).exports, view = (at, length) => new Uint8Array(x.memory.buffer, Number(at), length);
   const roomFor = length => x.room(BigInt(length)) || fails(new Cant('this computer has no memory left for the machine'));
   const put = bytes => {
@@ -54,7 +60,13 @@ function called(module, words, text, {sectors, many, room}) {
     view(at, bytes.length).set(bytes);
     return [at, BigInt(bytes.length)];
   };
-  const given = Array.from({length: MOST_WORDS}, (_, k) => put(Buffer.from(words[k] ?? ''))).flat(), source = put(text);
+  return {x, view, roomFor, put};
+}
+
+// A call in an instance of its own: words, a text, and sectors as a file has them, or null for so many of zeros. Gives the status, what is
+// printed, and the sectors.
+function called(module, words, text, {sectors, many, room}) {
+  const {x, view, roomFor, put} = instanceOf(module), given = Array.from({length: MOST_WORDS}, (_, k) => put(Buffer.from(words[k] ?? ''))).flat(), source = put(text);
   const held = roomFor(many * SECTOR_BYTES), lines = roomFor(room), printed = roomFor(8), seen = view(held, many * SECTOR_BYTES);
   if (sectors) seen.set(Buffer.from(sectors).swap64());
   const status = x.b67_web_serve(...given, BigInt(words.length), ...source, held, BigInt(many), lines, BigInt(room), printed) & 255;
@@ -65,18 +77,53 @@ function fails(problem) {
   throw problem;
 }
 
+// What the calls of several tries give: that of the first one whose status isn't `again`, or of the last one.
+function firstOf(tries, again, calls) {
+  let made;
+  for (const one of tries) {
+    made = calls(one);
+    if (made.status !== again) break;
+  }
+  return made;
+}
+// Carries out a command over the sectors of a file, or over zeros: with more room while it prints more, and over more sectors if they don't suffice.
+function over(module, words, text, sectors) {
+  return firstOf(SECTORS_OF[words[0]] ?? [1], BACKING_FULL, many => firstOf(ROOMS, PRINTING, room => called(module, words, text, {sectors: sectors?.subarray(0, many * SECTOR_BYTES), many, room})));
+}
+
+// The status of opening a deck in a core: OPENED, or that of a run.
+function opening(module, text, core) {
+  const {x, roomFor, put} = instanceOf(module), none = roomFor(8);
+  return x.b67_web_find(core, ANOTHER_TASK, none, 0n, 0n, 0n, ...put(text), SECTORS, none) & 255;
+}
+
 // The file of --backing: {held, sectors, write}, or {why} it is none. It is created if it is missing; a file of another length is left as it is.
 function opened(file) {
   const length = SECTORS * SECTOR_BYTES;
   try {
-    const held = fs.openSync(file, fs.constants.O_RDWR | fs.constants.O_CREAT, 0o666), its = fs.fstatSync(held), out = fs.fstatSync(1);
-    if (!its.isFile() || its.ino === out.ino && its.dev === out.dev) return {why: its.isFile() ? 'the lines are to be printed into it' : 'it is no file'};
+    const {O_RDWR, O_CREAT, O_NONBLOCK = 0} = fs.constants, held = fs.openSync(file, O_RDWR | O_CREAT | LOCKING | (LOCKING && O_NONBLOCK), 0o666);
+    if (!fs.fstatSync(held).isFile()) return {why: 'it is not a regular file'};
+    if (isOutput(held)) return {why: 'standard output goes into it'};
+    if (!LOCKING && !isLocked(held)) return {why: 'another run uses it'};
+    const its = fs.fstatSync(held);
     if (its.size !== 0 && its.size !== length) return {why: `it has ${its.size} bytes, and a backing file has ${length}`};
     if (its.size === 0) fs.ftruncateSync(held, length);
     return {held, sectors: its.size ? fs.readFileSync(file) : null};
   } catch (problem) {
     return {why: problem.message};
   }
+}
+function isOutput(held) {
+  try {
+    const [its, out] = [held, 1].map(it => fs.fstatSync(it));
+    return its.ino === out.ino && its.dev === out.dev;
+  } catch {
+    return false; // nothing is known of it, as of a console of Windows
+  }
+}
+// Locks a file by the command flock, whose lock is that of whoever has the file open; false if another one has locked it.
+function isLocked(held) {
+  return spawnSync('flock', ['-n', '3'], {stdio: ['ignore', 'ignore', 'ignore', held]}).status !== 1;
 }
 // Writes the sectors up to the last byte that has changed.
 function writes({held, sectors}, after) {
@@ -90,10 +137,13 @@ function same(before, after, from, to) {
   return before ? part.equals(before.subarray(from, to)) : part.every(it => it === 0);
 }
 
-// What stands in the place of a run whose backing is no file: the deck, or the image, is read and judged first.
+// What a command gives whose file can't be used: BACKING FAULT, unless its text is refused, or its core or the device is too small for the
+// opening. A deck without a job uses no sector, so it is no fault.
 function withoutBacking(module, words, text, file, why) {
-  const judged = called(module, [words[0] === 'resume' ? 'dump' : 'check'], text, {many: 1, room: ROOMS[1]});
-  return judged.status ? judged : {status: BACKING_FAULT, bytes: Buffer.from('BACKING FAULT\n'), said: `${file}: ${why}`};
+  const resumes = words[0] === 'resume';
+  if (!resumes && opening(module, text, Number(words[words.indexOf('--core') + 1])) !== OPENED) return over(module, words, text, null);
+  const judged = called(module, [resumes ? 'dump' : 'check'], text, {many: 1, room: ROOMS[1]});
+  return judged.status || !judged.bytes.length ? judged : {status: BACKING_FAULT, bytes: Buffer.from('BACKING FAULT\n'), said: `${file}: ${why}`};
 }
 
 // The words as the machine takes them: where no file is named, the sectors have a name all the same.
@@ -111,15 +161,10 @@ function refused(module, passed) {
 
 // Carries out a command over a text: {status, bytes, said}, where `said` is for standard error.
 export function serve(module, words, text) {
-  const [name] = words, at = words.indexOf('--backing'), over = ['run', 'image', 'resume'].includes(name), file = over && at > 0 ? words[at + 1] : undefined;
+  const at = words.indexOf('--backing'), file = ['run', 'image', 'resume'].includes(words[0]) && at > 0 ? words[at + 1] : undefined;
   const passed = passedOf(words), device = file && !refused(module, passed) ? opened(file) : null;
   if (device?.why) return withoutBacking(module, passed, text, file, device.why);
-  const many = over || name === 'exercise' ? SECTORS : 1;
-  let made;
-  for (const room of ROOMS) {
-    made = called(module, passed, text, {sectors: device?.sectors, many, room});
-    if (made.status !== PRINTING) break;
-  }
+  const made = over(module, passed, text, device?.sectors);
   if (device) writes(device, made.sectors());
   return {...made, said: made.status === PRINTING ? 'more than 1 GiB is printed: this is the beginning' : ''};
 }

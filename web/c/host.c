@@ -12,7 +12,7 @@
 #include <sys/stat.h>
 #include <unistd.h>
 
-enum { FEW_SECTORS = 1024, SECTORS = 65536, SECTOR_BYTES = 240, FILE_BYTES = SECTORS * SECTOR_BYTES, MOST_ARGUMENTS = 5 };
+enum { FEW_SECTORS = 1024, EXERCISE_SECTORS = 4096, SECTORS = 65536, SECTOR_BYTES = 240, FILE_BYTES = SECTORS * SECTOR_BYTES, MOST_ARGUMENTS = 5 };
 enum { DECK_BYTES = 4194304, IMAGE_BYTES = 67108864 }; // the machine refuses a longer text
 enum { USAGE = 1, BACKING_FULL = 5, BACKING_FAULT = 6, READING_FAULT = 7, NOT_PRINTED = 8, NO_MEMORY = 9, CANT = 10 };
 
@@ -229,7 +229,7 @@ static Made over(int count, char **arguments, Text text, const u8 *held) {
 static int carries_out(int count, char **arguments, const char *path) {
     const char *name = count ? arguments[0] : "";
     int resumes = is(name, "resume"), runs = resumes || is(name, "run") || is(name, "image");
-    if (is(name, "exercise")) return answered(called(count, arguments, (Text){"", 0}, SECTORS, NULL));
+    if (is(name, "exercise")) return answered(called(count, arguments, (Text){"", 0}, EXERCISE_SECTORS, NULL));
     Made made = called(count, arguments, (Text){"?", 1}, 1, NULL);
     if (made.status == USAGE) return answered(made); // then nothing is opened or read
     static Text text; // both live as long as the program

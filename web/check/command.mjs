@@ -17,7 +17,7 @@ export const LINES = [
   'run --core 630 --backing notes < two', 'run --core 630 --backing notes < bad', 'run --core 300 --backing notes < two', 'run --core 630 --backing notes < /dev/null', 'image --core 300 --backing . < halted',
   'run --core 630 --backing b < .', 'run --core 630 --backing b < two > /dev/full', 'run --core 630 --backing b < two > b', 'run --core 630 --backing /dev/null < two', 'check < loop; B67 run --core 4096 --backing b < loop',
   'image --core 630 --backing b < halted > i; B67 resume --backing b < i', 'image --core 630 --backing b < halted | B67 dump', 'image --core 630 --backing b < halted > i; B67 resume --backing notes < i',
-  'run', '', '""', 'exercise 7 40 --core 4096', 'exercise 7 40 --core 4096 > /dev/full', 'check < bad', 'resume --backing b < two', 'dump < /dev/null', 'resume --backing notes < bad',
+  'run', '', '""', 'exercise 7 40 --core 4096', 'exercise 3 500 --core 256', 'exercise 3 500 --core 1048575', 'exercise 7 40 --core 4096 > /dev/full', 'check < bad', 'resume --backing b < two', 'dump < /dev/null', 'resume --backing notes < bad',
   'run --core 0 --backing b < .', 'image --core 630 --backing b < .', 'resume --backing b < .', 'nothing < .', 'check < .', 'asm < two', 'convert < two', 'bind < two', 'bind 1=1 x < two',
   'run --core 630 --backing b 2=2 < two', 'run --core 630 --backing < two', 'run --core 0630 --backing b < two', 'run --core 630 --core 630 --backing b < two',
 ];

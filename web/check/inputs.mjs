@@ -1,4 +1,5 @@
 // Bad input, faults, decks of one's own, names for cells, and long decks.
+import {execFileSync} from 'node:child_process';
 import {told} from './tried.mjs';
 
 const LOOP = '?JOB LOOP\n?ASM\nSEGMENT MAIN 2\nTOP: BRUN TOP\n?END\n';
@@ -61,8 +62,17 @@ async function stopsOnTheWay(it) {
   it.wants(found && count === Number(found[1].replaceAll(',', '')), `a search that is stopped says ${told(message)}, and leads to ${count}`);
 }
 
+// An exercise in the core of the field prints what the program prints.
+async function exercises(it) {
+  await it.opens('sum,4096');
+  await it.browser.value("document.getElementById('exercise').click(); 0");
+  const {ran} = await it.state(), native = execFileSync(it.native, ['exercise', '7', '40', '--core', '4096']).toString();
+  it.wants(ran?.text === native, `an exercise: ${told(ran?.text)}, natively ${told(native)}`);
+}
+
 export async function bad_input(it) {
   await refused(it);
+  await exercises(it);
   await stops(it);
 }
 

@@ -4,7 +4,10 @@ import {SECTOR} from '../reader/words.js';
 const MOST_WORDS = 5;
 const BYTE = 255; // a status is a byte; what the module leaves above it means nothing
 const SECTOR_BYTES = 8 * SECTOR;
-const [FEW_SECTORS, ALL_SECTORS] = [1024, 65536]; // as many as a file has
+const ALL_SECTORS = 65536; // as many as a file has
+// Over how many sectors a command is carried out: the next number if the one before didn't suffice. Each call copies its sectors, 0.6 us a
+// sector, so a run begins with few: their number changes no line of a run that ends or halts. An image names all of them.
+const SECTORS_OF = {run: [1024, ALL_SECTORS], image: [ALL_SECTORS], resume: [ALL_SECTORS], exercise: [4096]};
 const BACKING_FULL = 5;
 const encoder = new TextEncoder();
 const latin = new TextDecoder('latin1');
@@ -38,13 +41,6 @@ function lendSectors(instance, sectors) {
   return [roomFor(instance, sectors * SECTOR_BYTES), BigInt(sectors)];
 }
 
-// Over how many sectors a command is carried out: the next number if the one before didn't suffice. Each call copies its sectors, 0.6 us a
-// sector, so a run begins with few: their number changes no line of a run that ends or halts. An image names all of them.
-function sectorsFor([name]) {
-  if (name === 'run') return [FEW_SECTORS, ALL_SECTORS];
-  return ['image', 'resume'].includes(name) ? [ALL_SECTORS] : [1];
-}
-
 // The number of 8 bytes at an address, the lowest byte first.
 function numberAt({memory}, at) {
   return Number(new DataView(memory.buffer).getBigUint64(Number(at), true));
@@ -75,7 +71,7 @@ export class Program {
   // that an earlier call has left; as many as it takes if they aren't given. `room` is how many bytes may be printed. Gives status, what is
   // printed, and the sectors.
   call(words, text, {sectors, room = 1 << 20} = {}) {
-    const [first, ...more] = sectors === undefined ? sectorsFor(words) : [sectors];
+    const [first, ...more] = sectors === undefined ? SECTORS_OF[words[0]] ?? [1] : [sectors];
     return more.reduce((called, many) => (called.status === BACKING_FULL ? this.over(words, text, many, room) : called), this.over(words, text, first, room));
   }
   over(words, text, sectors, room) {
