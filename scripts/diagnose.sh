@@ -15,15 +15,14 @@ usage() {
 }
 [ $# = 1 ] || usage "one deck is wanted"
 deck=$1
-program=${B67:-b67}
 here=$(cd "$(dirname "$0")" && pwd)
 [ -f "$deck" ] && [ -r "$deck" ] || usage "$deck: not a file that can be read"
-command -v "$program" >/dev/null && [ ! -d "$(command -v "$program")" ] || usage "$program: not a program that can be run: put b67 on the path, or name it as in B67=PROGRAM sh scripts/diagnose.sh"
 job=
 room=
 trap 'rm -rf "$room"' EXIT
 trap 'exit 130' HUP INT TERM
 room=$(mktemp -d) || exit 2
+. "$here/program.sh"
 sh "$here/cells.sh" "$deck" >"$room/deck" || exit 1
 "$program" check <"$room/deck" >"$room/lines"
 status=$?

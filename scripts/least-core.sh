@@ -15,16 +15,15 @@ usage() {
 }
 [ $# = 1 ] || usage "one deck is wanted"
 deck=$1
-program=${B67:-b67}
 here=$(cd "$(dirname "$0")" && pwd)
 [ -f "$deck" ] && [ -r "$deck" ] || usage "$deck: not a file that can be read"
-command -v "$program" >/dev/null && [ ! -d "$(command -v "$program")" ] || usage "$program: not a program that can be run: put b67 on the path, or name it as in B67=PROGRAM sh scripts/least-core.sh"
 room=
 trap 'rm -rf "$room"' EXIT
 # what runs is a child that is waited for, so a signal ends both; twice, since a child that is no program yet loses the first
 running=
 trap '[ -z "$running" ] || { kill $!; sleep 0.2; kill $!; } 2>/dev/null; exit 130' HUP INT TERM
 room=$(mktemp -d) || exit 2
+. "$here/program.sh"
 sh "$here/cells.sh" "$deck" >"$room/deck" || exit 1
 core=256
 while :; do

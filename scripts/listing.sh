@@ -17,7 +17,6 @@ usage() {
 }
 [ $# = 1 ] || [ $# = 2 ] || usage "one deck, and a job if you like"
 deck=$1
-program=${B67:-b67}
 job=${2:-1}
 here=$(cd "$(dirname "$0")" && pwd)
 case $job in [1-8]) ;; *) usage "$job: a job is a number from 1 to 8" ;; esac
@@ -53,7 +52,7 @@ prefix=$(cat "$room/prefix" 2>/dev/null)
 : >"$room/cards"
 : >"$room/names"
 if [ "$(cat "$room/kind")" = ASM ]; then
-    command -v "$program" >/dev/null && [ ! -d "$(command -v "$program")" ] || usage "$program: not a program that can be run: put b67 on the path, or name it as in B67=PROGRAM sh scripts/listing.sh"
+    . "$here/program.sh"
     "$program" asm <"$room/body" >"$room/hex" || { grep . "$room/hex" >&2 || echo "$program: it answers nothing" >&2; exit 1; }
     # operators alone: number, segment, mnemonic, and the card as it stands in DECK; and the names of segments and rows
     tr -d '\r' <"$deck" >"$room/own"

@@ -17,13 +17,11 @@ usage() {
     exit 2
 }
 [ $# -ge 2 ] || usage "a deck, and a file with the lines that it should print"
-program=${B67:-b67}
 here=$(cd "$(dirname "$0")" && pwd)
 for file in "$@"; do
     [ -f "$file" ] && [ -r "$file" ] || usage "$file: not a file that can be read"
     wanted=$file
 done
-command -v "$program" >/dev/null && [ ! -d "$(command -v "$program")" ] || usage "$program: not a program that can be run: put b67 on the path, or name it as in B67=PROGRAM sh scripts/mark.sh"
 LC_ALL=C grep -q '^[0-9][0-9]*\.[0-9][0-9]* ' <"$wanted" || usage "$wanted: no lines of a run: EXPECTED stands last"
 LC_ALL=C grep -q '^?JOB' <"$wanted" && usage "$wanted: this is a deck: EXPECTED stands last"
 room=
@@ -32,6 +30,7 @@ trap 'rm -rf "$room"' EXIT
 running=
 trap '[ -z "$running" ] || { kill $!; sleep 0.2; kill $!; } 2>/dev/null; exit 130' HUP INT TERM
 room=$(mktemp -d) || exit 2
+. "$here/program.sh"
 tr -d '\r' <"$wanted" >"$room/wanted" || exit 2
 
 # the first line of `lines` that isn't as it should be, in words; nothing if all are

@@ -16,10 +16,8 @@ usage() {
 [ $# -ge 2 ] || usage "a deck, and at least one size of core"
 deck=$1
 shift
-program=${B67:-b67}
 here=$(cd "$(dirname "$0")" && pwd)
 [ -f "$deck" ] && [ -r "$deck" ] || usage "$deck: not a file that can be read"
-command -v "$program" >/dev/null && [ ! -d "$(command -v "$program")" ] || usage "$program: not a program that can be run: put b67 on the path, or name it as in B67=PROGRAM sh scripts/paging.sh"
 command -v strace >/dev/null || usage "strace isn't installed, and nothing else here counts the sectors"
 for core in "$@"; do
     case $core in
@@ -31,6 +29,7 @@ room=
 trap 'rm -rf "$room"' EXIT
 trap 'exit 130' HUP INT TERM
 room=$(mktemp -d) || exit 2
+. "$here/program.sh"
 sh "$here/cells.sh" "$deck" >"$room/deck" || exit 2
 "$program" check <"$room/deck" >"$room/lines" || { tail -n 1 "$room/lines" | grep . >&2 || echo "$program: it answers nothing" >&2; exit 2; }
 echo "   core    read written  last line"

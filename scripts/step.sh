@@ -19,7 +19,6 @@ usage() {
 deck=$1
 from=$2
 to=${3:-$2}
-program=${B67:-b67}
 here=$(cd "$(dirname "$0")" && pwd)
 for count in "$from" "$to"; do
     case $count in '' | *[!0-9]* | 0* | ??????????*) usage "$count: a count is a number from 1 to 800000000" ;; esac
@@ -27,11 +26,11 @@ for count in "$from" "$to"; do
 done
 [ "$from" -le "$to" ] || usage "$from comes after $to"
 [ -f "$deck" ] && [ -r "$deck" ] || usage "$deck: not a file that can be read"
-command -v "$program" >/dev/null && [ ! -d "$(command -v "$program")" ] || usage "$program: not a program that can be run: put b67 on the path, or name it as in B67=PROGRAM sh scripts/step.sh"
 room=
 trap 'rm -rf "$room"' EXIT
 trap 'exit 130' HUP INT TERM
 room=$(mktemp -d) || exit 2
+. "$here/program.sh"
 sh "$here/cells.sh" "$deck" >"$room/deck" || exit 2
 "$program" check <"$room/deck" >"$room/checked" || { tail -n 1 "$room/checked" | grep . >&2 || echo "$program: it answers nothing" >&2; exit 2; }
 grep -v '^?HALT' <"$room/deck" >"$room/whole"

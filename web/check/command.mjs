@@ -136,7 +136,7 @@ export function byImages(comparison, decks, program, command) {
 }
 
 if (process.argv[1] && fs.realpathSync(process.argv[1]) === fileURLToPath(import.meta.url)) {
-  const [command, program, decks, rows] = process.argv.slice(2), comparison = new Comparison();
+  const [command, program, decks, rows] = process.argv.slice(2).map(it => path.resolve(it)), comparison = new Comparison();
   byRows(comparison, rows, program, (words, text, folder) => ran(command, words, text, folder));
   byLines(comparison, decks, program, command);
   byLock(comparison, program, command);

@@ -12,7 +12,7 @@ import {packedHand} from '../src/course/handin.js';
 import {WRITTEN} from '../tests/answers.js';
 import {byDecks, byImages, byLines, byLock, byRows, Comparison} from './command.mjs';
 
-const [command, page, program, decks, rows] = process.argv.slice(2), comparison = new Comparison(), {room} = comparison;
+const [command, page, program, decks, rows] = process.argv.slice(2).map(it => path.resolve(it)), comparison = new Comparison(), {room} = comparison;
 const module = new WebAssembly.Module(pageOf(page).bytes), wants = (holds, what) => comparison.wants(holds, what);
 
 // A call of b67.mjs in a folder.
