@@ -13,13 +13,14 @@
 // Two commands for teachers, over the same module and the page's own scripts, in one process:
 //
 //     node web/b67.mjs mark DECK.. EXPECTED [--data FILE] [--csv]
-//     node web/b67.mjs class FILE.. > marks.csv
+//     node web/b67.mjs class FILE.. [--key SHEET] > marks.csv
 //
 // `mark` runs each deck in turns of 1, 7, 17 and 1,000 operators, in its least core and in the greatest, and compares its lines with those of
 // EXPECTED, up to `1.1 ENDED`, as scripts/mark.sh does. --data gives other numbers for READ in the place of those on ?DATA cards, which a
 // deck of constants doesn't know. No job makes more than 1,000,000 operators, and no run prints much more than EXPECTED has. Status 1 if a
-// deck is wrong. `class` takes the links that pupils have handed in out of files, or of all files of a folder, does each work again, and
-// prints a table: 1 for a work that came out again, 0 for one that didn't, t for one that can't be done again. Nothing of it is proved.
+// deck is wrong. `class` takes the links that pupils have handed in out of files, zip archives, or all files of a folder, does each work again,
+// and prints a table: 1 for a work that came out again, 0 for one that didn't, t for one that can't be done again. SHEET is a sheet as its
+// teacher keeps it, whose tests are made too. Nothing of it is proved.
 import {spawnSync} from 'node:child_process';
 import fs from 'node:fs';
 import path from 'node:path';
@@ -225,10 +226,13 @@ function partsOf({html}) {
 
 function read(file) {
   try {
-    return fs.readFileSync(file, 'latin1').replaceAll('\r', '');
+    return fs.readFileSync(file, 'latin1');
   } catch {
     throw new Cant(`${file}: not a file that can be read`);
   }
+}
+function unixRead(file) {
+  return read(file).replaceAll('\r', '');
 }
 // The files that are named, and those of folders.
 function filesOf(names) {
@@ -274,11 +278,11 @@ function markOf(module, text, wanted, withoutNames, data) {
 }
 
 async function mark(module, page, words) {
-  const at = words.indexOf('--data'), data = at < 0 ? null : read(words[at + 1] ?? ''), csv = words.includes('--csv'), {withoutNames, csvOf} = partsOf(page);
-  const files = words.filter((it, k) => it !== '--csv' && (at < 0 || k !== at && k !== at + 1)), wanted = files.length > 1 ? read(files.pop()) : '';
+  const at = words.indexOf('--data'), data = at < 0 ? null : unixRead(words[at + 1] ?? ''), csv = words.includes('--csv'), {withoutNames, csvOf} = partsOf(page);
+  const files = words.filter((it, k) => it !== '--csv' && (at < 0 || k !== at && k !== at + 1)), wanted = files.length > 1 ? unixRead(files.pop()) : '';
   if (!/^\d+\.\d+ /m.test(wanted) || /^\?JOB/m.test(wanted)) throw new Cant('usage: mark DECK.. EXPECTED [--data FILE] [--csv], where EXPECTED has the lines of a right run');
   const lines = filesOf(files).map(file => {
-    const {right, runs, first} = markOf(module, read(file), wanted, withoutNames, data);
+    const {right, runs, first} = markOf(module, unixRead(file), wanted, withoutNames, data);
     if (!csv) console.log(runs && right === runs ? `${file}: right in ${runs} runs` : runs ? `${file}: wrong in ${runs - right} of ${runs} runs\n    ${first}` : `${file}: ${first}`);
     return [file, runs && right === runs ? 1 : 0, right, runs, first];
   });
@@ -286,9 +290,22 @@ async function mark(module, page, words) {
   return lines.every(([, is]) => is) ? 0 : 1;
 }
 
+// The value of an option, and the words without it.
+function optionOf(words, name) {
+  const at = words.indexOf(name);
+  return at < 0 ? [null, words] : [words[at + 1] ?? '', words.filter((_, k) => k !== at && k !== at + 1)];
+}
+// The texts of files and of archives, as one.
+async function textOfFiles(files, textsIn) {
+  const texts = [];
+  for (const file of files) texts.push(...await textsIn(Buffer.from(read(file), 'latin1')).catch(({message}) => fails(new Cant(`${file}: ${message}`))));
+  return texts.join('\n');
+}
+
 async function marksOfClass(page, words) {
-  const {Desk, handsOf, tasksFor, marksOf, linesOf, csvOf, decks} = partsOf(page), desk = new Desk(() => {}), ask = async (name, data) => desk[name](data);
-  const {hands, broken} = await handsOf(filesOf(words).map(read).join('\n')), tasks = tasksFor(hands.map(it => it.hand), decks), [marks, seen] = [new Map(), new Map()];
+  const {Desk, handsOf, keysOf, tasksFor, marksOf, linesOf, csvOf, textsIn, decks} = partsOf(page), desk = new Desk(() => {}), ask = async (name, data) => desk[name](data);
+  const [sheet, files] = optionOf(words, '--key'), keys = sheet === null ? [] : await keysOf(Buffer.from(read(sheet), 'latin1').toString('utf8'), decks).catch(({message}) => fails(new Cant(`${sheet}: ${message}`)));
+  const {hands, broken} = await handsOf(await textOfFiles(filesOf(files), textsIn)), tasks = tasksFor(hands.map(it => it.hand), decks, keys), [marks, seen] = [new Map(), new Map()];
   if (!hands.length) throw new Cant('no link of work that was handed in stands in these files: each has the sign # and hand: in it');
   await desk.start({bytes: page.bytes, compares: false});
   for (const [k, {part, hand}] of hands.entries()) {

@@ -50,7 +50,7 @@ async function by_class() {
   fs.mkdirSync(path.join(folder, 'Ada'), {recursive: true});
   fs.writeFileSync(path.join(folder, 'Ada/online.html'), `<a href="https://a.b/b67.html#hand:${packed}">`);
   const {status, stdout} = spawnSync(command, ['class', folder]);
-  wants(status === 0 && /^id,name.*\n17,Ada,,,2,1,1,0,0,,,0,,1,/.test(stdout), `a class: ${status} ${stdout}`);
+  wants(status === 0 && /^id,name.*\n17,Ada,,,2,1,1,0,0,0,,,0,,1,/.test(stdout), `a class: ${status} ${stdout}`);
 }
 
 byRows(comparison, rows, program, calls);

@@ -8,12 +8,14 @@ import {FOUND, PREDICTED, WRITTEN} from './answers.js';
 import {START} from '../src/page/decks.js';
 import {CONDITIONS, conditionOf} from '../src/course/conditions.js';
 import {TASKS} from '../src/course/course.js';
-import {csvOf, handsOf, linesOf, marksOf, tasksFor} from '../src/course/class.js';
+import {csvOf, handsOf, keysOf, linesOf, marksOf, tasksFor} from '../src/course/class.js';
 import {doneAgain, handedIn, handsIn, packedHand, sameDecks} from '../src/course/handin.js';
 import {namesIn, NamesRefused, withoutNames} from '../src/names/names.js';
 import {isFound, isWritten} from '../src/course/progress.js';
 import {runWords, textOf} from '../src/machine/program.js';
-import {EXAMPLE, keyOfSheet, newestOf, sheetOf} from '../src/course/sheet.js';
+import {EXAMPLE, keyOfSheet, newestOf, sharedSheet, sheetOf} from '../src/course/sheet.js';
+import {textsIn} from '../src/course/zip.js';
+import {packedText} from '../src/editor/share.js';
 import {sentenceOf} from '../src/ear/speech.js';
 import {cellWords, nextCell} from '../src/ear/walk.js';
 import {Desk} from '../src/page/worker.js';
@@ -129,10 +131,28 @@ test('the marks of a class: claimed and done again apart, the newest link of a p
   const all = tasksFor(hands.map(it => it.hand), PAGE), desk = deskOf(), marks = new Map(), seen = new Map();
   for (const {part, hand} of hands) marks.set(part, await marksOf(asker(desk), hand, all, PAGE, {seen}));
   const [head, ...rows] = csvOf(linesOf(hands, all, part => marks.get(part))).split('\n');
-  assert.match(head, /^id,name,time,older,claimed,total,not so,told,same decks,s1,s2,1\.1,/);
-  assert.match(rows[0], /^17,Ada,2026-12-01T10:00,older,1,1,0,0,1,/);
-  assert.match(rows[1], /^17,Ada,2026-12-02T10:00,,2,2,0,0,1,1,,/);
-  assert.match(rows[2], /^,"'=Bo, ""B""",,,1,0,1,0,0,/);
+  assert.match(head, /^id,name,time,older,claimed,total,not so,told,wrong answers,same decks,s1,s2,1\.1,/);
+  assert.match(rows[0], /^17,Ada,2026-12-01T10:00,older,1,1,0,0,0,1,/);
+  assert.match(rows[1], /^17,Ada,2026-12-02T10:00,,2,2,0,0,0,1,1,,/);
+  assert.match(rows[2], /^,"'=Bo, ""B""",,,1,0,1,0,0,0,/);
+});
+
+// Two files, packed by Python's zipfile: one deflated, one stored.
+const ZIP = Uint8Array.from(atob('UEsDBBQAAAAIAAAAIVwlaQV4CwAAAAkAAAAPAAAAQWRhL29ubGluZS5odG1sU85IzEuxSkxKBgBQSwMEFAAAAAAAAAAhXM9iIBkFAAAABQAAAAEAAABicGxhaW5QSwECFAMUAAAACAAAACFcJWkFeAsAAAAJAAAADwAAAAAAAAAAAAAAgAEAAAAAQWRhL29ubGluZS5odG1sUEsBAhQDFAAAAAAAAAAhXM9iIBkFAAAABQAAAAEAAAAAAAAAAAAAAIABOAAAAGJQSwUGAAAAAAIAAgBsAAAAXAAAAAAA'), sign => sign.charCodeAt(0));
+// A key has tests with other numbers: of these works, of which the sheet without its tests accepts all but the last two, one is right.
+const KEY = `id: twice-1\nversion: 1\n\ntask: Twice\nask: Print twice what READ gives.\nprints: 1.1 8\nprints: 1.1 ENDED\ntest: 5\ngives: 1.1 10\ngives: 1.1 ENDED\ndeck:\n?JOB T\n?ASM\nSEGMENT MAIN 2\nEXIT\n?DATA\n4\n?END\n`;
+test('a deck of constants, a forged sheet and a forged link fail by the key; other numbers, a zip archive', async () => {
+  await turn();
+  const shared = sharedSheet(KEY), {tasks: [task]} = sheetOf(shared, PAGE), deck = cards => task.deck.replace('EXIT', `MKST\nNAMC 0,9\n${cards}\nENTR\nEXIT`), honest = deck('MKST\nNAMC 0,11\nENTR\nDUPL\nADD');
+  assert.deepEqual([shared.includes('test:'), task.tests, task.id], [false, [], sheetOf(KEY, PAGE).tasks[0].id]);
+  const works = [[honest, shared], [deck('LT8 8'), shared], [task.deck, shared.replace('version: 1', 'version: 2').replace('prints: 1.1 8\n', '')], [task.deck, shared]];
+  const packed = await Promise.all(works.map(([text, sheet], k) => packedHand({version: '1', name: `n${k}`, sheets: [sheet], work: [[task.id, {deck: text, core: 4096}]]})));
+  const {hands} = await handsOf(packed.map(it => `#hand:${it}`).join(' ')), keys = await keysOf(`x#sheet:${await packedText(KEY)}`, PAGE), desk = deskOf(), marks = [];
+  for (const {hand} of hands) marks.push(...(await marksOf(asker(desk), hand, tasksFor(hands.map(it => it.hand), PAGE, keys), PAGE)).values());
+  assert.deepEqual(marks, [true, false, false, false]);
+  assert.deepEqual(await textsIn(ZIP), ['#hand:abc', 'plain']);
+  await assert.rejects(textsIn(ZIP.subarray(0, 90)), /has no end/);
+  for (const text of [KEY.replace('id: twice-1\n', ''), KEY.replace('test: 5\n', ''), KEY.replace('test: 5', 'test: five'), KEY.replace(/gives.*\n/g, '')]) assert.throws(() => sheetOf(text, PAGE), /Line \d+ of the sheet/);
 });
 
 test('equal decks of several pupils', () => {
@@ -140,6 +160,8 @@ test('equal decks of several pupils', () => {
   assert.deepEqual(sameDecks([one, other, same, null, {deck: 'two'}, {deck: 'two'}]), ['a', '', 'a', '', '', '']);
   assert.deepEqual(sameDecks([other, one, one, other]), ['a', 'b', 'b', 'a']);
   assert.deepEqual(sameDecks([one, null]), ['', '']);
+  const [plain, hidden, loop] = ['?ASM\nONE\nEXIT\n', '?ASM\nNOOP\nL: ONE\nM: NOOP ; x\nEXIT\n', '?ASM\nL: ONE\nBRUN L\n'].map(deck => ({deck}));
+  assert.deepEqual(sameDecks([plain, hidden, loop]), ['a', 'a', '']);
 });
 
 const NAMED = '?JOB A\n?ASM\n; the sum\nSEGMENT MAIN 2\nCELL total 2,2\nZERO\nL: VALC total  ; the sum\nNAMC total\nSTOD\nCELL total 2,3 ; another\nVALC total\nEXIT\n?END\n';

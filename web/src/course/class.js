@@ -3,6 +3,7 @@
 import {COURSE} from './course.js';
 import {doneAgain, handedIn, handsIn, sameDecks} from './handin.js';
 import {newestOf, sheetOf} from './sheet.js';
+import {unpacked} from '../editor/share.js';
 
 // The hands in a text of many messages: {part, hand}, and how many can't be read. Of one pupil, by number or else by name, all but the
 // newest are `older`.
@@ -13,20 +14,27 @@ export async function handsOf(text) {
   return {hands: read.map(it => ({...it, older: newest.get(whose(it)) !== it})), broken: found.length - read.length};
 }
 
-// The sheets of some hands, of each the newest version; one that can't be read is left out.
-export function sheetsOf(hands, decks) {
-  return newestOf([...new Set(hands.flatMap(({sheets}) => sheets))].flatMap(text => {
+// The sheets that a teacher keeps, with their tests: of a text that is one, or that has links to some. Fails where it's neither.
+export async function keysOf(text, decks) {
+  const links = [...text.matchAll(/#sheet:([\w-]+)/g)], texts = await Promise.all(links.map(([, part]) => unpacked(part)));
+  return (links.length ? texts : [text].filter(it => it.trim())).map(it => sheetOf(it, decks));
+}
+
+// The sheets of some hands, of each the newest version; one that can't be read is left out. A key stands in the place of the pupils' own sheet.
+export function sheetsOf(hands, decks, keys = []) {
+  const sheets = newestOf([...new Set(hands.flatMap(({sheets}) => sheets))].flatMap(text => {
     try {
       return [sheetOf(text, decks)];
     } catch {
       return [];
     }
   }));
+  return sheets.map(sheet => keys.find(it => it.key === sheet.key) ?? sheet);
 }
 
 // The tasks that works can be about: those of sheets, and those of the lessons.
-export function tasksFor(hands, decks) {
-  return [...sheetsOf(hands, decks), ...COURSE].flatMap(it => it.tasks);
+export function tasksFor(hands, decks, keys) {
+  return [...sheetsOf(hands, decks, keys), ...COURSE].flatMap(it => it.tasks);
 }
 
 // The short name of a task above its column.
@@ -54,6 +62,11 @@ export function sumsOf(hand, tasks, marks) {
   return {claimed: tasks.filter(({id}) => hand.work.has(id)).length, again: count(true), not: count(false), told: count(null)};
 }
 
+// How many wrong answers to questions came before the right ones.
+export function wrongAnswersOf({work}) {
+  return [...work.values()].reduce((sum, {tries}) => sum + (tries > 1 ? tries - 1 : 0), 0);
+}
+
 // The letters of equal decks, by task: for each hand one.
 export function lettersOf(hands, tasks) {
   return new Map(tasks.map(({id}) => [id, sameDecks(hands.map(({hand}) => hand.work.get(id) ?? null))]));
@@ -73,9 +86,9 @@ export function csvOf(lines) {
 // tell, and ? for one that wasn't done again; nothing for none.
 export function linesOf(hands, tasks, marksFor) {
   const sign = (hand, marks, id) => (!hand.work.has(id) ? '' : !marks?.has(id) ? '?' : {true: 1, false: 0, null: 't'}[marks.get(id)]);
-  const head = ['id', 'name', 'time', 'older', 'claimed', 'total', 'not so', 'told', 'same decks', ...tasks.map(task => columnOf(task, tasks))], letters = lettersOf(hands, tasks);
+  const head = ['id', 'name', 'time', 'older', 'claimed', 'total', 'not so', 'told', 'wrong answers', 'same decks', ...tasks.map(task => columnOf(task, tasks))], letters = lettersOf(hands, tasks);
   return [head, ...hands.map(({part, hand, older}, k) => {
     const marks = marksFor(part), {claimed, again, not, told} = sumsOf(hand, tasks, marks), same = tasks.filter(({id}) => letters.get(id)[k]).length;
-    return [hand.number, hand.name, hand.time, older ? 'older' : '', claimed, again, not, told, same, ...tasks.map(({id}) => sign(hand, marks, id))];
+    return [hand.number, hand.name, hand.time, older ? 'older' : '', claimed, again, not, told, wrongAnswersOf(hand), same, ...tasks.map(({id}) => sign(hand, marks, id))];
   })];
 }

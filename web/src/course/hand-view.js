@@ -1,7 +1,8 @@
 // What a teacher sees of what pupils hand in: the tasks of one, each with its deck, and a table of a class.
 import {byId, element, put} from '../page/elements.js';
 import {COURSE} from './course.js';
-import {columnOf, csvOf, handsOf, lettersOf, linesOf, marksOf, sheetsOf, sumsOf, tasksFor} from './class.js';
+import {columnOf, csvOf, handsOf, keysOf, lettersOf, linesOf, marksOf, sheetsOf, sumsOf, tasksFor, wrongAnswersOf} from './class.js';
+import {textsIn} from './zip.js';
 import {saveFile} from '../editor/keep.js';
 import {packed} from '../editor/share.js';
 
@@ -16,7 +17,7 @@ function nameOfWork({kind, number, id}) {
 
 export class Hand {
   constructor(page) {
-    Object.assign(this, {page, hand: null, links: '', part: '', looked: null, marks: new Map()}); // of each part of an address its marks, once done again
+    Object.assign(this, {page, hand: null, links: '', key: '', part: '', looked: null, marks: new Map()}); // of each part of an address its marks, once done again
     this.ask = (name, data) => page.client.ask(name, data);
   }
 
@@ -127,11 +128,14 @@ export class Hand {
 
   classPart() {
     const links = element('textarea', {id: 'class-links', rows: 3, 'aria-label': 'links that pupils have handed in', placeholder: 'Paste the links of one or of all pupils here, in any text, or drop their messages as files.'});
+    const key = element('textarea', {id: 'class-key', rows: 1, 'aria-label': 'the sheet with its tests', oninput: () => { this.marks.clear(); }});
     links.value = this.links;
+    key.value = this.key;
     const files = element('input', {type: 'file', id: 'class-files', multiple: true, 'aria-label': 'messages of pupils, as files', onchange: () => this.takesFiles(files.files)});
     const section = element('section', {class: 'class'}, element('h2', {}, 'A whole class'), links,
       element('p', {class: 'group'}, element('button', {type: 'button', id: 'class-show', onclick: () => this.page.guard(() => this.showsClass(links.value))}, 'Do all of them again, as a table'),
-        element('label', {class: 'file button', for: 'class-files'}, 'files'), files), element('p', {id: 'class-said', role: 'status'}), element('div', {id: 'class-table', tabindex: 0, role: 'region', 'aria-label': 'table of the class'}));
+        element('label', {class: 'file button', for: 'class-files'}, 'files or a zip archive'), files),
+      element('p', {}, element('label', {}, 'Your own text of the sheet, with its tests, if it has some: ', key)), element('p', {id: 'class-said', role: 'status'}), element('div', {id: 'class-table', tabindex: 0, role: 'region', 'aria-label': 'table of the class'}));
     section.addEventListener('dragover', event => event.preventDefault());
     section.addEventListener('drop', event => {
       if (event.dataTransfer.files.length) event.preventDefault();
@@ -142,16 +146,16 @@ export class Hand {
   // Puts what files hold below what stands in the field.
   takesFiles(files) {
     return this.page.guard(async () => {
-      const texts = await Promise.all([...files].map(file => file.text()));
-      byId('class-links').value = [byId('class-links').value, ...texts].filter(Boolean).join('\n');
+      const texts = await Promise.all([...files].map(async file => textsIn(new Uint8Array(await file.arrayBuffer()))));
+      byId('class-links').value = [byId('class-links').value, ...texts.flat()].filter(Boolean).join('\n');
       await this.showsClass(byId('class-links').value);
     });
   }
 
   // A row for each pupil, a column for each task. Each work is done again here; those that were, in this page, aren't once more.
   async showsClass(text) {
-    this.links = text;
-    const {page} = this, {hands, broken} = await handsOf(text), tasks = tasksFor(hands.map(it => it.hand), page.decks);
+    Object.assign(this, {links: text, key: byId('class-key').value});
+    const {page} = this, {hands, broken} = await handsOf(text), tasks = tasksFor(hands.map(it => it.hand), page.decks, await keysOf(this.key, page.decks));
     if (!hands.length) throw new Error('No link of work that was handed in stands in this text: each has the sign # and hand: in it.');
     const table = {hands, tasks, broken, letters: lettersOf(hands, tasks)};
     this.draws(table);
@@ -173,19 +177,19 @@ export class Hand {
   }
   draws(table) {
     const {hands, tasks, broken, letters} = table, isSame = [...letters.values()].flat().some(Boolean), older = hands.filter(it => it.older).length;
-    const head = element('tr', {}, ['pupil', 'told', 'again', 'not so'].map(it => element('th', {}, it)), tasks.map(task => element('th', {title: task.text}, columnOf(task, tasks))));
+    const head = element('tr', {}, ['pupil', 'told', 'again', 'not so', 'wrong answers'].map(it => element('th', {}, it)), tasks.map(task => element('th', {title: task.text}, columnOf(task, tasks))));
     const save = () => saveFile(csvOf(linesOf(hands, tasks, part => this.marks.get(part))), 'marks.csv', 'text/csv');
     put(byId('class-table'), broken ? element('p', {}, `${broken} of the links can’t be read: were they cut?`) : null, element('p', {}, element('button', {type: 'button', id: 'class-save', onclick: save}, 'Save the table as CSV')),
-      element('table', {}, head, hands.map((_, k) => this.pupilRow(table, k))), isSame ? element('p', {class: 'dim'}, 'Equal letters in a column: the same cards, comments left out. Of a short exercise that says little.') : null);
+      element('table', {}, head, hands.map((_, k) => this.pupilRow(table, k))), isSame ? element('p', {class: 'dim'}, 'Equal letters in a column: the same cards, comments and NOOPs left out. Of a short exercise that says little.') : null);
     byId('class-said').textContent = `${hands.length - older} pupils${older ? `, and ${older} older links of theirs` : ''}. ✓ came out again on this page’s machine, ✕ didn’t, ? wasn’t done again.`;
   }
   pupilRow({hands, tasks, letters}, k) {
     const {part, hand, older} = hands[k], marks = this.marks.get(part), {claimed, again, not} = sumsOf(hand, tasks, marks), number = text => element('td', {class: 'number'}, String(text));
     const cell = ({id}) => {
-      const is = marks?.get(id), sign = !marks?.has(id) ? '?' : is === false ? '✕' : is ? '✓' : 't';
-      return element('td', {class: is === false ? 'mark wrong' : undefined}, hand.work.has(id) ? `${sign}${letters.get(id)[k] && ` ${letters.get(id)[k]}`}` : '');
+      const is = marks?.get(id), {tries} = hand.work.get(id) ?? {}, often = tries > 1 ? ` ${tries}×` : '', sign = !marks?.has(id) ? '?' : is === false ? '✕' : is ? '✓' : 't';
+      return element('td', {class: is === false ? 'mark wrong' : undefined}, hand.work.has(id) ? `${sign}${often}${letters.get(id)[k] && ` ${letters.get(id)[k]}`}` : '');
     };
     return element('tr', {'data-pupil': k, class: older ? 'dim' : undefined}, element('th', {}, this.linkOf(part, hand.name), hand.number ? ` ${hand.number}` : '', older ? ' (older)' : ''),
-      number(claimed), number(marks ? again : ''), element('td', {class: not ? 'number mark wrong' : 'number'}, marks ? String(not) : ''), tasks.map(cell));
+      number(claimed), number(marks ? again : ''), element('td', {class: not ? 'number mark wrong' : 'number'}, marks ? String(not) : ''), number(wrongAnswersOf(hand) || ''), tasks.map(cell));
   }
 }

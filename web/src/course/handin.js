@@ -6,6 +6,7 @@ import {isRight, questionOf} from './predict.js';
 import {runWords} from '../machine/program.js';
 import {STOPPED} from '../page/client.js';
 import {withoutNames} from '../names/names.js';
+import {withNumbers} from '../page/deck-view.js';
 
 const FORMS = [1, 2]; // the first one had one sheet, and no number and time
 const [MOST_OPERATORS, MOST_PRINTED] = [1000000, 1 << 18]; // of a job and of a run that is made again: no task needs as many
@@ -31,12 +32,14 @@ export function handsIn(text) {
   return [...new Set([...text.replace(/=\r?\n/g, '').matchAll(/#hand:([\w-]+)/g)].map(found => found[1]))];
 }
 
-// A deck without its comments and the room in it.
+// A deck without its comments, the room in it and its NOOPs; a label stands before the operator that follows, if a card names it.
 function bare(deck) {
-  return deck.split('\n').map(card => card.replace(/;.*/, '').trim().replace(/\s+/g, ' ')).filter(Boolean).join('\n');
+  const cards = deck.split('\n').map(card => card.replace(/;.*/, '').trim().replace(/\s+/g, ' ').replace(/(^|: ?)NOOP$/, '$1').trim());
+  const named = new Set(cards.map(card => /\S+ (?:\S+:)?([A-Z][A-Z0-9]*)$/.exec(card)?.[1]));
+  return cards.map(card => card.replace(/^([A-Z][A-Z0-9]*): ?/, (its, label) => (named.has(label) ? `${label}: ` : ''))).filter(Boolean).join('\n').replaceAll(/: \n/g, ': ');
 }
 
-// Of some works of one task, null for none, a letter for each that has the same cards as another, comments left out; else an empty text.
+// Of some works of one task, null for none, a letter for each that has the same cards as another, comments and NOOPs left out; else an empty text.
 export function sameDecks(works) {
   const bares = works.map(work => (work?.deck.includes('\n') ? bare(work.deck) : '')), letters = new Map();
   for (const it of bares) if (it && !letters.has(it) && bares.indexOf(it) !== bares.lastIndexOf(it)) letters.set(it, String.fromCharCode(97 + letters.size % 26));
@@ -77,13 +80,23 @@ export async function sameElsewhere(ask, {text, core}, printed) {
   return again === printed;
 }
 
+// Whether a deck prints what each test gives, over the numbers of that test.
+async function passesTests(ask, {tests = []}, {text, core}) {
+  for (const {numbers, lines} of tests) {
+    const wanted = lines.map(line => `${line}\n`).join(''), {text: printed} = await ask('call', {words: runWords(core), text: withNumbers(text, 1, numbers), room: wanted.length + 1000});
+    if (printed !== wanted) return false;
+  }
+  return true;
+}
+
 // Does a work of writing again. `ask` asks the worker.
 export async function writeAgain(ask, task, {text, core, halt}) {
   if (task.resumed) return resumeAgain(ask, task, {text, core, halt});
   const words = task.refused ? ['check'] : runWords(core), {status, text: printed} = await ask('call', {words, text: bounded(text), room: MOST_PRINTED});
   const least = task.leastCore ? await ask('coreFor', {deck: text, core: 256}) : null;
   if (!isWritten(task, {words, text, status, printed, core, least})) return false;
-  return !task.lines || sameElsewhere(ask, {text: bounded(text), core}, printed);
+  const its = {text: bounded(text), core};
+  return !task.lines || await sameElsewhere(ask, its, printed) && passesTests(ask, task, its);
 }
 
 // Whether a work does its task, by this page's own machine; null for a prediction without its answer, as older pages handed it in.

@@ -3,12 +3,13 @@ import {byId, element, put} from '../page/elements.js';
 import {CONDITIONS} from './conditions.js';
 import {keepValue, keptValue} from '../editor/keep.js';
 import {packedText} from '../editor/share.js';
-import {EXAMPLE, sheetOf} from './sheet.js';
+import {EXAMPLE, sharedSheet, sheetOf} from './sheet.js';
 
 const DRAFT = 'b67-draft';
 const HELP = [
   'An exercise begins with task: and a name, and asks with ask:. Its deck stands below deck:, or on: names one of the page. core: says how many words of core it opens with, at: at which operator.',
   'What must hold. To write: prints:, a line for each line, in order; or refused:, as in refused: LOAD 1 REASON 8. has: and lacks: say what the deck must and may not hold.',
+  'Tests that pupils don’t see: test: other numbers for READ, and below it gives:, a line for each line that a right deck prints then. The sheet wants an id:. The link for the class leaves them out: keep this text, and put it beside the links of the class.',
   `To find a moment: find:, a line for each condition, and first: yes for the first such moment. Conditions: ${CONDITIONS.join('; ')}.`,
   'To predict: predict:, the operator before the question, which the page makes of what comes next. Several exercises make a sheet. Nobody needs anything but the link: the exercises are in it.',
 ];
@@ -54,6 +55,6 @@ export class SheetEditor {
     const text = this.looks();
     if (!text) return;
     byId('sheet-dialog').close();
-    this.page.places.shows('Your exercises, as a link for the class', this.page.places.withHash(`#sheet:${await packedText(text)}`));
+    this.page.places.shows('Your exercises, as a link for the class', this.page.places.withHash(`#sheet:${await packedText(sharedSheet(text))}`));
   }
 }

@@ -6,9 +6,13 @@
 //     deck: the cards below     on: a deck of the page            core: words of core        at: the operator at which it opens
 //     prints: a line (all of them, in order)    refused: ASM 6 REASON 1      has: a text of the deck       lacks: another
 //     find: a condition (all must hold)         first: yes                   predict: the operator before the question
+//     test: other numbers for READ              gives: a line that a right deck prints then (all of them, in order)
+//
+// With its tests, which `sharedSheet` leaves out, a sheet is the teacher's key: the tests are made when work is done again.
 import {allOf, conditionOf, CONDITIONS} from './conditions.js';
 
 const MANY = ['ask', 'prints', 'has', 'lacks', 'find'];
+const OF_TESTS = ['test', 'gives'];
 const ONE = ['on', 'core', 'at', 'refused', 'first', 'predict'];
 export const EXAMPLE = `title: A sheet of my own
 id: my-sheet-1
@@ -49,13 +53,21 @@ class SheetRefused extends Error {
 
 // The lines of a task: a list of texts for each word that may stand more than once, else a text; the deck's cards; and where it begins.
 function newTask(name, line) {
-  return {name, line, ask: [], prints: [], has: [], lacks: [], find: [], cards: null};
+  return {name, line, ask: [], prints: [], has: [], lacks: [], find: [], tests: [], cards: null};
+}
+
+// A line of a test: its numbers, or a line that is printed then.
+function takeTest({tests}, word, text, line) {
+  if (word === 'test' && /^(-?\d+( +-?\d+)*)?$/.test(text)) tests.push({numbers: text, lines: []});
+  else if (word === 'gives' && tests.length) tests.at(-1).lines.push(text);
+  else throw new SheetRefused(line, word === 'test' ? 'test: wants numbers, separated by spaces.' : 'gives: stands below a test:.');
 }
 
 function takeLine(task, word, text, line) {
+  if (OF_TESTS.includes(word)) return takeTest(task, word, text, line);
   if (MANY.includes(word)) task[word].push(text);
   else if (ONE.includes(word) && task[word] === undefined) task[word] = text;
-  else throw new SheetRefused(line, ONE.includes(word) ? `${word}: stands twice in one task.` : `${word}: is no word of a sheet: they are task, ask, deck, on, core, at, prints, refused, has, lacks, find, first, predict.`);
+  else throw new SheetRefused(line, ONE.includes(word) ? `${word}: stands twice in one task.` : `${word}: is no word of a sheet: they are task, ask, deck, on, core, at, prints, refused, has, lacks, find, first, predict, test, gives.`);
   if (word === 'find' && !conditionOf(text)) throw new SheetRefused(line, `“${text}” is no condition. Some are: ${CONDITIONS.join('; ')}.`);
   if (['core', 'at', 'predict'].includes(word) && !/^\d+$/.test(text)) throw new SheetRefused(line, `${word}: wants a number.`);
 }
@@ -87,14 +99,15 @@ function kindOf({prints, refused, find, predict, line}) {
 
 // A task of a sheet as the course has tasks.
 function taskOf(written, number, key, decks) {
-  const {name, ask, prints, refused, has, lacks, find, first, predict, on, at, core, line} = written, kind = kindOf(written);
+  const {name, ask, prints, refused, has, lacks, find, first, predict, on, at, core, line, tests} = written, kind = kindOf(written);
+  if (tests.length && (!prints.length || tests.some(it => !it.lines.length))) throw new SheetRefused(line, 'a test: stands in a task with prints:, and below each are its lines, gives:.');
   if (!ask.length) throw new SheetRefused(line, 'this task asks nothing: write ask: and a question.');
   if (on && !decks.has(on)) throw new SheetRefused(line, `the page has no deck ${on}.`);
   const text = written.cards && `${written.cards.join('\n').trim()}\n`;
   if (kind !== 'write' && !text && !on) throw new SheetRefused(line, 'this task wants a deck: deck: with cards below it, or on: and a name.');
   return {id: `${key}/${number}`, sheet: key, number, kind, name, text: ask.join(' '), has, lacks, deck: text, on,
     core: Number(core ?? (on ? decks.get(on).core : 4096)), count: at === undefined && kind === 'write' ? null : Number(predict ?? at ?? 0),
-    ...(kind === 'find' && {find, holds: allOf(find), first: /^y/.test(first ?? '')}), ...(prints.length && {lines: prints}), ...(refused && {refused: new RegExp(`^${refused.replace(/[^A-Z0-9 ]/g, '')}\\b`), refusal: refused})};
+    ...(kind === 'find' && {find, holds: allOf(find), first: /^y/.test(first ?? '')}), ...(prints.length && {lines: prints, tests}), ...(refused && {refused: new RegExp(`^${refused.replace(/[^A-Z0-9 ]/g, '')}\\b`), refusal: refused})};
 }
 
 // A short name for a text, by which its marks are kept.
@@ -121,8 +134,18 @@ export function newestOf(sheets) {
   return [...best.values()];
 }
 
+// The text of a sheet as pupils get it, without its tests. Cards stand as they are.
+export function sharedSheet(text) {
+  let inDeck = false;
+  return text.split('\n').filter(line => {
+    if (/^(task|deck):/.test(line)) inDeck = line.startsWith('deck:');
+    return inDeck || !/^(test|gives):/.test(line);
+  }).join('\n');
+}
+
 // The sheet that a text is: {key, title, id, version, text, tasks}; fails with the line and a sentence. `decks` are those of the page.
 export function sheetOf(text, decks) {
-  const {title, id, version, tasks} = partsOf(text), key = keyOfSheet(text);
+  const {title, id, version, tasks} = partsOf(text), key = keyOfSheet(text), tested = tasks.find(it => it.tests.length);
+  if (tested && !id) throw new SheetRefused(tested.line, 'a sheet with test: wants an id: of its own before its tasks, by which work finds its tests.');
   return {key, title: title || 'Exercises of your teacher', id, version: Number(version), text, tasks: tasks.map((task, k) => taskOf(task, k + 1, key, decks))};
 }

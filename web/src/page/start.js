@@ -9,7 +9,8 @@ import {cellAt} from '../drawing/draw-stacks.js';
 import {numbersForRead, withNumbers} from './deck-view.js';
 import {WORK} from '../course/progress.js';
 import {COURSE} from '../course/course.js';
-import {csvOf, handsOf, linesOf, marksOf, tasksFor} from '../course/class.js';
+import {csvOf, handsOf, keysOf, linesOf, marksOf, tasksFor} from '../course/class.js';
+import {textsIn} from '../course/zip.js';
 import {decksOf} from './decks.js';
 import {withoutNames} from '../names/names.js';
 import {isAlgol, withData} from '../algol/translation.js';
@@ -166,6 +167,6 @@ async function start() {
 }
 
 // In node, b67.mjs takes the parts that need no page.
-if (globalThis.b67Takes) globalThis.b67Takes({Desk, COURSE, decksOf, withoutNames, handsOf, tasksFor, marksOf, linesOf, csvOf});
+if (globalThis.b67Takes) globalThis.b67Takes({Desk, COURSE, decksOf, withoutNames, handsOf, keysOf, tasksFor, marksOf, linesOf, csvOf, textsIn});
 else if (typeof document === 'undefined') serve();
 else start();
