@@ -12,11 +12,11 @@
 //
 // Two commands for teachers, over the same module and the page's own scripts, in one process:
 //
-//     node web/b67.mjs mark DECK.. EXPECTED [--data FILE] [--csv]
+//     node web/b67.mjs mark DECK.. EXPECTED [--data FILE] [--in-order] [--csv]
 //     node web/b67.mjs class FILE.. [--key SHEET] > marks.csv
 //
 // `mark` runs each deck in turns of 1, 7, 17 and 1,000 operators, in its least core and in the greatest, and compares its lines with those of
-// EXPECTED, up to `1.1 ENDED`, as scripts/mark.sh does. --data gives other numbers for READ in the place of those on ?DATA cards, which a
+// EXPECTED, up to `1.1 ENDED`, task by task, or all with --in-order, as scripts/mark.sh does. --data gives other numbers for READ in the place of those on ?DATA cards, which a
 // deck of constants doesn't know. No job makes more than 1,000,000 operators, and no run prints much more than EXPECTED has. Status 1 if a
 // deck is wrong. `class` takes the links that pupils have handed in out of files, zip archives, or all files of a folder, does each work again,
 // and prints a table: 1 for a work that came out again, 0 for one that didn't, t for one that can't be done again. SHEET is a sheet as its
@@ -244,16 +244,21 @@ function markedDeck(text, data) {
   const bounded = text.replace(/^\?QUANTUM.*\n/gm, '').replace(/^(\?LIMIT +)(\d+)/gm, (_, card, most) => card + Math.min(Number(most), MOST_OPERATORS));
   return data === null ? bounded : bounded.replace(/^\?DATA.*\n(?:[^?].*\n)*/gm, `?DATA\n${data.trim()}\n`);
 }
+// Lines as they are compared: those of each task together, unless the order of all counts.
+function grouped(text, inOrder) {
+  const lines = text.split('\n').slice(0, -1), taskOf = line => line.split(' ')[0];
+  return inOrder ? lines : lines.map((line, k) => [taskOf(line), k, line]).sort(([a, k], [b, n]) => (a < b ? -1 : a > b ? 1 : k - n)).map(([, , line]) => line);
+}
 // The first line that isn't as it should be, in words; nothing if all are.
-function firstWrong(lines, wanted) {
-  const [is, should] = [lines, wanted].map(it => it.split('\n').slice(0, -1)), at = [...is, ''].findIndex((line, k) => line !== (should[k] ?? ''));
+function firstWrong(lines, wanted, inOrder) {
+  const [is, should] = [lines, wanted].map(it => grouped(it, inOrder)), at = [...is, ''].findIndex((line, k) => line !== (should[k] ?? ''));
   if (is.length === should.length && is.every((line, k) => line === should[k])) return '';
   if (at >= is.length) return `line ${at + 1} is missing, ${should[at]}`;
   return should[at] === undefined ? `line ${at + 1} is ${is[at]}, and nothing more is wanted` : `line ${at + 1} is ${is[at]} and should be ${should[at]}`;
 }
 
 // The marks of one deck: how many of its runs were right, of how many, and what was wrong first.
-function markOf(module, text, wanted, withoutNames, data) {
+function markOf(module, text, wanted, {withoutNames, data, inOrder}) {
   const run = (core, deck) => {
     const {status, bytes} = called(module, ['run', '--core', String(core), '--backing', 'b'], Buffer.from(deck, 'latin1'), {many: SECTORS / 16, room: 4 * wanted.length + 4096});
     return {status, lines: bytes.toString('latin1')};
@@ -269,7 +274,7 @@ function markOf(module, text, wanted, withoutNames, data) {
   for (const quantum of QUANTA) for (const core of [256, MOST_CORE]) {
     let its = core, ran = run(its, `?QUANTUM ${quantum}\n${deck}`);
     while (ran.status === 4 && its < MOST_CORE) ran = run(its = Math.min(MOST_CORE, Number(/^NO CORE (\d+)/m.exec(ran.lines)[1])), `?QUANTUM ${quantum}\n${deck}`);
-    const why = firstWrong(ran.lines, wanted);
+    const why = firstWrong(ran.lines, wanted, inOrder);
     runs++;
     if (!why) right++;
     else first ||= `in turns of ${quantum}, in ${its} words: ${why}`;
@@ -278,11 +283,11 @@ function markOf(module, text, wanted, withoutNames, data) {
 }
 
 async function mark(module, page, words) {
-  const at = words.indexOf('--data'), data = at < 0 ? null : unixRead(words[at + 1] ?? ''), csv = words.includes('--csv'), {withoutNames, csvOf} = partsOf(page);
-  const files = words.filter((it, k) => it !== '--csv' && (at < 0 || k !== at && k !== at + 1)), wanted = files.length > 1 ? unixRead(files.pop()) : '';
-  if (!/^\d+\.\d+ /m.test(wanted) || /^\?JOB/m.test(wanted)) throw new Cant('usage: mark DECK.. EXPECTED [--data FILE] [--csv], where EXPECTED has the lines of a right run');
+  const at = words.indexOf('--data'), data = at < 0 ? null : unixRead(words[at + 1] ?? ''), csv = words.includes('--csv'), inOrder = words.includes('--in-order'), {withoutNames, csvOf} = partsOf(page);
+  const files = words.filter((it, k) => !['--csv', '--in-order'].includes(it) && (at < 0 || k !== at && k !== at + 1)), wanted = files.length > 1 ? unixRead(files.pop()) : '';
+  if (!/^\d+\.\d+ /m.test(wanted) || /^\?JOB/m.test(wanted)) throw new Cant('usage: mark DECK.. EXPECTED [--data FILE] [--in-order] [--csv], where EXPECTED has the lines of a right run');
   const lines = filesOf(files).map(file => {
-    const {right, runs, first} = markOf(module, unixRead(file), wanted, withoutNames, data);
+    const {right, runs, first} = markOf(module, unixRead(file), wanted, {withoutNames, data, inOrder});
     if (!csv) console.log(runs && right === runs ? `${file}: right in ${runs} runs` : runs ? `${file}: wrong in ${runs - right} of ${runs} runs\n    ${first}` : `${file}: ${first}`);
     return [file, runs && right === runs ? 1 : 0, right, runs, first];
   });
