@@ -46,7 +46,7 @@ table() {
     for file in docs/*.5; do echo "644 $file share/man/man5/${file#docs/}"; done
     echo "644 scripts/b67.bash share/bash-completion/completions/b67"
     echo "644 scripts/b67.vim share/vim/vimfiles/syntax/b67.vim"
-    echo "644 scripts/b67.tmLanguage.json share/b67/b67.tmLanguage.json"
+    echo "644 editors/vscode/b67.tmLanguage.json share/b67/b67.tmLanguage.json"
 }
 # put MODE FILE NAME: a script and MESSAGES name the scripts as the commands that they are there
 put() {

@@ -54,7 +54,7 @@ cp docs/*.5 "$out/man/man5/"
 [ ! -f "$page" ] || cp web/b67.mjs "$out/b67.mjs"
 # the same program as one file of C, if there is what makes it
 [ ! -f "$page" ] || sh web/c/make.sh "$out/b67.c" "$page" >"$room/said" || [ $? = 2 ] || usage 'b67.c was not made'
-mapfile -t files < <(git ls-files README.md CHANGES.md CITATION.cff CONTRIBUTING.md docs bench/README.md tools/README.md web/README.md reference \
+mapfile -t files < <(git ls-files README.md CHANGES.md CITATION.cff CONTRIBUTING.md docs bench/README.md tools/README.md web/README.md reference editors \
     crates/b67/src/main.rt crates/b67_promises/src/lib.rt crates/b67_promises/src/shipped.rt crates/b67_recorded/src)
 put "${files[@]}"
 # the page stands at the top, where a pupil finds it
