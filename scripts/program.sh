@@ -1,6 +1,7 @@
 # For the scripts that run b67, each of which reads this file when it has made its folder `room`: sets `program` to a file that can be run.
 # That is `b67` on the path, or what the variable B67 names: a program, or a command of several words, as in B67="node web/b67.mjs", for
 # which a file that carries it out is made in `room`.
+case $0 in */program.sh) sed -n '/^[^#]/q; s/^# \{0,1\}//p' "$0"; exit ;; esac
 program=${B67:-b67}
 if ! command -v "$program" >/dev/null && command -v "${program%% *}" >/dev/null; then
     words=

@@ -32,7 +32,7 @@ table() {
     for file in scripts/*.sh; do
         name=${file#scripts/}
         echo "644 $file libexec/b67/$file"
-        echo "755 command bin/b67-${name%.sh}"
+        [ "$name" = program.sh ] || echo "755 command bin/b67-${name%.sh}" # the others read it
     done
     echo "644 CITATION.cff libexec/b67/CITATION.cff"
     echo "644 docs/MESSAGES.md libexec/b67/docs/MESSAGES.md"
