@@ -32,7 +32,7 @@ trap 'rm -rf "$room"' EXIT
 running=
 trap '[ -z "$running" ] || { kill $!; sleep 0.2; kill $!; } 2>/dev/null; exit 130' HUP INT TERM
 room=$(mktemp -d) || exit 2
-. "$here/program.sh"
+. "$here/program"
 
 # lines as they are compared: those of each task together, unless the order of all counts
 grouped() {

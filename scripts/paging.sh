@@ -29,7 +29,7 @@ room=
 trap 'rm -rf "$room"' EXIT
 trap 'exit 130' HUP INT TERM
 room=$(mktemp -d) || exit 2
-. "$here/program.sh"
+. "$here/program"
 sh "$here/cells.sh" "$deck" >"$room/deck" || exit 2
 "$program" check <"$room/deck" >"$room/lines" || { tail -n 1 "$room/lines" | grep . >&2 || echo "$program: it answers nothing" >&2; exit 2; }
 echo "   core    read written  last line"

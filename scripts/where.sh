@@ -25,7 +25,7 @@ room=
 trap 'rm -rf "$room"' EXIT
 trap 'exit 130' HUP INT TERM
 room=$(mktemp -d) || exit 2
-. "$here/program.sh"
+. "$here/program"
 sh "$here/cells.sh" "$deck" >"$room/deck" || exit 2
 "$program" check <"$room/deck" >"$room/checked" || { tail -n 1 "$room/checked" | grep . >&2 || echo "$program: it answers nothing" >&2; exit 2; }
 grep -v '^?HALT' <"$room/deck" >"$room/whole"
@@ -140,13 +140,38 @@ operator "$4" "$5" 1
 echo "The record on top before it:"
 record "$task" >"$room/record"
 cat "$room/record" || exit 1
-# the one cause of several that the record shows: an intrinsic that wants a row copy, and has a reference
+# the one cause of several that the record shows; nothing if it shows none. The card that faulted is the operator of the listing's line
+shown() {
+    awk -v card="$1" '
+        # of a line of the record the word alone, without the couple of its cell, and its kind
+        function word_of(line) { sub(/^ +/, "", line); if (line ~ /^[0-9]+,[0-9]+ /) sub(/^[0-9]+,[0-9]+ +/, "", line); return line }
+        function kind_of(word) { return word ~ /^-?[0-9]+$/ ? "number" : word ~ /^(couple|reference)/ ? "reference" : word ~ /^procedure/ ? "procedure" : "other" }
+        BEGIN {
+            many["PRINT"] = many["AWAIT"] = many["STATUS"] = many["PRINTROW"] = many["DEALLOCATE"] = many["ARRAYDEC"] = many["WAIT"] = many["CAUSE"] = 1
+            many["RESIZE"] = 2; many["READ"] = 0
+            split("PRINTROW DEALLOCATE RESIZE", its); for (k in its) wants_row[its[k]] = 1
+            wants_reference["WAIT"] = wants_reference["CAUSE"] = 1
+            split("PRINT AWAIT STATUS ARRAYDEC", of_numbers); for (k in of_numbers) wants_number[of_numbers[k]] = 1
+        }
+        /^ *record / { marked = / marked for a call$/; count = 0; next }
+        { words[++count] = word_of($0) }
+        END {
+            top = words[count]; below = words[count - 1]; name = words[1]
+            if (card == "ENTR" && !marked) { print "No record is marked: MKST is missing before the NAMC of this call."; exit }
+            is_intrinsic = marked && name ~ /^couple 0,[0-9]+ [A-Z]+$/
+            sub(/^couple 0,[0-9]+ /, "", name)
+            has = count - 1
+            if (card == "ENTR" && is_intrinsic && name in many) {
+                if (has == 0 && many[name] > 0) print name " wants " many[name] (many[name] == 1 ? " argument" : " arguments") ", and has none: did the procedure that was to give it end by EXIT in place of RETN?"
+                else if (has != many[name]) print name " takes " many[name] (many[name] == 1 ? " argument" : " arguments") ", and has " has "."
+                else if (name in wants_row && kind_of(words[2]) == "reference") print name " wants a copy of a whole array, and has a reference: LOAD is missing after NAMC."
+                else if (name in wants_reference && kind_of(top) == "number") print name " wants a reference to a cell, and has " top ": is VALC to be NAMC?"
+                else if (name in wants_number && kind_of(top) == "reference") print name " wants a number, and has a reference: is NAMC to be VALC?"
+            } else if (card ~ /^STO[DN]$/ && kind_of(top) == "number" && kind_of(below) == "number") print card " has two numbers, " below " and " top ", and wants a reference with one of them: is VALC to be NAMC?"
+            else if (card ~ /^(ADD|SUBT|MULT|IDIV|RDIV|LESS|GREQ|GRTR|LSEQ|EQUL|NEQL)$/ && (kind_of(top) == "reference" || kind_of(below) == "reference")) print card " wants two numbers, and has " below " and " top ": is NAMC to be VALC?"
+        }' "$room/record"
+}
 case $fault in
-*' INVALID OPERAND')
-    awk '
-        NR == 1 { marked = / marked for a call$/ }
-        NR == 2 && marked && $1 == "couple" && $3 ~ /^(PRINTROW|DEALLOCATE|RESIZE)$/ { name = $3 }
-        NR == 3 && name != "" && ($1 == "couple" || $1 == "reference") { print name " wants a copy of a whole array, and has a reference: LOAD is missing after NAMC." }' "$room/record"
-    ;;
+*' INVALID OPERAND') shown "$(operator "$4" "$5" '' | awk 'NR == 1 { print $3 }')" ;;
 esac
 causes

@@ -32,8 +32,9 @@ table() {
     for file in scripts/*.sh; do
         name=${file#scripts/}
         echo "644 $file libexec/b67/$file"
-        [ "$name" = program.sh ] || echo "755 command bin/b67-${name%.sh}" # the others read it
+        echo "755 command bin/b67-${name%.sh}"
     done
+    echo "644 scripts/program libexec/b67/scripts/program"
     echo "644 CITATION.cff libexec/b67/CITATION.cff"
     echo "644 docs/MESSAGES.md libexec/b67/docs/MESSAGES.md"
     echo "644 docs/b67-image.5 libexec/b67/docs/b67-image.5"
