@@ -31,7 +31,10 @@ if [ $status = 0 ]; then
     cat "$room/lines" || exit 2
     [ -n "$line" ] || echo "    The deck is empty, or has empty cards alone."
     echo "    Nothing is refused. It may still fault: run it, and pipe its lines to sh $(dirname "$0")/explain.sh."
+    named=
+    cmp -s "$deck" "$room/deck" || named=1
     case $deck in *[!A-Za-z0-9_./-]*) deck="'$deck'" ;; esac
+    [ -z "$named" ] || echo "    It has names for cells, which b67 refuses: sh $(dirname "$0")/cells.sh $deck > plain, and run that."
     echo "    Where it goes wrong then: sh $(dirname "$0")/where.sh $deck"
     exit 0
 fi

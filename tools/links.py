@@ -16,7 +16,7 @@ import rattle_source
 TOP = rattle_source.TOP
 FOLDERS = r"(?:crates|docs|decks|scripts|tools|bench|reference|web|specs|src|proofs)"
 # Files that others have: what the toolchain brings, what a crate may have, and what a call makes.
-ELSEWHERE = {"b67.html", "b67.wasm", "b67.bc", "main.rt", "lib.rt", "Lib.antt", "rtlib.py"}
+ELSEWHERE = {"b67.html", "b67.js", "b67.c", "b67.wasm", "b67.bc", "main.rt", "lib.rt", "Lib.antt", "rtlib.py"}
 
 
 def plain_lines(path):

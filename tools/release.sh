@@ -52,6 +52,8 @@ cp docs/b67.1 "$out/man/man1/b67.1"
 cp docs/*.5 "$out/man/man5/"
 [ ! -f "$page" ] || cp "$page" "$out/b67.html"
 [ ! -f "$page" ] || cp web/b67.mjs "$out/b67.mjs"
+# the page in three files
+[ ! -f "$page" ] || { mkdir "$out/server" && python3 web/build/apart.py "$page" "$out/server"; }
 # the same program as one file of C, if there is what makes it
 [ ! -f "$page" ] || sh web/c/make.sh "$out/b67.c" "$page" >"$room/said" || [ $? = 2 ] || usage 'b67.c was not made'
 mapfile -t files < <(git ls-files README.md CHANGES.md CITATION.cff CONTRIBUTING.md docs bench/README.md tools/README.md web/README.md reference editors \
@@ -95,6 +97,7 @@ TEXT
 b67.html is the machine in a page: open it in a browser of 2024 or later. It needs nothing of the above, so it runs on Windows, on
 a Mac, on an older Linux and on a phone; its button Lessons has the course. b67.mjs, beside it, is the same machine as a command,
 wherever there is node 18 or later: node b67.mjs run --core 4096 < decks/sum/stdin
+The folder server has the page in three files, for a server whose policy allows no script within a page.
 TEXT
     [ ! -f "$out/b67.c" ] || cat <<'TEXT'
 
