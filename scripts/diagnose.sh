@@ -22,6 +22,7 @@ room=
 trap 'rm -rf "$room"' EXIT
 trap 'exit 130' HUP INT TERM
 room=$(mktemp -d) || exit 2
+program=
 . "$here/program"
 sh "$here/cells.sh" "$deck" >"$room/deck" || exit 1
 "$program" check <"$room/deck" >"$room/lines"

@@ -23,6 +23,7 @@ trap 'rm -rf "$room"' EXIT
 running=
 trap '[ -z "$running" ] || { kill $!; sleep 0.2; kill $!; } 2>/dev/null; exit 130' HUP INT TERM
 room=$(mktemp -d) || exit 2
+program=
 . "$here/program"
 sh "$here/cells.sh" "$deck" >"$room/deck" || exit 1
 core=256

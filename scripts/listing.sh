@@ -52,6 +52,7 @@ prefix=$(cat "$room/prefix" 2>/dev/null)
 : >"$room/cards"
 : >"$room/names"
 if [ "$(cat "$room/kind")" = ASM ]; then
+    program=
     . "$here/program"
     "$program" asm <"$room/body" >"$room/hex" || { grep . "$room/hex" >&2 || echo "$program: it answers nothing" >&2; exit 1; }
     # operators alone: number, segment, mnemonic, and the card as it stands in DECK; and the names of segments and rows

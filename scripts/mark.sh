@@ -32,6 +32,7 @@ trap 'rm -rf "$room"' EXIT
 running=
 trap '[ -z "$running" ] || { kill $!; sleep 0.2; kill $!; } 2>/dev/null; exit 130' HUP INT TERM
 room=$(mktemp -d) || exit 2
+program=
 . "$here/program"
 
 # lines as they are compared: those of each task together, unless the order of all counts
@@ -58,6 +59,7 @@ first() {
 # the bounds of a run, for the shell that makes it: 16 MB, as long as the backing file, and 20 seconds
 bounded() {
     ulimit -f 32768
+    # shellcheck disable=SC3045 # dash, bash, ksh, yash and busybox have it
     ulimit -t 20
     "$@"
 }

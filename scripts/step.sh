@@ -30,6 +30,7 @@ room=
 trap 'rm -rf "$room"' EXIT
 trap 'exit 130' HUP INT TERM
 room=$(mktemp -d) || exit 2
+program=
 . "$here/program"
 sh "$here/cells.sh" "$deck" >"$room/deck" || exit 2
 "$program" check <"$room/deck" >"$room/checked" || { tail -n 1 "$room/checked" | grep . >&2 || echo "$program: it answers nothing" >&2; exit 2; }

@@ -108,7 +108,7 @@ names() { python3 tools/names.py; }
 modules() { B67=$program node --test --test-reporter=tap web/tests/*.test.js >"$room/tests" || { cat "$room/tests" && return 1; } && sed -n 's/^# pass /modules: tests passed: /p' "$room/tests"; }
 python() { found pyflakes3 && pyflakes3 tools/*.py bench/*.py reference/*.py web/build/*.py && echo 'nothing found'; }
 # (decks/run.sh lies in a crate: what is mended there waits for a gate)
-shell() { found shellcheck && shellcheck -S warning scripts/*.sh scripts/b67.bash tools/*.sh bench/*.sh web/build/*.sh && echo 'nothing found'; }
+shell() { found shellcheck && shellcheck -S warning scripts/*.sh scripts/b67.bash tools/*.sh bench/*.sh web/build/*.sh web/c/*.sh && echo 'nothing found'; }
 manual() { found mandoc && mandoc -Tlint -W warning docs/*.[15] && echo 'nothing found'; }
 found() {
     command -v "$1" >/dev/null && return

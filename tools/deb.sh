@@ -4,7 +4,6 @@
 # PROGRAM is a built program, as crates/b67/out/b67. The version is that of CITATION.cff, and the time of each file its date, so the same tree
 # and program give the same bytes. Debian's own tool makes it (dpkg-deb).
 set -eu
-case ${1-} in -h | --help) sed -n '1d; /^[^#]/q; s/^# \{0,1\}//p' "$0"; exit ;; esac
 usage() {
     printf '%s\nusage: sh tools/deb.sh PROGRAM FILE.deb\n' "$1" >&2
     exit 2
