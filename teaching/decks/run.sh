@@ -1,0 +1,1 @@
+../../decks/run.sh

@@ -1,0 +1,3 @@
+begin
+  print(2 + 3 * 4)
+end
