@@ -1,10 +1,11 @@
 #!/usr/bin/env bash
-# Makes one archive of what a class needs: the built program, the page b67.html if there is one, the manual pages, decks with
+# Makes two archives. The first has what a class needs: the built program, the page b67.html if there is one, the manual pages, decks with
 # the exercises but not their answers, documents, scripts, the tracer, and a sum of each file. Nothing in it needs the toolchain. The same tree and program give
 # the same bytes: files are in the order of their names, and their time is the version's date. Needs git and GNU tar.
 # The paper is printed too (docs/PAPER.pdf), if pandoc and weasyprint are there; the same versions of both give the same bytes. So is b67.c,
 # the program as one file of C, if wasm2c is there (Debian: wabt). A link
-# of a document that leads to no file of the archive is an error.
+# of a document that leads to no file of the archive is an error. What teachers alone get, FILE-teachers.tar.gz, is unpacked beside it: keys,
+# solutions, exam, slides, the answers, and how to teach with it all.
 #
 #     bash tools/release.sh PROGRAM FILE.tar.gz [PAGE]
 #
@@ -57,10 +58,14 @@ cp docs/*.5 "$out/man/man5/"
 # the same program as one file of C, if there is what makes it
 [ ! -f "$page" ] || sh web/c/make.sh "$out/b67.c" "$page" >"$room/said" || [ $? = 2 ] || usage 'b67.c was not made'
 mapfile -t files < <(git ls-files README.md CHANGES.md CITATION.cff CONTRIBUTING.md docs bench/README.md tools/README.md web/README.md reference editors \
+    teaching/pupils teaching/decks crates/b67_rows/data/README.md 'crates/b67_rows/data/*.rows' \
     crates/b67/src/main.rt crates/b67_promises/src/lib.rt crates/b67_promises/src/shipped.rt crates/b67_recorded/src)
 put "${files[@]}"
 # the page stands at the top, where a pupil finds it
-sed -i 's:`web/b67\.html`:`b67.html`:; s:node web/b67\.mjs:node b67.mjs:' "$out/README.md" "$out/docs/TEACHING.md" "$out/web/README.md"
+moved='s:`web/b67\.html`:`b67.html`:; s:node web/b67\.mjs:node b67.mjs:'
+sed -i "$moved" "$out/README.md" "$out/web/README.md"
+# what teachers alone get is named there, and no link leads to it
+find "$out" -name '*.md' -exec sed -i -E 's:\[([^]]*)\]\(([./]*teaching/README|([./]*teaching/|\.\./)(TEACHING|SOLUTIONS|KEYS|EXAM|EXAM-ANSWERS))\.md[^)]*\):\1:g' {} +
 # the scripts need only the program, sh and awk; the translator from ALGOL 60 only node
 mapfile -t files < <(git ls-files scripts algol)
 put "${files[@]}"
@@ -88,7 +93,7 @@ A stack machine after the Burroughs B6700, proved before it was built.
 
 prints 1.1 5 and 1.1 ENDED. The program needs Linux on x86-64 with the GNU C library 2.34 or later (Debian 12, Ubuntu 22.04,
 RHEL 9); it is built, so skip what the documents say of rt and make. From here: docs/TOUR.md, three lessons with commands;
-docs/TEACHING.md, six lessons for whoever gives a course; docs/ALGOL.md, programs in ALGOL 60 (node); docs/ASSEMBLER.md, how to write decks, and decks/exercises/README.md,
+teaching/pupils, a sheet for each week of a term, and two projects; docs/ALGOL.md, programs in ALGOL 60 (node); docs/ASSEMBLER.md, how to write decks, and decks/exercises/README.md,
 tasks for it. man -l man/man1/b67.1 has the commands, man -l man/man5/b67-deck.5 the cards, man -l man/man5/b67-image.5 the
 image of a halted machine; docs/statement.html, in a browser, what is proved. The scripts need sh and an awk as POSIX has it, the tracer (reference/trace.py) Python 3.11.
 TEXT
@@ -121,7 +126,35 @@ find "$out" -type d -exec chmod 755 {} +
 find "$out" -type f -exec chmod 644 {} +
 chmod 755 "$out/bin/b67"
 find "$out" -name '*.sh' -exec chmod 755 {} +
-tar -C "$room" --sort=name --format=ustar --owner=0 --group=0 --numeric-owner --mtime="$date 00:00:00Z" -cf - "$name" |
-    gzip -9n >"$archive.part"
-mv "$archive.part" "$archive"
-printf '%s: %d files, %d bytes\n' "$(basename "$archive")" "$(find "$out" -type f | wc -l)" "$(stat -c %s "$archive")"
+# packs FOLDER of the room into an archive
+packs() {
+    tar -C "$1" --sort=name --format=ustar --owner=0 --group=0 --numeric-owner --mtime="$date 00:00:00Z" -cf - "$name" | gzip -9n >"$archive.part"
+    mv "$archive.part" "$2"
+    printf '%s: %d files, %d bytes\n' "$(basename "$2")" "$(find "$1/$name" -type f | wc -l)" "$(stat -c %s "$2")"
+}
+packs "$room" "$archive"
+
+# what teachers alone get: it has the same folder at its top, and its links lead into what pupils get
+theirs=$room/teachers/$name
+for file in $(git ls-files teaching ':!teaching/pupils' ':!teaching/decks') $(git ls-files crates/b67_rows/data/decks/answers); do
+    to=$theirs/${file#crates/b67_rows/data/}
+    mkdir -p "$(dirname "$to")"
+    case $file in
+    *.md) sed "$moved; s:(\.\./\.\./\.\./\(\.\./\):(\1:g" "$file" >"$to" ;;
+    *) cp "$file" "$to" ;;
+    esac
+done
+mkdir "$room/both"
+cp -r "$out/." "$theirs/." "$room/both"
+broken=$(cd "$theirs" && find . -name '*.md' | (cd "$room/both" && while read -r document; do
+    grep -oE '\]\([^)#: ]+' "$document" | sed 's/^](//' | while read -r link; do
+        [ -e "$(dirname "$document")/$link" ] || printf '%s: %s\n' "$document" "$link"
+    done
+done))
+if [ -n "$broken" ]; then
+    printf 'links that lead to no file of the archives:\n%s\n' "$broken" >&2
+    exit 1
+fi
+find "$theirs" -type d -exec chmod 755 {} +
+find "$theirs" -type f -exec chmod 644 {} +
+packs "$room/teachers" "${archive%.tar.gz}-teachers.tar.gz"

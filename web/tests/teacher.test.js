@@ -46,7 +46,7 @@ test('the example of a sheet is done rightly and wrongly', async () => {
 });
 
 test('the sheet that TEACHING shows is done rightly and wrongly', () => {
-  const [, text] = /```text\n(title:[\s\S]*?)```/.exec(readFileSync(new URL('../../docs/TEACHING.md', import.meta.url), 'utf8'));
+  const [, text] = /```text\n(title:[\s\S]*?)```/.exec(readFileSync(new URL('../../teaching/TEACHING.md', import.meta.url), 'utf8'));
   const {tasks: [write, find]} = sheetOf(text, PAGE), done = ['LT8 5', 'LT8 3'].map(card => {
     const words = runWords(write.core), deck = write.deck.replace('LT8 3', card), {status, bytes} = native.call(words, deck);
     return isWritten(write, {words, text: deck, status, printed: textOf(bytes), core: write.core});
