@@ -69,7 +69,7 @@ def mark(words):
     module = numbers()
     if exercise not in module.EXERCISES or exercise in ("turns", "races", "codefile"):
         raise Careless(f"{exercise}: no exercise whose decks are marked")
-    table, right = csv.writer(sys.stdout), True
+    table, right = csv.writer(sys.stdout, lineterminator="\n"), True
     table.writerow(["deck", "own numbers", "hidden numbers", "first that is wrong"])
     with tempfile.TemporaryDirectory() as room:
         for deck in files_of(names):

@@ -200,7 +200,7 @@ def grade(words):
                 if shown <= SHOWN * len(stages):
                     print(f"{trial.name}: {said}")
     if options["--csv"]:
-        csv.writer(sys.stdout).writerows([["stage", "test", "passed", "difference"], *rows])
+        csv.writer(sys.stdout, lineterminator="\n").writerows([["stage", "test", "passed", "difference"], *rows])
     else:
         report(stages, len(rows))
     return all(row[2] for row in rows)

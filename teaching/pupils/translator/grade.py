@@ -103,7 +103,7 @@ def grade(words):
         raise Careless(f"{folder}: no program NAME.alg with its NAME.lines is there")
     rows = [[stage_of(it), it.stem, difference(it, command)] for it in programs]
     if table:
-        csv.writer(sys.stdout).writerows([["stage", "program", "passed", "difference"], *([s, name, int(not said), said] for s, name, said in rows)])
+        csv.writer(sys.stdout, lineterminator="\n").writerows([["stage", "program", "passed", "difference"], *([s, name, int(not said), said] for s, name, said in rows)])
         return not any(said for _, _, said in rows)
     for _, name, said in rows:
         if said:
