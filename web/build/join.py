@@ -5,7 +5,7 @@ if MODULE, a page, isn't what its module and the sources give.
 
 Nine lines of page.html are placeholders. Each is replaced by a text, and nothing else is changed:
 - @STYLE@: page.css;
-- @DECKS@: for each deck of decks/ that is run, a line `#DECK NAME CORE`, a line `#ABOUT` with the first line of its README, and its cards;
+- @DECKS@: for each deck of decks/, and of teaching/decks/, that is run, a line `#DECK NAME CORE`, a line `#ABOUT` with the first line of its README, and its cards;
   then so the programs in ALGOL 60 that ALGOL names, as `algol-NAME`;
 - @MESSAGES@: the headings and the rows of tables of docs/MESSAGES.md;
 - @OPERATORS@: the tables of operators and intrinsics of docs/MACHINE.md, sections 11 and 12;
@@ -59,9 +59,9 @@ def styles():
 
 
 def decks():
-    """The decks whose first word is `run`, in the order of their names."""
+    """The decks whose first word is `run`, in the order of their names; those of the term come last."""
     parts = []
-    for folder in sorted((TOP / "decks").iterdir()):
+    for folder in [*sorted((TOP / "decks").iterdir()), *sorted((TOP / "teaching/decks").iterdir())]:
         words = (folder / "args").read_text(encoding="utf-8").split() if (folder / "args").is_file() else []
         if words[:2] == ["run", "--core"]:
             about = ABOUT.get(folder.name) or (folder / "README").read_text(encoding="utf-8").split("\n")[0]

@@ -87,9 +87,9 @@ export async function course(it) {
 // Where a pupil has stumbled once: the end of all, a word of a lesson, keys in a field of a number, a question at a fault, no keyboard, and paper.
 async function stumbles(it) {
   const {browser} = it;
-  await it.opens('task:6.3');
+  await it.opens('task:12.6');
   await it.click('#run');
-  it.wants(/^All 29 exercises are done: lesson 1: 5 of 5, .*What next\?/.test(await it.shown('#finish')), `after the last task: ${await it.shown('#task')}`);
+  it.wants(new RegExp(`^All ${TASKS.length} exercises are done: lesson 1: 5 of 5, .*What next\\?`).test(await it.shown('#finish')), `after the last task: ${await it.shown('#task')}`);
   await it.opens('lesson:2');
   await browser.value("[...document.querySelectorAll('#lesson-2 .word')].find(it => it.textContent === 'static link').click(); 0");
   it.wants(/^static link/.test(await browser.value("document.querySelector('#help dt.wanted')?.textContent ?? ''")) && await browser.value("document.getElementById('help').open"), 'a word of a lesson leads nowhere');
@@ -106,7 +106,7 @@ async function stumbles(it) {
   it.wants(/^ +1 {2}.*\n +2 {2}/.test(await browser.value("document.getElementById('deck-paper').textContent")), 'the deck on paper');
   await browser.value("dispatchEvent(new Event('afterprint')); 0");
   await it.opens('task:3.2');
-  it.wants(await browser.value("[...document.querySelectorAll('#task .by-hand button')].map(it => it.textContent).join('|')") === 'step|store', 'buttons for the keys of a task');
+  it.wants(await browser.value("[...document.querySelectorAll('#task .by-hand button')].map(it => it.textContent).join('|')") === 'step|next line|paging|task|store|highest stack|before the end|end', 'buttons for the ways to a moment');
 }
 // At the operator that faults the question hides what tells its answer.
 async function asksAtFault(it) {
@@ -154,13 +154,13 @@ async function handsIn(it) {
   await browser.opens('about:blank');
   await browser.opens(address);
   await it.ready();
-  it.wants(/^Handed in by Ada \(17\): 29 of 29/.test(await it.shown('#hand-view h2')), `what was handed in: ${await it.shown('#hand-view h2')}`);
+  it.wants(new RegExp(`^Handed in by Ada \\(17\\): ${TASKS.length} of ${TASKS.length}`).test(await it.shown('#hand-view h2')), `what was handed in: ${await it.shown('#hand-view h2')}`);
   await it.click('#again');
-  it.wants(/^Done again: 29\. Not so: 0\.$/.test(await it.shown('#again-said')), `done again: ${await it.shown('#again-said')}`);
+  it.wants(await it.shown('#again-said') === `Done again: ${TASKS.length}. Not so: 0.`, `done again: ${await it.shown('#again-said')}`);
   await browser.value(`document.getElementById('class-links').value = ${JSON.stringify(`Ada: ${address}\nBo: ${address.slice(0, -40)}`)}; 0`);
   await it.click('#class-show');
   it.wants(await browser.value("document.querySelectorAll('#class-table tr').length") === 2 && /1 of the links/.test(await it.shown('#class-table p')), 'the table of a class');
-  it.wants(/^Ada 17\|29\|29\|0\|✓/.test(await browser.value("[...document.querySelectorAll('#class-table tr:nth-child(2) > *')].map(it => it.textContent).join('|')")), 'the row of a pupil');
+  it.wants(new RegExp(`^Ada 17\\|${TASKS.length}\\|${TASKS.length}\\|0\\|✓`).test(await browser.value("[...document.querySelectorAll('#class-table tr:nth-child(2) > *')].map(it => it.textContent).join('|')")), 'the row of a pupil');
   await browser.value(`{ const data = new DataTransfer(); data.items.add(new File(['Cy: ${address.slice(address.indexOf('#'), -80)}'], 'cy.txt')); document.querySelector('section.class').dispatchEvent(new DragEvent('drop', {dataTransfer: data, bubbles: true, cancelable: true})); } 0`);
   await it.state();
   it.wants(/2 of the links/.test(await it.shown('#class-table p')), 'a file that is dropped');

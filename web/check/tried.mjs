@@ -29,13 +29,16 @@ export class Tried {
 
   // ------------------------------------------------------------ the native program
 
-  deck(name) {
-    return fs.readFileSync(path.join(this.folder, name, 'stdin'), 'latin1');
+  get folders() {
+    return [this.folder, path.join(this.folder, '../teaching/decks')];
   }
-  // The decks that are run: name, core and text.
+  deck(name) {
+    return fs.readFileSync(path.join(this.folders.find(it => fs.existsSync(path.join(it, name))) ?? this.folder, name, 'stdin'), 'latin1');
+  }
+  // The decks that are run, with those of the term: name, core and text.
   decks() {
-    return fs.readdirSync(this.folder).sort().flatMap(name => {
-      const args = path.join(this.folder, name, 'args'), words = fs.existsSync(args) ? fs.readFileSync(args, 'latin1').split('\n') : [];
+    return this.folders.flatMap(folder => fs.readdirSync(folder).sort().map(name => [folder, name])).flatMap(([folder, name]) => {
+      const args = path.join(folder, name, 'args'), words = fs.existsSync(args) ? fs.readFileSync(args, 'latin1').split('\n') : [];
       return words[0] === 'run' ? [{name, core: Number(words[2]), text: this.deck(name)}] : [];
     });
   }

@@ -10,6 +10,7 @@ import {ALGOL_DECKS, algolOf} from '../src/course/algol.js';
 import {COURSE, TASKS} from '../src/course/course.js';
 import {START} from '../src/page/decks.js';
 import {deckOfTask, isFound, isWritten, Progress, whyNot} from '../src/course/progress.js';
+import {findsMistake} from '../src/course/handin.js';
 import {isRight, questionOf} from '../src/course/predict.js';
 import {runWords, textOf} from '../src/machine/program.js';
 
@@ -82,11 +83,12 @@ test('why a task is the next one', async () => {
 for (const task of TASKS.filter(it => it.kind === 'write' && !it.resumed)) {
   test(`write ${task.id}: ${task.text}`, async () => {
     await turn();
-    const desk = deskOf(), done = WRITTEN[task.id].map((text, k) => {
+    const desk = deskOf(), ask = async (name, data) => desk[name](data), done = WRITTEN[task.id].map(async (text, k) => {
       const core = task.leastCore ? LEAST_OF_TEN + k : 4096, words = task.refused ? ['check'] : runWords(core), {status, bytes} = native.call(words, text);
-      return isWritten(task, {words, text, status, printed: textOf(bytes), core, least: task.leastCore ? desk.coreFor({deck: text, core: 256}) : null});
+      const is = isWritten(task, {words, text, status, printed: textOf(bytes), core, least: task.leastCore ? desk.coreFor({deck: text, core: 256}) : null});
+      return is && (!task.mistake || await findsMistake(ask, task, {text, core}, textOf(bytes)));
     });
-    assert.deepEqual(done, [true, false]);
+    assert.deepEqual(await Promise.all(done), [true, false]);
   });
 }
 

@@ -11,6 +11,8 @@ const TEXTS = {
   manboy: [['begin', ''], ['  integer procedure A(k, x1, x2, x3, x4, x5);', '7'], ['    value k; integer k, x1, x2, x3, x4, x5;', ''], ['  begin', ''], ['    integer procedure B;', '24'],
     ['    begin k := k - 1;', '38-42'], ['      B := A := A(k, B, x1, x2, x3, x4)', '43-57'], ['    end;', ''], ['    if k ≤ 0', '25-28'], ['      then A := x4 + x5', '29-32'], ['      else B', '33-36'],
     ['  end;', ''], ['  print(A(8, 1, -1, -1, 1, 0))', '8-21'], ['end', '22']],
+  control: [['begin integer s, i;', '6'], ['  s := 0;', ''], ['  for i := 1 step 1 until 6 do', '7-11 29-34'], ['    if i > 3', '12-15'], ['      then s := s + i × i', '16-23'],
+    ['      else s := s - i;', '24-28'], ['  for s := s div 2', '35-39'], ['    while s > 10 do;', '40-42'], ['  print(s)', '43-46'], ['end', '47']],
   two: [['begin integer array A[0:199],', '6-9'], ['    B[0:199];', '10-13'], ['  A[5] := 11;', '14-16 20-22'], ['  B[6] := 12;', '17-19 23-25'], ['  print(A[5] + B[6])', '26-31'], ['end', '32']],
 };
 

@@ -1,7 +1,7 @@
 // The course on the page: the panel of lessons and sheets with their tasks and marks, and the bar of the task that is being done.
 import {byId, element, isNarrow, put} from '../page/elements.js';
 import {COURSE, TASKS} from './course.js';
-import {packedHand, sameElsewhere} from './handin.js';
+import {findsMistake, packedHand, sameElsewhere} from './handin.js';
 import {perform} from '../page/acts.js';
 import {showHelp, withWords} from '../words/help.js';
 import {KEYS} from '../page/keys.js';
@@ -13,13 +13,14 @@ import {operatorParts} from '../words/reading.js';
 import {packedText} from '../editor/share.js';
 import {keyOfSheet, newestOf, sheetOf} from './sheet.js';
 
-const ANY_WAY = 'Step with →, or click a card, which sets a breakpoint, and press Enter to go there.';
+const ANY_WAY = 'Step with →, click a card, which sets a breakpoint, and press Enter to go there, or search: the keys stand below the line of time.';
+const SEARCHES = ['ArrowRight', 'o', 'g', 't', 'n', 'r', 'e', 'End'];
 const [SHEETS, NAME, NUMBER, MOST_SHEETS, FORGET] = ['b67-sheets', 'b67-name', 'b67-number', 60, 'Forget my marks'];
 
 // What must hold for a task of writing, in words; of one of finding, the ways to go there.
-export function wantedText({kind, how = ANY_WAY, lines, refused, refusal, leastCore, resumed, halts, has, lacks}) {
-  const parts = [...(kind === 'find' ? [how] : []), ...(lines ? [`Run must print ${lines.join(', ')}${halts ? ', and then HALTED' : ''}, and the page then tries another core, too.`] : []),
-    ...(refused ? [`Check must refuse it${refusal ? `: ${refusal}` : ''}.`] : []), ...(leastCore ? ['Run must succeed in that core.'] : []), ...(resumed ? [`Resume must print ${resumed.join(', ')}.`] : [])];
+export function wantedText({kind, how = ANY_WAY, lines, refused, refusal, leastCore, resumed, halts, mistake, untold, has, lacks}) {
+  const parts = [...(kind === 'find' ? [how] : []), ...(lines && untold ? ['Run it, and see whether you were right.'] : []), ...(lines && !untold ? [`Run must print ${lines.join(', ')}${halts ? ', and then HALTED' : ''}, and the page then tries another core, too.`] : []),
+    ...(refused ? [`Check must refuse it${refusal ? `: ${refusal}` : ''}.`] : []), ...(leastCore ? ['Run must succeed in that core.'] : []), ...(mistake ? ['Run compares its lines with those of the machine with the mistake.'] : []), ...(resumed ? [`Resume must print ${resumed.join(', ')}.`] : [])];
   for (const [texts, verb] of [[has, 'must have'], [lacks, 'may not have']]) if (Array.isArray(texts) && texts.length) parts.push(`The deck ${verb}: ${texts.join(', ')}.`);
   return parts.join(' ');
 }
@@ -220,15 +221,15 @@ export class Course {
     box.className = done ? 'done' : '';
     document.body.classList.remove('asks');
     put(box, element('p', {}, element('strong', {}, current ? `${done ? '✓ ' : ''}Exercise ${numberOf(current)} ` : ''), element('span', {}, `${text} `), element('span', {class: 'wanted'}, wanted)),
-      done ? this.nextLink() : this.handKeys(`${text} ${wanted}`), writes ? button('Cards and operators', 'how cards are written, and what each operator does', () => showHelp('Decks and cards', 'Procedures of the MCP', 'Operators')) : null,
+      done ? this.nextLink() : this.handKeys(), writes ? button('Cards and operators', 'how cards are written, and what each operator does', () => showHelp('Decks and cards', 'Procedures of the MCP', 'Operators')) : null,
       writes ? button('Begin anew', 'with the deck as it was at first; yours stays in the list of decks', () => page.guard(() => this.begin(current, true))) : null,
       button('×', 'close the exercise', () => this.leaves()));
   }
-  // Buttons for the keys that a task names, where there may be no keyboard.
-  handKeys(text) {
-    const {current, page} = this, named = [...text.matchAll(/\b(?:[Kk]eys? |press |, )([a-z]|Enter|End)\b/g)].map(found => found[1]);
+  // Buttons for the ways to a moment, where there may be no keyboard; which one leads there is the pupil’s to say.
+  handKeys() {
+    const {current, page} = this;
     if (!current || current.kind === 'write') return null;
-    const keys = [...new Set(current.kind === 'predict' ? ['ArrowLeft', 'ArrowRight'] : ['ArrowRight', ...named])].map(key => KEYS.find(it => it.key === key)).filter(Boolean);
+    const keys = (current.kind === 'predict' ? ['ArrowLeft', 'ArrowRight'] : SEARCHES).map(key => KEYS.find(it => it.key === key)).filter(Boolean);
     return element('span', {class: 'group by-hand'}, keys.map(({act, sign, key, short}) => element('button', {type: 'button', onclick: () => perform(page, act, 1)}, short ?? (key === 'End' ? 'end' : sign ?? key))));
   }
   // What comes after a task: the next one of its sheet or its lesson, or the next lesson.
@@ -289,9 +290,10 @@ export class Course {
     const {current: task, page} = this, ask = (name, data) => page.client.ask(name, data), {text: deck} = page.editor;
     if (task?.kind !== 'write') return;
     const least = task.leastCore && words[0] === 'run' && status === 0 ? await ask('coreFor', {deck: text, core: 256}) : null;
-    if (!isWritten(task, {words, text, status, printed, core, least})) return this.notYet(task, words, status, whyNot(task, deck, printed));
+    if (!isWritten(task, {words, text, status, printed, core, least})) return this.notYet(task, words, status, task.untold ? 'This deck isn’t the one that is asked for, or does more.' : whyNot(task, deck, printed));
     if (task.lines && !await sameElsewhere(ask, {text, core}, printed)) return;
-    this.done(task, {deck, core, halt}, task.lines ? 'Done: these are the lines, and in another core too.' : `Done${task.leastCore ? `: ${core} words are the fewest` : ''}.${task.why ? ` ${task.why}` : ''}`);
+    if (task.mistake && !await findsMistake(ask, task, {text, core}, printed)) return this.tell(task.text, `${wantedText(task)} Not yet. The machine with the mistake prints the same.`);
+    this.done(task, {deck, core, halt}, task.lines ? `Done: ${task.untold ? `${task.lines.join(', ')}` : 'these are the lines'}, and in another core too.` : task.mistake ? 'Done: the machine with the mistake prints something else.' : `Done${task.leastCore ? `: ${core} words are the fewest` : ''}.${task.why ? ` ${task.why}` : ''}`);
   }
   // Says that a run hasn't done the task, and why, once it was one that could have.
   notYet(task, words, status, why) {

@@ -5,6 +5,7 @@ import {isFound, isWritten} from './progress.js';
 import {isRight, questionOf} from './predict.js';
 import {runWords} from '../machine/program.js';
 import {STOPPED} from '../page/client.js';
+import {withMistake} from './mistakes.js';
 import {withoutNames} from '../names/names.js';
 import {withNumbers} from '../page/deck-view.js';
 
@@ -89,6 +90,12 @@ async function passesTests(ask, {tests = []}, {text, core}) {
   return true;
 }
 
+// Whether the machine with a task's mistake prints something else of a deck, or nothing, where it refuses the deck's cards.
+export async function findsMistake(ask, {mistake}, {text, core}, printed) {
+  const {status, text: other} = await ask('call', {words: runWords(core), text: bounded(withMistake(mistake, text)), room: 4 * printed.length + 4096});
+  return status !== 2 && other !== printed;
+}
+
 // Does a work of writing again. `ask` asks the worker.
 export async function writeAgain(ask, task, {text, core, halt}) {
   if (task.resumed) return resumeAgain(ask, task, {text, core, halt});
@@ -96,6 +103,7 @@ export async function writeAgain(ask, task, {text, core, halt}) {
   const least = task.leastCore ? await ask('coreFor', {deck: text, core: 256}) : null;
   if (!isWritten(task, {words, text, status, printed, core, least})) return false;
   const its = {text: bounded(text), core};
+  if (task.mistake) return findsMistake(ask, task, its, printed);
   return !task.lines || await sameElsewhere(ask, its, printed) && passesTests(ask, task, its);
 }
 

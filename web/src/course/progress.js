@@ -74,6 +74,7 @@ export function isWritten(task, {words, text, status, printed, core, least}) {
   if (task.refused) return status === 2 && task.refused.test(printed);
   if (task.resumed) return words[0] === 'resume' && status === 0 && same(task.resumed);
   if (task.leastCore) return runs && status === 0 && core === least;
+  if (task.mistake) return runs && status === 0;
   if (task.halts) return runs && status === 3 && same(task.lines, lines.slice(0, -1));
   return runs && status === 0 && same(task.lines);
 }

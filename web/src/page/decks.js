@@ -10,6 +10,7 @@ export const GROUPS = [
   ['tasks and jobs', ['shared', 'switched', 'order', 'family', 'event', 'producer', 'generator', 'status', 'dining', 'bank', 'bank2', 'quantum', 'jobs', 'rivals', 'eight', 'crowd']],
   ['in ALGOL 60', ['sum', 'manboy', 'jensen2', 'swap', 'order', 'ackermann', 'quicksort', 'sieve', 'queens', 'matrix', 'threelevels', 'leave', 'calculator', 'pl0', 'producer', 'dining', 'bank'].map(name => `algol-${name}`)],
   ['faults and ends', ['fault', 'protect', 'critical', 'limit', 'halt']],
+  ['for the lessons 7 to 12', ['control', 'reach', 'turns', 'rows', 'columns', 'locks', 'mistake1', 'mistake2', 'mistake3', 'mistake4', 'mistake5', 'mistake6']],
 ];
 
 // The first deck, and those of the repository, as web.sh puts them into the page: `#DECK name core`, `#ABOUT text`, and the cards.
