@@ -14,13 +14,16 @@
 //
 //     node web/b67.mjs mark DECK.. EXPECTED [--data FILE] [--in-order] [--csv]
 //     node web/b67.mjs class FILE.. [--key SHEET] > marks.csv
+//     node web/b67.mjs paging DECK [CORE..]
 //
 // `mark` runs each deck in turns of 1, 7, 17 and 1,000 operators, in its least core and in the greatest, and compares its lines with those of
 // EXPECTED, up to `1.1 ENDED`, task by task, or all with --in-order, as scripts/mark.sh does. --data gives other numbers for READ in the place of those on ?DATA cards, which a
 // deck of constants doesn't know. No job makes more than 1,000,000 operators, and no run prints much more than EXPECTED has. Status 1 if a
 // deck is wrong. `class` takes the links that pupils have handed in out of files, zip archives, or all files of a folder, does each work again,
 // and prints a table: 1 for a work that came out again, 0 for one that didn't, t for one that can't be done again. SHEET is a sheet as its
-// teacher keeps it, whose tests are made too. Nothing of it is proved.
+// teacher keeps it, whose tests are made too. `paging` counts how often words come into core and leave it, and the sectors that are read and
+// written, operator by operator, in cores that are named or in twelve from the least to an ample one; of a run of more than 100,000 operators
+// the beginning. Nothing of it is proved.
 import {spawnSync} from 'node:child_process';
 import fs from 'node:fs';
 import path from 'node:path';
@@ -322,9 +325,27 @@ async function marksOfClass(page, words) {
   return 0;
 }
 
+const MOST_PAGED = 100000;
+
+// The pages of a deck over some cores: a line for each.
+async function paging(page, [file, ...cores]) {
+  const {Desk, pagingOf, coresBetween, withoutNames} = partsOf(page), desk = new Desk(() => {});
+  if (file === undefined || !cores.every(it => /^[1-9]\d{2,6}$/.test(it) && it >= 256 && it <= MOST_CORE)) throw new Cant('usage: paging DECK [CORE..], where a core has 256 to 1048575 words');
+  await desk.start({bytes: page.bytes, compares: false});
+  const deck = withoutNames(read(file)), least = cores.length ? null : desk.coreFor({deck, core: 256}), row = core => pagingOf(desk.program, deck, core, {most: MOST_PAGED});
+  const told = ({core, ins, outs, read, written, cut, last}) => console.log([core, ins, outs, read, written].map(it => String(it).padStart(7)).join(' '), cut ? '(cut)' : '', last);
+  const [first, ...others] = cores.length ? cores.map(Number) : [least], begun = row(first);
+  if (!begun.made && !/^NO CORE/.test(begun.last)) throw new Cant(`${file}: ${begun.last || 'no job is in it'}`);
+  console.log('   core      in     out    read written  last line');
+  told(begun);
+  for (const core of cores.length ? others : coresBetween(first, begun.ample, 12).slice(1)) told(row(core));
+  return 0;
+}
+
 async function carriesOut(words) {
   const page = pageOf(), [name, ...rest] = words;
   if (name === 'class') return marksOfClass(page, rest);
+  if (name === 'paging') return paging(page, rest);
   const module = new WebAssembly.Module(page.bytes);
   if (name === 'mark') return mark(module, page, rest);
   const text = name === 'exercise' ? Buffer.alloc(0) : input(), {status, bytes, said} = text ? serve(module, words, text) : unread(module, words), whole = print(bytes);

@@ -82,9 +82,10 @@ export class Program {
   }
 
   // Makes so many operators from an image, over the sectors that belong to it. Prints the lines of these operators, then, if a task lives,
-  // the image there, as `image` does; status 0 if all tasks have ended, else that of `resume`.
-  step(image, steps, {sectors, room}) {
-    const instance = this.instance(), imageAt = lend(instance, image);
+  // the image there, as `image` does; status 0 if all tasks have ended, else that of `resume`. Who makes many small steps may hand an
+  // instance on from one to the next, and takes what a step gives before the next one.
+  step(image, steps, {sectors, room, instance = this.instance()}) {
+    const imageAt = lend(instance, image);
     return this.prints(instance, sectors, room, (...lent) => instance.b67_web_step(...imageAt, BigInt(steps), ...lent));
   }
 

@@ -6,8 +6,11 @@ import {offer, showFault, showResult} from './deck-view.js';
 import {USUAL_CORE} from '../editor/editor.js';
 import {runWords} from '../machine/program.js';
 import {refusedWord} from '../words/refusals.js';
+import {coresBetween} from '../machine/paging.js';
+import {drawCurve} from '../drawing/draw-paging.js';
 
 const MOST_CORE = 1048575;
+const [LEAST_CORE, MANY_CORES] = [256, 12];
 const SOON_FOUND = 1000; // milliseconds of a run whose fault is looked for unasked
 export const NO_JOB = 'This deck has no job, so nothing runs: choose a deck, or write ?JOB and its cards.';
 
@@ -104,6 +107,22 @@ export class Commands {
       const result = await this.command(['bind', ...byId('pairs').value.trim().split(/\s+/)], {text, refusedOf: 'both'});
       this.bound = result.status === 0 ? result.text : '';
       byId('take').disabled = !this.bound;
+    });
+  }
+  // How many sectors a run reads, core by core, as a curve that grows.
+  paging() {
+    const {page} = this;
+    return page.guard(async () => {
+      const deck = page.given(), ask = core => page.client.ask('paging', {deck, core}), rows = [];
+      const least = await page.client.ask('coreFor', {deck, core: LEAST_CORE});
+      if (!hasJob(deck) || least === null) return page.say(NO_JOB);
+      rows.push(await ask(least));
+      if (!rows[0].made) return page.say(`The deck doesn’t run: ${rows[0].last}`);
+      for (const core of coresBetween(least, rows[0].ample, MANY_CORES).slice(1)) {
+        drawCurve(byId('curve'), rows);
+        rows.push(await ask(core));
+      }
+      drawCurve(byId('curve'), rows);
     });
   }
   take() {

@@ -14,6 +14,7 @@ import {textsIn} from '../course/zip.js';
 import {decksOf} from './decks.js';
 import {withoutNames} from '../names/names.js';
 import {isAlgol, withData} from '../algol/translation.js';
+import {coresBetween, pagingOf} from '../machine/paging.js';
 
 // A key for the machine that was pressed in a field of a number, where it means nothing: the field takes its number, and then the key acts.
 function isStep(page, {target, key}) {
@@ -43,7 +44,7 @@ function onKey(page, event) {
 
 function listenToDeck(page) {
   const clicks = {
-    ...Object.fromEntries(['run', 'check', 'image', 'resume', 'exercise', 'bind', 'take'].map(name => [name, () => page.commands[name]()])),
+    ...Object.fromEntries(['run', 'check', 'image', 'resume', 'exercise', 'bind', 'take', 'paging'].map(name => [name, () => page.commands[name]()])),
     step: () => page.steps.step(), edit: () => page.show('deck'), two: () => perform(page, 'two'), 'help-button': () => perform(page, 'help'),
     'lessons-button': () => toggleLessons(page), link: () => page.places.link(), save: () => page.editor.save(), 'delete': () => page.editor.remove(),
     'new': () => page.guard(() => page.places.leaves(() => page.editor.begin())), 'new-algol': () => page.guard(() => page.places.leaves(() => page.editor.beginAlgol())), 'link-copy': () => copyLink(), 'put-numbers': () => putNumbers(page), stop: () => perform(page, 'escape'),
@@ -167,6 +168,6 @@ async function start() {
 }
 
 // In node, b67.mjs takes the parts that need no page.
-if (globalThis.b67Takes) globalThis.b67Takes({Desk, COURSE, decksOf, withoutNames, handsOf, keysOf, tasksFor, marksOf, linesOf, csvOf, textsIn});
+if (globalThis.b67Takes) globalThis.b67Takes({Desk, COURSE, pagingOf, coresBetween, decksOf, withoutNames, handsOf, keysOf, tasksFor, marksOf, linesOf, csvOf, textsIn});
 else if (typeof document === 'undefined') serve();
 else start();

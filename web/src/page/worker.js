@@ -4,6 +4,7 @@ import {programOf, textOf} from '../machine/program.js';
 import {operatorsOf} from '../reader/cards.js';
 import {Machine} from '../machine/machine.js';
 import {Search} from '../machine/search.js';
+import {pagingOf} from '../machine/paging.js';
 import {allOf} from '../course/conditions.js';
 import {TASKS} from '../course/course.js';
 import {endingOf} from '../state/changes.js';
@@ -12,6 +13,7 @@ import {causeOf, wrongOf} from '../words/faults.js';
 const MOST_SHOWN = 1 << 24; // bytes that a command may print
 const MOST_OF_IMAGE = 1 << 26;
 const MOST_BEFORE = 1000; // operators in which a first moment is looked for
+const MOST_PAGED = 20000; // operators of a run whose pages are counted
 const SOON = 100000; // operators, within which the end is looked for at once
 
 export class Desk {
@@ -94,6 +96,15 @@ export class Desk {
       words = Number(need[1]);
     }
     return null;
+  }
+
+  // How much a run pages in a core.
+  paging({deck, core}) {
+    let told = performance.now();
+    return pagingOf(this.program, deck, core, {most: MOST_PAGED, hears: far => {
+      if (performance.now() > told + 200) this.post({far, of: this.number});
+      if (performance.now() > told + 200) told = performance.now();
+    }});
   }
 
   // What the page needs to begin with a deck: the operators of its jobs, where it ends if that is soon said, and why it
