@@ -4,7 +4,7 @@
 #     sh scripts/paging.sh DECK CORE..
 #
 # The sectors are counted by strace, which shows each call that the program makes on its backing file: pread64 reads a
-# sector, pwrite64 writes one. So strace must be there, and be allowed to watch a program. DECK may have names for cells
+# sector, pwrite64 writes one. So strace must be there, and be allowed to watch a program; `node web/b67.mjs paging` needs none. DECK may have names for cells
 # (cells.sh). The program is `b67` on the path, or what the variable B67 names.
 set -u
 case ${1-} in -h | --help) sed -n '1d; /^[^#]/q; s/^# \{0,1\}//p' "$0"; exit ;; esac
@@ -18,7 +18,7 @@ deck=$1
 shift
 here=$(cd "$(dirname "$0")" && pwd)
 [ -f "$deck" ] && [ -r "$deck" ] || usage "$deck: not a file that can be read"
-command -v strace >/dev/null || usage "strace isn't installed, and nothing else here counts the sectors"
+command -v strace >/dev/null || usage "strace isn't installed; without it node web/b67.mjs paging DECK CORE.. counts them"
 for core in "$@"; do
     case $core in
     '' | *[!0-9]* | 0* | ????????*) usage "$core: a size of core is a number from 256 to 1048575" ;;

@@ -118,7 +118,7 @@ def curve(first, last, step, *names):
     for points, colour, name in zip(curves, COLOURS, names):
         way = " ".join(f"{across(core):.0f},{up(many):.0f}" for core, many in points.items())
         parts.append(f'<polyline points="{way}" fill="none" stroke="{colour}" stroke-width="3"/>')
-        parts.append(f'<text x="620" y="{60 + 28 * names.index(name)}" font-size="20" fill="{colour}">{html.escape(name.split("/")[-1])}</text>')
+        parts.append(f'<text x="620" y="{60 + 28 * names.index(name)}" style="font-size:20px;fill:{colour}">{html.escape(name.split("/")[-1])}</text>')
     return f'<figure><svg viewBox="0 0 900 400" width="900" height="400">{"".join(parts)}</svg><figcaption>Sectors read, over the words of core</figcaption></figure>'
 
 

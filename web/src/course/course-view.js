@@ -21,7 +21,10 @@ const [SHEETS, NAME, NUMBER, MOST_SHEETS, FORGET] = ['b67-sheets', 'b67-name', '
 export function wantedText({kind, how = ANY_WAY, lines, refused, refusal, leastCore, resumed, halts, mistake, untold, has, lacks}) {
   const parts = [...(kind === 'find' ? [how] : []), ...(lines && untold ? ['Run it, and see whether you were right.'] : []), ...(lines && !untold ? [`Run must print ${lines.join(', ')}${halts ? ', and then HALTED' : ''}, and the page then tries another core, too.`] : []),
     ...(refused ? [`Check must refuse it${refusal ? `: ${refusal}` : ''}.`] : []), ...(leastCore ? ['Run must succeed in that core.'] : []), ...(mistake ? ['Run compares its lines with those of the machine with the mistake.'] : []), ...(resumed ? [`Resume must print ${resumed.join(', ')}.`] : [])];
-  for (const [texts, verb] of [[has, 'must have'], [lacks, 'may not have']]) if (Array.isArray(texts) && texts.length) parts.push(`The deck ${verb}: ${texts.join(', ')}.`);
+  for (const [texts, verb] of [[has, 'must have'], [lacks, 'may not have']]) {
+    const told = [texts ?? []].flat().filter(it => typeof it === 'string'); // of a sheet; a pattern of the course isn't told before
+    if (told.length) parts.push(`The deck ${verb}: ${told.join(', ')}.`);
+  }
   return parts.join(' ');
 }
 

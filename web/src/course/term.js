@@ -2,7 +2,7 @@
 // that prints other lines on a machine with that mistake; the mistake is made by changing the deck's cards (mistakes.js).
 import {card, into, made, topCells, turned, waits} from './moments.js';
 
-const CODE = {id: '7', title: 'Code from ALGOL, by hand', idea: 'A translator writes cards: for an expression such as leave one word more on the stack, for a statement such as leave the stack as they found it. This time you are the translator.',
+const CODE = {id: '7', title: 'Code from ALGOL, by hand', idea: 'A translator writes cards. Those of an expression leave one word more on the stack; those of a statement leave the stack as they found it. This time you are the translator.',
   shows: [
     ['In the deck ', ['control', '#control,4096,2'], ' the variables s and i are the cells 2,2 and 2,3. Beside its cards stands the text in ALGOL 60, with the line that is made.'],
     ['An expression: ', ['i > 3', '#control,4096,9'], ' is VALC 2,3, LT8 3, GRTR, in the order in which its parts are read, and leaves one word, 0 or 1.'],

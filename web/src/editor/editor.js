@@ -82,7 +82,7 @@ export class Editor {
     this.area.put(text);
     this.list();
     this.tell();
-    for (const id of ['outcome', 'card-help']) put(byId(id));
+    for (const id of ['outcome', 'card-help', 'curve']) put(byId(id));
     showRan([]);
     byId('take').disabled = byId('resume').disabled = true;
     showJobs(text);

@@ -119,10 +119,11 @@ export class Commands {
       rows.push(await ask(least));
       if (!rows[0].made) return page.say(`The deck doesn’t run: ${rows[0].last}`);
       for (const core of coresBetween(least, rows[0].ample, MANY_CORES).slice(1)) {
+        if (deck !== page.given()) return null; // another deck is open by now
         drawCurve(byId('curve'), rows);
         rows.push(await ask(core));
       }
-      drawCurve(byId('curve'), rows);
+      return drawCurve(byId('curve'), rows);
     });
   }
   take() {
