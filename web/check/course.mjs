@@ -160,7 +160,7 @@ async function handsIn(it) {
   await browser.value(`document.getElementById('class-links').value = ${JSON.stringify(`Ada: ${address}\nBo: ${address.slice(0, -40)}`)}; 0`);
   await it.click('#class-show');
   it.wants(await browser.value("document.querySelectorAll('#class-table tr').length") === 2 && /1 of the links/.test(await it.shown('#class-table p')), 'the table of a class');
-  it.wants(new RegExp(`^Ada 17\\|${TASKS.length}\\|${TASKS.length}\\|0\\|✓`).test(await browser.value("[...document.querySelectorAll('#class-table tr:nth-child(2) > *')].map(it => it.textContent).join('|')")), 'the row of a pupil');
+  it.wants(new RegExp(`^Ada 17\\|${TASKS.length}\\|${TASKS.length}\\|0\\|\\d*\\|✓`).test(await browser.value("[...document.querySelectorAll('#class-table tr:nth-child(2) > *')].map(it => it.textContent).join('|')")), 'the row of a pupil');
   await browser.value(`{ const data = new DataTransfer(); data.items.add(new File(['Cy: ${address.slice(address.indexOf('#'), -80)}'], 'cy.txt')); document.querySelector('section.class').dispatchEvent(new DragEvent('drop', {dataTransfer: data, bubbles: true, cancelable: true})); } 0`);
   await it.state();
   it.wants(/2 of the links/.test(await it.shown('#class-table p')), 'a file that is dropped');
