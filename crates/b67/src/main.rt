@@ -14,6 +14,6 @@ fn main(rt: HostRuntime) -> ExitCode {
     let alloc = rt.alloc();
     let mut input = RecordedSource::new(rt.stdin());
     let mut printer = RecordedSink::new(rt.stdout());
-    let mut process = RecordedProcess::new(alloc, rt);
+    let mut process = RecordedProcess::new(rt);
     program(alloc, &mut process, &mut input, &mut printer)
 }

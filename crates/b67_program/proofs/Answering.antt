@@ -3,26 +3,22 @@ use Rattle.std.proofs.Common.{◌≡◌, ◌≢◌, ◌⊎◌, ℕ, List, [], tr
 use Rattle.std.proofs.lemmas.Bool.{false≢true}
 use Rattle.std.proofs.lemmas.Option.{none-some}
 use denote.Ref.{Bor}
-use Rattle.b67_io.specs.Causes.{Rose, Stayed}
-use Rattle.b67_io.specs.Free.{free_left, free_told, free_faults}
-use Rattle.b67_io.specs.declared.free.FreeTape.{FreeTape}
-use Rattle.b67_task.specs.declared.tables.Machine.{Machine}
+use Rattle.b67_io.specs.Causes.{Rose}
 use Rattle.b67_model_text.proofs.Answers.{err-ok}
 use Rattle.b67_session_lines.specs.Ends.{EndsPrinting, all_printed, cut_off}
 use Rattle.b67_job.specs.Command.{command_line_of}
 use Rattle.b67_job.specs.declared.command.CommandLine.{CommandLine}
 use Rattle.b67_job.specs.declared.command.CommandLine.TheVariants as lines
 use Rattle.b67_job.specs.Device.{Device, device_of, DeviceUnchanged}
-use Rattle.b67_job.specs.Due.{Answered, Supplies, IsAmple, IsOpenedOrResumed, reading_text}
-use Rattle.b67_job.specs.Judgement.{asked, judged_status, reads_text, text_limit}
+use Rattle.b67_job.specs.Due.{reading_text}
+use Rattle.b67_job.specs.Judgement.{reads_text, text_limit}
 use Rattle.b67_job.specs.Lines.{memory_text}
 use Rattle.b67_job.specs.Passed.{DeviceAfterCalls}
-use Rattle.b67_job.specs.Statuses.{StatusMeans}
 use Rattle.b67_program.specs.declared.reading.InputFault.{InputFault}
 use Rattle.b67_program.specs.declared.reading.InputFault.TheVariants.{SourceFault, Memory}
 use Rattle.b67_program.specs.Input.{IsTakenIn}
 use Rattle.b67_program.specs.Opening.{OpensPaths}
-use Rattle.b67_program.specs.Served.{OutlastsCalls, ImageIsTyped, IsAnswered, carried_out, reading_failed, text_wants_memory}
+use Rattle.b67_program.specs.Served.{OutlastsCalls, CarriesOut, IsAnswered, carried_out, reading_failed, text_wants_memory}
 
 -- a command has a limit where it reads a text
 limited : (o : Option CommandLine) (most : ℕ) → text_limit o ≡ Some most → reads_text o ≡ true
@@ -65,27 +61,12 @@ module _ {S : Type 0} (o : Option CommandLine) (left : S → Option (List ℕ)) 
 module _ {S B K : Type 0} {words : List (Bor (List ℕ))} {left : S → Option (List ℕ)} {source_faults : S → ℕ} {input input' : S} {d : Device B}
     {taken : K → Option (List ℕ)} {faults : K → ℕ} {old new : K} {answer : ℕ} where
   -- the command was carried out over what was read
-  pub carried : (limit : Option ℕ) (bytes : List ℕ) (deck deck' : FreeTape) (machine : Option Machine) → limit ≡ text_limit (command_line_of words) → IsTakenIn limit left source_faults input input' (Ok bytes)
-      → free_left deck ≡ bytes → OutlastsCalls d → ((k : Machine) → machine ≡ Some k → IsOpenedOrResumed words free_told free_faults deck deck' d k) → ImageIsTyped (command_line_of words) machine → Answered words free_told free_faults deck deck' d machine taken faults old new answer
-      → StatusMeans words free_told free_faults deck deck' d machine taken faults old new answer
-      → ((command : CommandLine) → (text : List ℕ) → command_line_of words ≡ Some command
-      → Supplies command free_told free_faults deck deck' text → IsAmple d command text
-      → Stayed faults old new → Stayed (λ (count : ℕ). count) d.failed_before d.failed_now
-      → (answer ≡ judged_status (asked command text)) ⊎ (answer ≡ 9))
-      → IsAnswered words left source_faults input input' d taken faults old new answer
-  carried limit bytes deck deck' machine is t holds kept opened typed due means complete = carried_out (record {
+  pub carried : (limit : Option ℕ) (bytes : List ℕ) → limit ≡ text_limit (command_line_of words) → IsTakenIn limit left source_faults input input' (Ok bytes)
+      → CarriesOut words bytes d taken faults old new answer → IsAnswered words left source_faults input input' d taken faults old new answer
+  carried limit bytes is t over = carried_out (record {
     bytes = bytes;
     given = subst (λ (most : Option ℕ). IsTakenIn most left source_faults input input' (Ok bytes)) is t;
-    deck = deck;
-    deck_after = deck';
-    holds = holds;
-    machine = machine;
-    kept = kept;
-    opened = opened;
-    typed = typed;
-    due = due;
-    means = means;
-    complete = complete;
+    over = over;
   })
 
   -- a read failed
@@ -100,7 +81,7 @@ module _ {S B K : Type 0} {words : List (Bor (List ℕ))} {left : S → Option (
 
   -- only a failed read has status 7: the tape in memory can't fail
   pub seven : IsAnswered words left source_faults input input' d taken faults old new answer → answer ≡ 7 → Rose source_faults input input'
-  seven (carried_out r) e = absurd (omega (arith, (r.means.reading_fault e).1))
+  seven (carried_out r) e = absurd (omega (arith, (r.over.means.reading_fault e).1))
   seven (reading_failed r rose same ends) e = rose
   seven (text_wants_memory r same (all_printed a t)) e = absurd (omega (arith, a, e))
   seven (text_wants_memory r same (cut_off a f t)) e = absurd (omega (arith, a, e))

@@ -31,12 +31,9 @@ abbrev pub ImageIsTyped : Option CommandLine → Option Machine → Type 0
 ImageIsTyped (Some (commands.Image core)) machine = (k : Machine) → machine ≡ Some k → AreTyped (parts_of k)
 ImageIsTyped _ machine = Unit {0}
 
--- The command was carried out over the bytes that were read: a tape in memory has them, which tells them and can't fail. What
--- `run` says of a deck is said of this tape.
-pub record IsCarriedOut {S B K : Type 0} (words : List (Bor (List ℕ))) (left : S → Option (List ℕ)) (source_faults : S → ℕ) (input input' : S) (d : Device B)
-    (taken : K → Option (List ℕ)) (faults : K → ℕ) (old new : K) (status : ℕ) : Type 0 where
-  pub bytes : List ℕ
-  pub given : IsTakenIn (text_limit (command_line_of words)) left source_faults input input' (Ok bytes)
+-- The command was carried out over a text: a tape in memory has it, which tells its bytes and can't fail. What `run` says of a deck
+-- is said of this tape.
+pub record CarriesOut {B K : Type 0} (words : List (Bor (List ℕ))) (bytes : List ℕ) (d : Device B) (taken : K → Option (List ℕ)) (faults : K → ℕ) (old new : K) (status : ℕ) : Type 0 where
   pub deck : FreeTape
   pub deck_after : FreeTape
   pub holds : free_left deck ≡ bytes
@@ -52,6 +49,13 @@ pub record IsCarriedOut {S B K : Type 0} (words : List (Bor (List ℕ))) (left :
       → Supplies command free_told free_faults deck deck_after text → IsAmple d command text
       → Stayed faults old new → Stayed (λ (count : ℕ). count) d.failed_before d.failed_now
       → (status ≡ judged_status (asked command text)) ⊎ (status ≡ 9)
+
+-- it was so over the bytes that were read
+pub record IsCarriedOut {S B K : Type 0} (words : List (Bor (List ℕ))) (left : S → Option (List ℕ)) (source_faults : S → ℕ) (input input' : S) (d : Device B)
+    (taken : K → Option (List ℕ)) (faults : K → ℕ) (old new : K) (status : ℕ) : Type 0 where
+  pub bytes : List ℕ
+  pub given : IsTakenIn (text_limit (command_line_of words)) left source_faults input input' (Ok bytes)
+  pub over : CarriesOut words bytes d taken faults old new status
 
 -- the command was carried out, or a read of its text failed, or memory was refused for that text
 pub data IsAnswered {S B K : Type 0} (words : List (Bor (List ℕ))) (left : S → Option (List ℕ)) (source_faults : S → ℕ) (input input' : S) (d : Device B)

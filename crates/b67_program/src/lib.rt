@@ -1,7 +1,7 @@
 //! All between the words of the program and its exit: the words, the deck read into memory, the file of the path opened and
 //! closed, the exit status. It promises that what is printed, and the status, are those of `run` on the deck that was read.
 //!
-//! For the program `b67`: `serve_process` (`started`, `reading`). For callers with sources of their own: `serve`. For a page:
+//! For the program `b67`, by `b67_recorded`: `carry_out`. For callers with sources of their own: `serve`, `serve_process`. For a page:
 //! `serve_in_memory`, over text, sectors and room that the caller lends, `find_in_memory` and `step_in_memory`.
 //!
 //! Begin with `serve`: `opened`, `served`, `unread`, `reading`.
@@ -24,7 +24,7 @@ pub use finding::{FindFault, find_in_memory};
 pub use in_memory::{calm_paper, print_into, serve_in_memory, tape_of};
 pub use lent::LentSectors;
 pub use reading::{InputFault, read_input};
-pub use serving::serve;
+pub use serving::{carry_out, memory_backing, serve, text_limit};
 pub use starting::serve_process;
 pub use stepping::step_in_memory;
 pub use words::Words;

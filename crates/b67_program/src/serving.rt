@@ -10,7 +10,7 @@ ghost use Rattle.b67_job.specs.Device.{device_of};
 ghost use Rattle.b67_job.specs.Judgement.{reads_text, text_limit};
 ghost use Rattle.b67_program.specs.Opening.{OpensPaths, Finds, Leaves, paths_of};
 ghost use Rattle.b67_program.specs.Input.{IsTakenIn};
-ghost use Rattle.b67_program.specs.Served.{ImageIsTyped, IsAnswered, IsServed};
+ghost use Rattle.b67_program.specs.Served.{ImageIsTyped, CarriesOut, IsAnswered, IsServed};
 
 use crate::files::Devices;
 use crate::reading::{InputFault, PIECE, read_input};
@@ -34,8 +34,8 @@ const DECK_LIMIT: usize = DECK_BYTES;
 /// An image has at most so many bytes.
 const IMAGE_LIMIT: usize = IMAGE_BYTES;
 
-// How many bytes of a text the command of the words may read, where it reads one.
-fn text_limit(words: &[&str]) -> Option<usize>
+/// How many bytes of a text the command of the words may read, where it reads one.
+pub fn text_limit(words: &[&str]) -> Option<usize>
     ensures limit { result ≡ text_limit (command_line_of words.now) }
     ensures small { IfSome result (λ most. most < 2 ^ 31) }
 {
@@ -74,7 +74,23 @@ fn image_is_typed(words: &[&str], outcome: &Outcome)
     }
 }
 
-// Carries out the command of the words over a backing.
+/// Carries out the command of the words over a text in memory and a backing, and answers the status of `run`.
+pub fn carry_out<K: Sink, B: Backing>(
+    alloc: Global,
+    words: &[&str],
+    text: Bytes,
+    printer: &mut K,
+    backing: &mut B,
+) -> u8
+    ensures { CarriesOut words.now text (device_of B.holds B.size B.faults backing.old backing.new) K.taken K.faults printer.old printer.new result }
+{
+    let mut deck = FreeTape::new(text, PIECE);
+    let outcome = run(alloc, words, &mut deck, printer, backing);
+    image_is_typed(words, &outcome);
+    outcome.status
+}
+
+// Carries out the command of the words over the text that an input gives, and a backing.
 fn answer<S: Source, K: Sink, B: Backing>(
     alloc: Global,
     words: &[&str],
@@ -88,18 +104,14 @@ fn answer<S: Source, K: Sink, B: Backing>(
     ensures reading { result ≡ 7 → Rose S.faults input.old input.new }
 {
     match take_in(alloc, text_limit(words), input) {
-        Ok(bytes) => {
-            let mut deck = FreeTape::new(bytes, PIECE);
-            let outcome = run(alloc, words, &mut deck, printer, backing);
-            image_is_typed(words, &outcome);
-            outcome.status
-        }
+        Ok(bytes) => carry_out(alloc, words, bytes, printer, backing),
         Err(InputFault::SourceFault) => say_reading_fault(printer),
         Err(InputFault::Memory) => refuse_memory(printer).status,
     }
 }
 
-fn memory_backing(alloc: Global) -> Result<MemoryBacking, AllocError>
+/// The sectors of a run whose words name no file.
+pub fn memory_backing(alloc: Global) -> Result<MemoryBacking, AllocError>
     ensures zeros { IfOk result (λ b. memory_sectors b ≡ blank 4096) }
     ensures calm { IfOk result (λ b. (failing_reads b ≡ []) × (failing_writes b ≡ [])) }
     ensures faults { IfOk result (λ b. b.faults ≡ 0) }

@@ -7,7 +7,7 @@ use Rattle.b67_model_text.specs.Deck.{limit}
 use Rattle.b67_backing.specs.declared.device.Backing.{Ghosts}
 use Rattle.b67_recorded.specs.Faithful.{IsFaithful}
 use Rattle.b67_recorded.specs.Telling.{AllTell}
-use Rattle.b67_recorded.specs.declared.files.RecordedFiles.{RecordedFiles}
+use Rattle.b67_recorded.specs.declared.process.RecordedProcess.{RecordedProcess}
 use Rattle.b67_recorded.specs.declared.sink.RecordedSink.{RecordedSink}
 use Rattle.b67_recorded.specs.declared.source.RecordedSource.{RecordedSource}
 use Rattle.b67_promises.specs.Shipped.{IsWholeText, IsStoppedEarly, PrintsAsDescribed, PrintsBehind}
@@ -18,13 +18,13 @@ split (Some xs) (Some ys) read text e took = (ys, sym (same_Some xs text e) ∙ 
 split (Some xs) None read text e took = absurd took
 split None b read text e took = absurd (none-some text e)
 
-module _ {D F R W : Type 0} {g : Ghosts F} {h : write.Ghosts W} (core sectors : ℕ) (path : List ℕ) (files files' : RecordedFiles D F g) (input input' : RecordedSource R) (old new : RecordedSink W h) (status : ℕ) (remaining : R → Option (List ℕ)) where
+module _ {D F R W : Type 0} {g : Ghosts F} {h : write.Ghosts W} (core sectors : ℕ) (path : List ℕ) (process process' : RecordedProcess D F g) (input input' : RecordedSource R) (old new : RecordedSink W h) (status : ℕ) (remaining : R → Option (List ℕ)) where
   ends : (read rest : List ℕ) → remaining input'.inner ≡ Some rest → (input'.ended ≡ true → IsAtEnd (remaining input'.inner))
-      → (IsWholeText read input'.ended × (files'.opened.texts ≡ files.opened.texts ++ path ∷ [])) ⊎ (IsStoppedEarly status × (files'.opened.texts ≡ files.opened.texts)) → IsStoppedEarly status ⊎ (length read ≤ limit → rest ≡ [])
+      → (IsWholeText read input'.ended × (process'.opened.texts ≡ process.opened.texts ++ path ∷ [])) ⊎ (IsStoppedEarly status × (process'.opened.texts ≡ process.opened.texts)) → IsStoppedEarly status ⊎ (length read ≤ limit → rest ≡ [])
   ends read rest left at_end (inl whole) = inr (λ few. subst IsAtEnd left (at_end (whole.0.all few)))
   ends read rest left at_end (inr early) = inl early.0
 
-  pub behind : PrintsAsDescribed core sectors path files files' input input' old new status → IsFaithful remaining input input' old new → input.ended ≡ false → (text : List ℕ) → remaining input.inner ≡ Some text
+  pub behind : PrintsAsDescribed core sectors path process process' input input' old new status → IsFaithful remaining input input' old new → input.ended ≡ false → (text : List ℕ) → remaining input.inner ≡ Some text
       → AllTell h.contents → (held held' : List ℕ) → h.contents old.inner ≡ Some held → h.contents new.inner ≡ Some held' → PrintsBehind core sectors text held held' status
   behind x f fresh text is all held held' before after =
       let s = split (remaining input.inner) (remaining input'.inner) x.text text is (f.read.told x.text x.gave) in

@@ -1,12 +1,12 @@
 -- What the program's call over ends that record prints and answers, as the machine of the model has it.
-use Rattle.std.proofs.Common.{◌≡◌, ◌≢◌, ◌≤◌, ◌+◌, ◌⊎◌, inl, inr, ℕ, List, [], ◌∷◌, ◌++◌, length, take, append-nil, arith, refl, sym, ap, subst, ◌∙◌, Option, Some, None, Ok}
+use Rattle.std.proofs.Common.{◌≡◌, ◌≢◌, ◌≤◌, ◌+◌, ◌⊎◌, inl, inr, ℕ, List, [], ◌∷◌, ◌++◌, length, take, append-nil, arith, refl, sym, ap, subst, ◌∙◌, Option, Some, None, Ok, Bool, true, false}
 use Rattle.std.specs.Prelude.{codes, decimal}
+use Rattle.std.proofs.lemmas.Bool.{false≢true}
 use Rattle.std.proofs.lemmas.List.{append_cancel_left}
 use Rattle.std.proofs.lemmas.Option.{same_Some, none-some}
 use denote.Ref.{Bor}
 use Rattle.std.specs.declared.io.Write as write
 use Rattle.b67_io.specs.Told.{Took}
-use Rattle.b67_io.specs.Free.{free_told, free_faults}
 use Rattle.b67_backing.specs.declared.device.Backing.{Ghosts}
 use Rattle.b67_model_text.proofs.Contents.{same_Ok}
 use Rattle.b67_model_text.specs.Deck.{limit}
@@ -17,18 +17,20 @@ use Rattle.b67_job.specs.Due.{reading_text}
 use Rattle.b67_job.specs.Judgement.{judgement, text_limit}
 use Rattle.b67_job.specs.Lines.{memory_text}
 use Rattle.b67_job.specs.Texts.{only}
-use Rattle.b67_program.specs.Opening.{Finds, Leaves, paths_of}
+use Rattle.b67_program.specs.Opening.{paths_of}
 use Rattle.b67_program.specs.Words.{texts_of}
 use Rattle.b67_recorded.specs.Given.{WasTextTaken}
-use Rattle.b67_recorded.specs.Ends.{mirror_sectors, mirror_told, mirror_size, mirror_faults, files_kept, sink_told, sink_faults}
-use Rattle.b67_recorded.specs.Recorded.{ServesText, IsTextServed, over_text, reading_failed, memory_wanted, IsRecordServed, on_words, words_want_memory}
+use Rattle.b67_recorded.specs.Ends.{mirror_sectors, mirror_told, mirror_size, mirror_faults, text_told, text_faults, sink_told, sink_faults}
+use Rattle.b67_recorded.specs.Files.{reads_sectors, FindsMirrored, LeavesMirrored}
+use Rattle.b67_recorded.specs.Recorded.{ServesText, is_served, isnt_copied, IsTextServed, over_text, reading_failed, memory_wanted, IsRecordServed, on_words, words_want_memory}
 use Rattle.b67_recorded.specs.declared.mirror.Mirrored.{Mirrored}
-use Rattle.b67_recorded.specs.declared.files.RecordedFiles.{RecordedFiles}
+use Rattle.b67_recorded.specs.declared.process.RecordedProcess.{RecordedProcess}
 use Rattle.b67_recorded.specs.declared.sink.RecordedSink.{RecordedSink}
 use Rattle.b67_recorded.specs.declared.source.RecordedSource.{RecordedSource}
 use Rattle.b67_promises.specs.Described as described
 use Rattle.b67_promises.specs.Described.{IsRunCommand, IsAnsweredSo, IsDueOf}
-use Rattle.b67_promises.specs.Paging.{texts, AsksForRun}
+use Rattle.b67_promises.specs.Paged.{PagesOverMirror}
+use Rattle.b67_promises.specs.Paging.{texts, IsWhole, AsksForRun}
 use Rattle.b67_promises.specs.Shipped.{FilesHave, IsWholeText, IsStoppedEarly, PrintsAsDescribed, TookTheSame}
 use Rattle.b67_promises.proofs.CallsDescribed.{longer}
 use Rattle.b67_promises.proofs.Calls.{Prints_so, short_call, short_at, lone}
@@ -36,7 +38,7 @@ use Rattle.b67_promises.proofs.OneLines.{reading_is_one, memory_is_one}
 use Rattle.b67_promises.proofs.Pairs.{same_lines}
 use Rattle.b67_promises.proofs.RunWords.{run_command, run_path}
 use Rattle.b67_promises.proofs.Serves.{answers_so, serve_prints}
-use Rattle.b67_promises.proofs.ServesDescribed.{serve_told}
+use Rattle.b67_promises.proofs.ServesDescribed.{serve_told, whole_over_file}
 use Rattle.b67_promises.proofs.Words.{run_words}
 
 -- ---- words, texts and bytes
@@ -79,10 +81,14 @@ early taken faults old new due text status e (cut_off a rose part) = inr (inl a)
 
 -- ---- one call
 
-module _ {D F R W : Type 0} {g : Ghosts F} {h : write.Ghosts W} (core sectors : ℕ) (files files' : RecordedFiles D F g) (input input' : RecordedSource R) (old new : RecordedSink W h) (status : ℕ) where
+-- the words of a run don't read sectors first
+runs_first : (core : ℕ) (words : List (Bor (List ℕ))) → IsRunCommand core words → reads_sectors (command_line_of words) ≡ false
+runs_first core words w = ap reads_sectors (run_command core words w)
+
+module _ {D F R W : Type 0} {g : Ghosts F} {h : write.Ghosts W} (kept : D → List ℕ → Option (List (List ℕ))) (core sectors : ℕ) (process process' : RecordedProcess D F g) (input input' : RecordedSource R) (old new : RecordedSink W h) (status : ℕ) where
   -- it ends before a file is opened
   stopped : (path : List ℕ) (due : ℕ) (line part : List ℕ) → IsDueOf None core sectors part due line → (due ≡ 7) ⊎ (due ≡ 9) → input'.given.bytes ≡ input.given.bytes ++ part
-      → files'.opened.texts ≡ files.opened.texts → EndsPrinting sink_told sink_faults old new due line status → PrintsAsDescribed core sectors path files files' input input' old new status
+      → process'.opened.texts ≡ process.opened.texts → EndsPrinting sink_told sink_faults old new due line status → PrintsAsDescribed core sectors path process process' input input' old new status
   stopped path due line part is at gave same (all_printed a took) = record {
     text = part;
     gave = gave;
@@ -100,41 +106,93 @@ module _ {D F R W : Type 0} {g : Ghosts F} {h : write.Ghosts W} (core sectors : 
     opened = inr (inr (inl a), same);
   }
 
-  served : (words : List (Bor (List ℕ))) (w : IsRunCommand core words) → FilesHave files sectors → ServesText words files files' input input' old new status → PrintsAsDescribed core sectors w.path files files' input input' old new status
-  served words w have s =
-      let whole = whole_text (text_limit (command_line_of words)) input input' s.text (ap text_limit (run_command core words w)) s.was_given in
-      let told : (path : List ℕ) (file : Mirrored F g) → backing_path words ≡ Some path → Finds files_kept mirror_told s.ready path file → mirror_told file ≢ None = λ path file is found. always_told file in
-      let x = serve_told words core w free_told free_faults s.tape s.tape_after sink_told sink_faults old new status s.text (ap Some s.has) whole.1.few (mirror_told {F = F} {g = g}) mirror_size mirror_faults (Finds files_kept mirror_told s.ready) (Leaves files_kept mirror_told files') told s.serves.served in
+  served : (opens : D → Option (List (List ℕ))) (words : List (Bor (List ℕ))) (w : IsRunCommand core words) → FilesHave process sectors → (text : List ℕ)
+      → WasTextTaken (text_limit (command_line_of words)) input.given.bytes input'.given.bytes input.faults input'.faults input'.ended (Ok text)
+      → ServesText g opens kept words text process.inner process'.inner process.opened.texts process'.opened.texts old new status → PrintsAsDescribed core sectors w.path process process' input input' old new status
+  served opens words w have text given (is_served noted s) =
+      let read = whole_text (text_limit (command_line_of words)) input input' text (ap text_limit (run_command core words w)) given in
+      let first = reads_sectors (command_line_of words) in
+      let told : (path : List ℕ) (file : Mirrored F g) → backing_path words ≡ Some path → FindsMirrored kept process.inner first path file → mirror_told file ≢ None = λ path file is found. always_told file in
+      let x = serve_told words core w text_told text_faults text [] sink_told sink_faults old new status text refl read.1.few (mirror_told {F = F} {g = g}) mirror_size mirror_faults (FindsMirrored {g = g} kept process.inner first) (LeavesMirrored {g = g} kept process'.inner) told s in
       record {
-        text = s.text;
-        gave = whole.0;
+        text = text;
+        gave = read.0;
         out = x.2.0;
         took = took_bytes old new x.2.0 x.2.1;
-        so = subst (λ (n : ℕ). IsAnsweredSo None core n s.text status x.2.0) (have x.0.inner) x.2.2;
-        opened = inl (
-          whole.1,
-          same_Some files'.opened.texts (s.ready.opened.texts ++ paths_of (backing_path words)) (s.serves.opened_so.told s.ready.opened.texts refl)
-              ∙ ap (λ (ts : List (List ℕ)). ts ++ paths_of (backing_path words)) s.same.opened ∙ ap (λ (o : Option (List ℕ)). files.opened.texts ++ paths_of o) (run_path core words w),
-        );
+        so = subst (λ (n : ℕ). IsAnsweredSo None core n text status x.2.0) (have x.0.inner) x.2.2;
+        opened = inl (read.1, noted.notes ∙ ap (λ (o : Option (List ℕ)). process.opened.texts ++ paths_of o) (run_path core words w));
       }
+  served opens words w have text given (isnt_copied path named first noted uncopied ends) = absurd (false≢true (sym (runs_first core words w) ∙ first))
 
-  text_served : (words : List (Bor (List ℕ))) (w : IsRunCommand core words) → FilesHave files sectors → IsTextServed words files files' input input' old new status → PrintsAsDescribed core sectors w.path files files' input input' old new status
-  text_served words w have (over_text s) = served words w have s
-  text_served words w have (reading_failed part gave rose same ends) = stopped w.path 7 reading_text part (described.source_fails refl refl) (inl refl) gave same.opened ends
-  text_served words w have (memory_wanted part gave same ends) = stopped w.path 9 memory_text part (described.memory_is_refused refl refl) (inr refl) gave same.opened ends
+  text_served : (opens : D → Option (List (List ℕ))) (words : List (Bor (List ℕ))) (w : IsRunCommand core words) → FilesHave process sectors
+      → IsTextServed g opens kept words process.inner process'.inner process.opened.texts process'.opened.texts input input' old new status → PrintsAsDescribed core sectors w.path process process' input input' old new status
+  text_served opens words w have (over_text text given s) = served opens words w have text given s
+  text_served opens words w have (reading_failed part gave rose same ends) = stopped w.path 7 reading_text part (described.source_fails refl refl) (inl refl) gave same.notes ends
+  text_served opens words w have (memory_wanted part gave same ends) = stopped w.path 9 memory_text part (described.memory_is_refused refl refl) (inr refl) gave same.notes ends
 
-  pub described_so : (told : D → Option (List (List ℕ))) (noted noted' : List (List ℕ)) (words : List (Bor (List ℕ))) (w : IsRunCommand core words) → noted' ≡ noted ++ texts words → FilesHave files sectors
-      → IsRecordServed told noted noted' files files' input input' old new status → PrintsAsDescribed core sectors w.path files files' input input' old new status
-  described_so told noted noted' words w is have (on_words words' tells is' s) =
-      let same : texts_of words' ≡ texts words = append_cancel_left noted (texts_of words') (texts words) (sym is' ∙ is) in
+  pub described_so : (told opens : D → Option (List (List ℕ))) (words : List (Bor (List ℕ))) (w : IsRunCommand core words) → process'.words.texts ≡ process.words.texts ++ texts words → FilesHave process sectors
+      → IsRecordServed told opens kept process process' input input' old new status → PrintsAsDescribed core sectors w.path process process' input input' old new status
+  described_so told opens words w is have (on_words words' tells is' s) =
+      let same : texts_of words' ≡ texts words = append_cancel_left process.words.texts (texts_of words') (texts words) (sym is' ∙ is) in
       let w' = same_command core words words' same w in
-      subst (λ (path : List ℕ). PrintsAsDescribed core sectors path files files' input input' old new status) w'.1 (text_served words' w'.0 have s)
-  described_so told noted noted' words w is have (words_want_memory same kept ends) =
-      stopped w.path 9 memory_text [] (described.memory_is_refused refl refl) (inr refl) (ap (λ (s : RecordedSource R). s.given.bytes) kept ∙ sym (append-nil input.given.bytes)) same.opened ends
+      subst (λ (path : List ℕ). PrintsAsDescribed core sectors path process process' input input' old new status) w'.1 (text_served opens words' w'.0 have s)
+  described_so told opens words w is have (words_want_memory same unread ends) =
+      stopped w.path 9 memory_text [] (described.memory_is_refused refl refl) (inr refl) (ap (λ (s : RecordedSource R). s.given.bytes) unread ∙ sym (append-nil input.given.bytes)) same.notes ends
+
+  -- ---- one that is whole has paged over its file
+
+  -- a call that stopped so isn't whole
+  not_due : (due : ℕ) (line : List ℕ) → (due ≡ 7) ⊎ (due ≡ 9) → EndsPrinting sink_told sink_faults old new due line status → IsWhole status → ⊥
+  not_due due line at ends whole =
+      let e : IsStoppedEarly status = early sink_told sink_faults old new due line status at ends in
+      short e whole
+    where
+      short : IsStoppedEarly status → IsWhole status → ⊥
+      short (inl e) w = short_at status 7 e (inl (omega arith)) w
+      short (inr (inl e)) w = short_at status 8 e (inl (omega arith)) w
+      short (inr (inr e)) w = short_at status 9 e (inl (omega arith)) w
+
+  abbrev Pages : List ℕ → Type 0
+  Pages path = PagesOverMirror kept core path process process' input input' status
+
+  served_pages : (opens : D → Option (List (List ℕ))) (words : List (Bor (List ℕ))) (w : IsRunCommand core words) → IsWhole status → (text : List ℕ)
+      → WasTextTaken (text_limit (command_line_of words)) input.given.bytes input'.given.bytes input.faults input'.faults input'.ended (Ok text)
+      → ServesText g opens kept words text process.inner process'.inner process.opened.texts process'.opened.texts old new status → Pages w.path
+  served_pages opens words w whole text given (is_served noted s) =
+      let read = whole_text (text_limit (command_line_of words)) input input' text (ap text_limit (run_command core words w)) given in
+      let first = reads_sectors (command_line_of words) in
+      let told : (path : List ℕ) (file : Mirrored F g) → backing_path words ≡ Some path → FindsMirrored kept process.inner first path file → mirror_told file ≢ None = λ path file is found. always_told file in
+      let y = whole_over_file words core w text_told text_faults text [] sink_told sink_faults old new status text refl read.1.few (mirror_told {F = F} {g = g}) mirror_size mirror_faults (FindsMirrored {g = g} kept process.inner first) (LeavesMirrored {g = g} kept process'.inner) told whole s in
+      record {
+        text = text;
+        gave = read.0;
+        file = y.0;
+        found = subst (λ (copies : Bool). FindsMirrored kept process.inner copies w.path y.0) (runs_first core words w) y.2;
+        file_after = y.1;
+        left = y.3;
+        p = y.4.0;
+        prepared = y.4.1;
+        paged = y.4.2;
+      }
+  served_pages opens words w whole text given (isnt_copied path named first noted uncopied ends) = absurd (false≢true (sym (runs_first core words w) ∙ first))
+
+  text_pages : (opens : D → Option (List (List ℕ))) (words : List (Bor (List ℕ))) (w : IsRunCommand core words) → IsWhole status
+      → IsTextServed g opens kept words process.inner process'.inner process.opened.texts process'.opened.texts input input' old new status → Pages w.path
+  text_pages opens words w whole (over_text text given s) = served_pages opens words w whole text given s
+  text_pages opens words w whole (reading_failed part gave rose same ends) = absurd (not_due 7 reading_text (inl refl) ends whole)
+  text_pages opens words w whole (memory_wanted part gave same ends) = absurd (not_due 9 memory_text (inr refl) ends whole)
+
+  pub paged_so : (told opens : D → Option (List (List ℕ))) (words : List (Bor (List ℕ))) (w : IsRunCommand core words) → process'.words.texts ≡ process.words.texts ++ texts words → IsWhole status
+      → IsRecordServed told opens kept process process' input input' old new status → Pages w.path
+  paged_so told opens words w is whole (on_words words' tells is' s) =
+      let same : texts_of words' ≡ texts words = append_cancel_left process.words.texts (texts_of words') (texts words) (sym is' ∙ is) in
+      let w' = same_command core words words' same w in
+      subst Pages w'.1 (text_pages opens words' w'.0 whole s)
+  paged_so told opens words w is whole (words_want_memory same unread ends) = absurd (not_due 9 memory_text (inr refl) ends whole)
 
 -- ---- two calls
 
-module _ {D F R W : Type 0} {g : Ghosts F} {h : write.Ghosts W} (files files' : RecordedFiles D F g) (input input' : RecordedSource R) (old new : RecordedSink W h) (status : ℕ) (text : List ℕ) where
+module _ {D F R W : Type 0} {g : Ghosts F} {h : write.Ghosts W} (kept : D → List ℕ → Option (List (List ℕ))) (process process' : RecordedProcess D F g) (input input' : RecordedSource R) (old new : RecordedSink W h) (status : ℕ) (text : List ℕ) where
   abbrev So : Type 0
   So = Prints_so sink_told sink_faults old new (judgement text) None status
 
@@ -157,22 +215,30 @@ module _ {D F R W : Type 0} {g : Ghosts F} {h : write.Ghosts W} (files files' : 
       let empty : [] ≡ text = append_cancel_left input.given.bytes [] text (append-nil input.given.bytes ∙ sym t.0 ∙ gave) in
       (none ∙ empty, omega (arith, ap length none))
 
-  served_prints : (words : List (Bor (List ℕ))) → AsksForRun words → input'.given.bytes ≡ input.given.bytes ++ text → ServesText words files files' input input' old new status → So
-  served_prints words asks gave s =
+  served_prints : (opens : D → Option (List (List ℕ))) (words : List (Bor (List ℕ))) → AsksForRun words → input'.given.bytes ≡ input.given.bytes ++ text → (read : List ℕ)
+      → WasTextTaken (text_limit (command_line_of words)) input.given.bytes input'.given.bytes input.faults input'.faults input'.ended (Ok read)
+      → ServesText g opens kept words read process.inner process'.inner process.opened.texts process'.opened.texts old new status → So
+  served_prints opens words asks gave read given (is_served noted s) =
       let reads : (command : CommandLine) → command_line_of words ≡ Some command → text_limit (command_line_of words) ≡ Some limit = λ command is. ap text_limit (is ∙ ap Some (run_words words asks command is).1) in
-      let t = given_text (command_line_of words) reads gave s.text s.was_given in
-      let told : (path : List ℕ) (file : Mirrored F g) → backing_path words ≡ Some path → Finds files_kept mirror_told s.ready path file → mirror_told file ≢ None = λ path file is found. always_told file in
+      let t = given_text (command_line_of words) reads gave read given in
+      let first = reads_sectors (command_line_of words) in
+      let told : (path : List ℕ) (file : Mirrored F g) → backing_path words ≡ Some path → FindsMirrored kept process.inner first path file → mirror_told file ≢ None = λ path file is found. always_told file in
       subst (λ (x : List ℕ). Prints_so sink_told sink_faults old new (judgement x) None status) t.0
-      (serve_prints words asks free_told free_faults s.tape s.tape_after sink_told sink_faults old new status s.text (ap Some s.has) t.1 (mirror_told {F = F} {g = g}) mirror_size mirror_faults (Finds files_kept mirror_told s.ready) (Leaves files_kept mirror_told files') told s.serves.served)
+      (serve_prints words asks text_told text_faults read [] sink_told sink_faults old new status read refl t.1 (mirror_told {F = F} {g = g}) mirror_size mirror_faults (FindsMirrored {g = g} kept process.inner first) (LeavesMirrored {g = g} kept process'.inner) told s)
+  served_prints opens words asks gave read given (isnt_copied path named first noted uncopied ends) = absurd (by_command (command_line_of words) refl)
+    where
+      by_command : (o : Option CommandLine) → command_line_of words ≡ o → ⊥
+      by_command None e = false≢true (sym (ap reads_sectors e) ∙ first)
+      by_command (Some command) e = false≢true (sym (ap reads_sectors (e ∙ ap Some (run_words words asks command e).1)) ∙ first)
 
-  pub call_prints : (told : D → Option (List (List ℕ))) (noted noted' : List (List ℕ)) (words : List (Bor (List ℕ))) → AsksForRun words → noted' ≡ noted ++ texts words → input'.given.bytes ≡ input.given.bytes ++ text
-      → IsRecordServed told noted noted' files files' input input' old new status → So
-  call_prints told noted noted' words asks is gave (on_words words' tells is' (over_text s)) =
-      let same : texts_of words' ≡ texts words = append_cancel_left noted (texts_of words') (texts words) (sym is' ∙ is) in
-      served_prints words' (ap (λ (ts : List (List ℕ)). take 1 ts) same ∙ asks) gave s
-  call_prints told noted noted' words asks is gave (on_words words' tells is' (reading_failed part given rose same ends)) = short_reading ends
-  call_prints told noted noted' words asks is gave (on_words words' tells is' (memory_wanted part given same ends)) = short_memory ends
-  call_prints told noted noted' words asks is gave (words_want_memory same kept ends) = short_memory ends
+  pub call_prints : (told opens : D → Option (List (List ℕ))) (words : List (Bor (List ℕ))) → AsksForRun words → process'.words.texts ≡ process.words.texts ++ texts words → input'.given.bytes ≡ input.given.bytes ++ text
+      → IsRecordServed told opens kept process process' input input' old new status → So
+  call_prints told opens words asks is gave (on_words words' tells is' (over_text read given s)) =
+      let same : texts_of words' ≡ texts words = append_cancel_left process.words.texts (texts_of words') (texts words) (sym is' ∙ is) in
+      served_prints opens words' (ap (λ (ts : List (List ℕ)). take 1 ts) same ∙ asks) gave read given s
+  call_prints told opens words asks is gave (on_words words' tells is' (reading_failed part given rose same ends)) = short_reading ends
+  call_prints told opens words asks is gave (on_words words' tells is' (memory_wanted part given same ends)) = short_memory ends
+  call_prints told opens words asks is gave (words_want_memory same unread ends) = short_memory ends
 
 pub took_same : {W X : Type 0} {h : write.Ghosts W} {i : write.Ghosts X} (old new : RecordedSink W h) (status : ℕ) (old' new' : RecordedSink X i) (status' : ℕ) (text : List ℕ)
     → Prints_so sink_told sink_faults old new (judgement text) None status → Prints_so sink_told sink_faults old' new' (judgement text) None status' → TookTheSame old new status old' new' status'

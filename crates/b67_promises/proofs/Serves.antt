@@ -75,12 +75,12 @@ module _ {S K : Type 0} (words : List (Bor (List ℕ))) (w : AsksForRun words) (
   carried d tells r = by_command (command_line_of words) refl
     where
       by_command : (o : Option CommandLine) → command_line_of words ≡ o → So
-      by_command None none = usage free_told free_faults r.deck r.deck_after d r.machine none r.due
+      by_command None none = usage free_told free_faults r.over.deck r.over.deck_after d r.over.machine none r.over.due
       by_command (Some command) is =
           let c = run_words words w command is in
           let most : text_limit (command_line_of words) ≡ Some limit = ap text_limit (is ∙ ap Some c.1) in
           let same : bytes ≡ r.bytes = all_read r.bytes (subst (λ (o : Option ℕ). IsTakenIn o left source_faults input input' (Ok r.bytes)) most r.given) in
-          call_prints taken faults old new (judgement bytes) None (asks_run words free_told r.deck r.deck_after bytes w (ap Some (r.holds ∙ sym same))) tells answer r.due
+          call_prints taken faults old new (judgement bytes) None (asks_run words free_told r.over.deck r.over.deck_after bytes w (ap Some (r.over.holds ∙ sym same))) tells answer r.over.due
 
   by_answer : {B : Type 0} (d : Device B) → DeviceTells d → IsAnswered words left source_faults input input' d taken faults old new answer → So
   by_answer d tells (carried_out r) = carried d tells r

@@ -24,7 +24,7 @@ use Rattle.b67_promises.proofs.Calls.{short_at}
 use Rattle.b67_promises.proofs.MoreCore.{whole_at}
 use Rattle.b67_promises.proofs.Paged.{whole_pages}
 use Rattle.b67_promises.proofs.RunWords.{run_command, run_path, first_is_run}
-use Rattle.b67_promises.proofs.Serves.{all_read, found_tells, named_tells}
+use Rattle.b67_promises.proofs.Serves.{all_read, named_tells}
 
 module _ {S K : Type 0} (words : List (Bor (List ℕ))) (core : ℕ) (w : IsRunCommand core words) (left : S → Option (List ℕ)) (source_faults : S → ℕ) (input input' : S) (taken : K → Option (List ℕ)) (faults : K → ℕ) (old new : K) (answer : ℕ)
     (bytes : List ℕ) (told : left input ≡ Some bytes) (few : length bytes ≤ limit + 1) where
@@ -40,8 +40,8 @@ module _ {S K : Type 0} (words : List (Bor (List ℕ))) (core : ℕ) (w : IsRunC
       let is = run_command core words w in
       let most : text_limit (command_line_of words) ≡ Some limit = ap text_limit is in
       let same : bytes ≡ r.bytes = all_read words (first_is_run core words w) left source_faults input input' taken faults old new answer bytes told few r.bytes (subst (λ (o : Option ℕ). IsTakenIn o left source_faults input input' (Ok r.bytes)) most r.given) in
-      let asks = run_asks words free_told r.deck r.deck_after core bytes w (ap Some (r.holds ∙ sym same)) in
-      call_is words free_told free_faults r.deck r.deck_after d r.machine None core bytes asks tells r.due
+      let asks = run_asks words free_told r.over.deck r.over.deck_after core bytes w (ap Some (r.over.holds ∙ sym same)) in
+      call_is words free_told free_faults r.over.deck r.over.deck_after d r.over.machine None core bytes asks tells r.over.due
 
   by_answer : {B : Type 0} (d : Device B) → DeviceTells d → IsAnswered words left source_faults input input' d taken faults old new answer → So d.sectors
   by_answer d tells (carried_out r) = carried d tells r
@@ -71,20 +71,32 @@ module _ {S K : Type 0} (words : List (Bor (List ℕ))) (core : ℕ) (w : IsRunC
       let is = run_command core words w in
       let most : text_limit (command_line_of words) ≡ Some limit = ap text_limit is in
       let same : bytes ≡ r.bytes = all_read words (first_is_run core words w) left source_faults input input' taken faults old new answer bytes told few r.bytes (subst (λ (o : Option ℕ). IsTakenIn o left source_faults input input' (Ok r.bytes)) most r.given) in
-      let asks = run_asks words free_told r.deck r.deck_after core bytes w (ap Some (r.holds ∙ sym same)) in
-      whole_pages words free_told r.deck r.deck_after d core bytes answer asks tells (whole_at tells (judgement bytes) None answer asks.asks whole r.due)
+      let asks = run_asks words free_told r.over.deck r.over.deck_after core bytes w (ap Some (r.over.holds ∙ sym same)) in
+      whole_pages words free_told r.over.deck r.over.deck_after d core bytes answer asks tells (whole_at tells (judgement bytes) None answer asks.asks whole r.over.due)
   over_whole d tells whole (reading_failed reads rose kept (all_printed a took)) = absurd (short_at answer 7 a (inl (omega arith)) whole)
   over_whole d tells whole (reading_failed reads rose kept (cut_off a failed part)) = absurd (short_at answer 8 a (inl (omega arith)) whole)
   over_whole d tells whole (text_wants_memory reads kept (all_printed a took)) = absurd (short_at answer 9 a (inl (omega arith)) whole)
   over_whole d tells whole (text_wants_memory reads kept (cut_off a failed part)) = absurd (short_at answer 8 a (inl (omega arith)) whole)
 
+  -- over any file that tells what its sectors hold
+  pub whole_over_file : {B : Type 0} (holds : B → Option (List (List ℕ))) (size broken : B → ℕ) (finds leaves : List ℕ → B → Type 0) → ((path : List ℕ) (file : B) → backing_path words ≡ Some path → finds path file → holds file ≢ None) → IsWhole answer
+      → IsServed words left source_faults input input' finds leaves (device_of holds size broken) taken faults old new answer
+      → (file : B) × (file' : B) × finds w.path file × leaves w.path file' × ((p : Prepared) × (deck_prepared bytes ≡ Ok p) × PagesAllTheWay holds core p answer file')
+  whole_over_file holds size broken finds leaves tells whole (over_file path file file' is found left_so a) =
+      let same = same_Some path w.path (sym is ∙ run_path core words w) in (
+        file,
+        file',
+        subst (λ (q : List ℕ). finds q file) same found,
+        subst (λ (q : List ℕ). leaves q file') same left_so,
+        over_whole (device_of holds size broken file file') (tells path file is found) whole a,
+      )
+  whole_over_file holds size broken finds leaves tells whole (over_memory held held' none zeros reads writes calm a) = absurd (none-some w.path (sym none ∙ run_path core words w))
+  whole_over_file holds size broken finds leaves tells whole (sectors_want_memory none ends) = absurd (none-some w.path (sym none ∙ run_path core words w))
+
   pub serve_pages : {R B : Type 0} (kept : R → List ℕ → Option (List (List ℕ))) (holds : B → Option (List (List ℕ))) (size broken : B → ℕ) (now later : R) → kept now w.path ≢ None → IsWhole answer
       → IsServed words left source_faults input input' (Finds kept holds now) (Leaves kept holds later) (device_of holds size broken) taken faults old new answer
       → PagesOverFile kept holds now later w.path core bytes answer
-  serve_pages kept holds size broken now later known whole (over_file path file file' is found left_so a) =
-      let same = same_Some path w.path (sym is ∙ run_path core words w) in
-      let found' = subst (λ (q : List ℕ). Finds kept holds now q file) same found in
-      let pages = over_whole (device_of holds size broken file file') (found_tells kept holds now w.path file known found') whole a in
-      record { file = file; found = found'; file_after = file'; left = subst (λ (q : List ℕ). Leaves kept holds later q file') same left_so; p = pages.0; prepared = pages.1; paged = pages.2 }
-  serve_pages kept holds size broken now later known whole (over_memory held held' none zeros reads writes calm a) = absurd (none-some w.path (sym none ∙ run_path core words w))
-  serve_pages kept holds size broken now later known whole (sectors_want_memory none ends) = absurd (none-some w.path (sym none ∙ run_path core words w))
+  serve_pages kept holds size broken now later known whole served =
+      let tells = named_tells kept holds now (backing_path words) (subst (FileIsTold kept now) (sym (run_path core words w)) known) in
+      let x = whole_over_file holds size broken (Finds kept holds now) (Leaves kept holds later) tells whole served in
+      record { file = x.0; found = x.2; file_after = x.1; left = x.3; p = x.4.0; prepared = x.4.1; paged = x.4.2 }

@@ -79,28 +79,28 @@ module _ {S B K : Type 0} (words : List (Bor (List ℕ))) (left : S → Option (
       usage (inr a) (inr z) = omega (arith, a, z)
 
       by_command : (o : Option CommandLine) → command_line_of words ≡ o → (command : CommandLine) × (command_line_of words ≡ Some command)
-      by_command None e = absurd (usage (r.means.no_command (ap is_some e)) whole)
+      by_command None e = absurd (usage (r.over.means.no_command (ap is_some e)) whole)
       by_command (Some command) e = (command, e)
 
-  given_whole : (most : ℕ) → text_limit (command_line_of words) ≡ Some most → (text : List ℕ) → left input ≡ Some text → length text ≤ most → free_told r.deck ≡ Some text
+  given_whole : (most : ℕ) → text_limit (command_line_of words) ≡ Some most → (text : List ℕ) → left input ≡ Some text → length text ≤ most → free_told r.over.deck ≡ Some text
   given_whole most limited text told few =
       let read = subst (λ (o : Option ℕ). IsTakenIn o left source_faults input input' (Ok r.bytes)) limited r.given in
-      ap Some (r.holds ∙ sym (taken_whole left source_faults input input' most text told (omega (arith, few)) r.bytes read))
+      ap Some (r.over.holds ∙ sym (taken_whole left source_faults input input' most text told (omega (arith, few)) r.bytes read))
 
-  pub image_given : AsksForImage words → (text : List ℕ) → left input ≡ Some text → length text ≤ deck.limit → free_told r.deck ≡ Some text
+  pub image_given : AsksForImage words → (text : List ℕ) → left input ≡ Some text → length text ≤ deck.limit → free_told r.over.deck ≡ Some text
   image_given w text told few =
       let c = the_command in
       let i = halves.image_words words w c.0 c.1 in
       given_whole deck.limit (ap text_limit (c.1 ∙ ap Some i.1)) text told few
 
-  pub image_typed : AsksForImage words → (k : Machine) → r.machine ≡ Some k → AreTyped (parts_of k)
+  pub image_typed : AsksForImage words → (k : Machine) → r.over.machine ≡ Some k → AreTyped (parts_of k)
   image_typed w k is =
       let c = the_command in
       let i = halves.image_words words w c.0 c.1 in
-      let typed = subst (λ (o : Option CommandLine). ImageIsTyped o r.machine) (c.1 ∙ ap Some i.1) r.typed in
+      let typed = subst (λ (o : Option CommandLine). ImageIsTyped o r.over.machine) (c.1 ∙ ap Some i.1) r.over.typed in
       typed k is
 
-  pub resume_given : AsksForResume words → (text : List ℕ) → left input ≡ Some text → length text ≤ image.limit → free_told r.deck ≡ Some text
+  pub resume_given : AsksForResume words → (text : List ℕ) → left input ≡ Some text → length text ≤ image.limit → free_told r.over.deck ≡ Some text
   resume_given w text told few =
       let c = the_command in
       given_whole image.limit (ap text_limit (c.1 ∙ ap Some (halves.resume_words words w c.0 c.1))) text told few
@@ -124,20 +124,20 @@ module _ {R S K I L B : Type 0} (kept : R → List ℕ → Option (List (List �
       let r = one.call in
       let r' = two.call in
       let tells = found_tells kept holds now path one.file known one.found in
-      let same = found_as_left kept holds middle path one.file_after two.file (r.kept.tells tells) one.left_so two.found in
-      let tells' : holds two.file ≢ None = λ none. r.kept.tells tells (sym same ∙ none) in
+      let same = found_as_left kept holds middle path one.file_after two.file (r.over.kept.tells tells) one.left_so two.found in
+      let tells' : holds two.file ≢ None = λ none. r.over.kept.tells tells (sym same ∙ none) in
       let deck_told = image_given words left source_faults input input' d taken faults old new answer r (inr three) w bytes told few in
-      let means = subst (λ (n : ℕ). StatusMeans words free_told free_faults r.deck r.deck_after d r.machine taken faults old new n) three r.means in
-      let h = halves.halted_run words free_told free_faults r.deck r.deck_after d r.machine taken faults old new bytes before text w deck_told tells took took' means in
-      let names = halves.names_of words free_told free_faults r.deck r.deck_after d r.machine taken faults old new bytes before text w deck_told tells took took' h (r.opened h.k h.is) in
+      let means = subst (λ (n : ℕ). StatusMeans words free_told free_faults r.over.deck r.over.deck_after d r.over.machine taken faults old new n) three r.over.means in
+      let h = halves.halted_run words free_told free_faults r.over.deck r.over.deck_after d r.over.machine taken faults old new bytes before text w deck_told tells took took' means in
+      let names = halves.names_of words free_told free_faults r.over.deck r.over.deck_after d r.over.machine taken faults old new bytes before text w deck_told tells took took' h (r.over.opened h.k h.is) in
       let typed = image_typed words left source_faults input input' d taken faults old new answer r (inr three) w h.k h.is in
       let s0 : Session = (run_of h.p).session in
       let made : ℕ = h.k.tasks.made in
       let s : Session = after made s0 in
       let stands = subst (λ (t : Option (List (List ℕ))). StandsAt t h.k s) (halves.known_is (holds one.file) (holds one.file_after) tells ∙ sym same) h.stands in
       let image_told = resume_given resume_words left' source_faults' image_old image_new e taken' faults' rest_old rest_new answer' r' (inl zero) w' text given short in
-      let means' = subst (λ (n : ℕ). StatusMeans resume_words free_told free_faults r'.deck r'.deck_after e r'.machine taken' faults' rest_old rest_new n) zero r'.means in
-      let rest = halves.rest_of_run resume_words free_told free_faults r'.deck r'.deck_after e r'.machine taken' faults' rest_old rest_new
+      let means' = subst (λ (n : ℕ). StatusMeans resume_words free_told free_faults r'.over.deck r'.over.deck_after e r'.over.machine taken' faults' rest_old rest_new n) zero r'.over.means in
+      let rest = halves.rest_of_run resume_words free_told free_faults r'.over.deck r'.over.deck_after e r'.over.machine taken' faults' rest_old rest_new
       w' tells' s h.k stands text image_told law
       (λ card p small is. parts_are (lines made s0) made h.k _ card p (subst (λ (t : List ℕ). halves.IsShort t) h.printed small) typed names (ap (told_in _) (sym h.printed) ∙ is)) means' in
       let over : live_after (made + rest.2.steps) s0 ≡ 0 = ap (λ (t : Session). live_tasks t.jobs) (after-add made rest.2.steps s0) ∙ rest.2.over in

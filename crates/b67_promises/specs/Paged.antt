@@ -1,9 +1,15 @@
 -- That a run pages: at each step core and the device together hold the session of the model.
-use Rattle.std.specs.Prelude.{◌≡◌, ◌≢◌, ℕ, List, ◌∷◌, length, Option, Some, None, Ok}
+use Rattle.std.specs.Prelude.{◌≡◌, ◌≢◌, ℕ, List, ◌∷◌, ◌++◌, length, Option, Some, None, Ok, false}
+use Rattle.b67_backing.specs.declared.device.Backing.{Ghosts}
 use Rattle.b67_lemmas.specs.Lists.{Has}
 use Rattle.b67_model.specs.Common.{after, live_after}
 use Rattle.b67_job.specs.Admitting.{Prepared, deck_prepared, run_of}
 use Rattle.b67_program.specs.Opening.{Finds, Leaves}
+use Rattle.b67_recorded.specs.Ends.{mirror_told}
+use Rattle.b67_recorded.specs.Files.{FindsMirrored, LeavesMirrored}
+use Rattle.b67_recorded.specs.declared.mirror.Mirrored.{Mirrored}
+use Rattle.b67_recorded.specs.declared.process.RecordedProcess.{RecordedProcess}
+use Rattle.b67_recorded.specs.declared.source.RecordedSource.{RecordedSource}
 use Rattle.b67_job.specs.Runs.{StandsAt, Between, HasPaged}
 
 -- so many words of core, and the sectors of a device that tells, hold the session after as many steps as the machine counts
@@ -34,3 +40,15 @@ pub record PagesOverFile {R B : Type 0} (kept : R → List ℕ → Option (List 
   pub p : Prepared
   pub prepared : deck_prepared bytes ≡ Ok p
   pub paged : PagesAllTheWay holds core p status file_after
+
+-- Of the program's call: the steps of the deck of the text that was read were made so over the mirrored file of its path.
+pub record PagesOverMirror {D F R : Type 0} {g : Ghosts F} (kept : D → List ℕ → Option (List (List ℕ))) (core : ℕ) (path : List ℕ) (process process' : RecordedProcess D F g) (input input' : RecordedSource R) (status : ℕ) : Type 0 where
+  pub text : List ℕ
+  pub gave : input'.given.bytes ≡ input.given.bytes ++ text
+  pub file : Mirrored F g
+  pub found : FindsMirrored kept process.inner false path file
+  pub file_after : Mirrored F g
+  pub left : LeavesMirrored kept process'.inner path file_after
+  pub p : Prepared
+  pub prepared : deck_prepared text ≡ Ok p
+  pub paged : PagesAllTheWay (mirror_told {F = F} {g = g}) core p status file_after

@@ -6,7 +6,8 @@ ghost use denote.Ref.{Bor};
 ghost use Rattle.b67_recorded.specs.Faithful.{IsFaithful};
 ghost use Rattle.b67_recorded.specs.Recorded.{IsRecordServed};
 ghost use Rattle.b67_promises.specs.Described.{IsRunCommand};
-ghost use Rattle.b67_promises.specs.Paging.{texts, AsksForRun};
+ghost use Rattle.b67_promises.specs.Paged.{PagesOverMirror};
+ghost use Rattle.b67_promises.specs.Paging.{texts, IsWhole, AsksForRun};
 ghost use Rattle.b67_promises.specs.Shipped.{FilesHave, PrintsAsDescribed, PrintsBehind, TookTheSame};
 
 use b67_program::{Devices, Words};
@@ -25,11 +26,15 @@ pub fn program_described<D: Words + Devices + Drop, R: Read, W: Write>(
 ) -> ExitCode
     // Of words that are a run command: those that the process gave.
     ensures described { (core sectors : ℕ) → (words : List (Bor (List ℕ))) → (w : IsRunCommand core words) → process.new.words.texts ≡ process.old.words.texts ++ texts words
-        → FilesHave process.old.files sectors
-        → PrintsAsDescribed core sectors w.path process.old.files process.new.files input.old input.new printer.old printer.new (exit_status result) }
+        → FilesHave process.old sectors
+        → PrintsAsDescribed core sectors w.path process.old process.new input.old input.new printer.old printer.new (exit_status result) }
+
+    // Where all tasks end or the halt comes, the deck was run step by step over the mirrored file of the path.
+    ensures paged { (core : ℕ) → (words : List (Bor (List ℕ))) → (w : IsRunCommand core words) → process.new.words.texts ≡ process.old.words.texts ++ texts words → IsWhole (exit_status result)
+        → PagesOverMirror D.kept core w.path process.old process.new input.old input.new (exit_status result) }
 
     // The answer is that of a call of `serve_recorded`.
-    ensures call { IsRecordServed D.given process.old.words.texts process.new.words.texts process.old.files process.new.files input.old input.new printer.old printer.new (exit_status result) }
+    ensures call { IsRecordServed D.given D.opened D.kept process.old process.new input.old input.new printer.old printer.new (exit_status result) }
 
     // The bytes that were noted are those that the writer took and that the reader gave, where these tell what they have.
     ensures faithful { IsFaithful R.remaining input.old input.new printer.old printer.new }
@@ -45,10 +50,10 @@ pub fn program(
     printer: &mut RecordedSink<Stdout>,
 ) -> ExitCode
     ensures described { (core : ℕ) → (words : List (Bor (List ℕ))) → (w : IsRunCommand core words) → process.new.words.texts ≡ process.old.words.texts ++ texts words
-        → PrintsAsDescribed core 65536 w.path process.old.files process.new.files input.old input.new printer.old printer.new (exit_status result) }
+        → PrintsAsDescribed core 65536 w.path process.old process.new input.old input.new printer.old printer.new (exit_status result) }
 
     // The answer is that of a call of `serve_recorded`.
-    ensures call { IsRecordServed (λ _. None) process.old.words.texts process.new.words.texts process.old.files process.new.files input.old input.new printer.old printer.new (exit_status result) }
+    ensures call { IsRecordServed (λ _. None) (λ _. None) (λ _ _. None) process.old process.new input.old input.new printer.old printer.new (exit_status result) }
 {
     program_described(alloc, process, input, printer)
 }
@@ -62,7 +67,7 @@ pub fn program_in_memory<D: Words + Devices + Drop>(
 ) -> (ExitCode, Vec<u8>)
     // Of words that are a run command: those that the process gave.
     ensures printed { (core sectors : ℕ) → (words : List (Bor (List ℕ))) → IsRunCommand core words → process.new.words.texts ≡ process.old.words.texts ++ texts words
-        → FilesHave process.old.files sectors → PrintsBehind core sectors text.now lines.items result.1.items (exit_status result.0) }
+        → FilesHave process.old sectors → PrintsBehind core sectors text.now lines.items result.1.items (exit_status result.0) }
 {
     let mut input = RecordedSource::new(text);
     let mut printer = RecordedSink::new(lines);
@@ -95,10 +100,10 @@ pub fn program_twice<
         → TookTheSame printer.old printer.new (exit_status result.0) other_printer.old other_printer.new (exit_status result.1) }
 
     // The first answer is that of a call of `serve_recorded` on the first process, input and printer.
-    ensures call { IsRecordServed D.given process.old.words.texts process.new.words.texts process.old.files process.new.files input.old input.new printer.old printer.new (exit_status result.0) }
+    ensures call { IsRecordServed D.given D.opened D.kept process.old process.new input.old input.new printer.old printer.new (exit_status result.0) }
 
     // The second answer is that of a call on the others.
-    ensures other_call { IsRecordServed E.given other_process.old.words.texts other_process.new.words.texts other_process.old.files other_process.new.files other_input.old other_input.new other_printer.old other_printer.new (exit_status result.1) }
+    ensures other_call { IsRecordServed E.given E.opened E.kept other_process.old other_process.new other_input.old other_input.new other_printer.old other_printer.new (exit_status result.1) }
 
     // What was noted is what went through, where the readers and the writers tell what they have.
     ensures faithful { IsFaithful R.remaining input.old input.new printer.old printer.new × IsFaithful S.remaining other_input.old other_input.new other_printer.old other_printer.new }

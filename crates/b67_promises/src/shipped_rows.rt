@@ -91,7 +91,7 @@ fn process_in(core: &'static str) -> Desk {
 }
 
 fn serve_one(alloc: Global, lines: &mut ByBytes) -> ExitCode {
-    let mut process = RecordedProcess::new(alloc, process_in("630"));
+    let mut process = RecordedProcess::new(process_in("630"));
     let mut input = RecordedSource::new(TWO.as_bytes());
     let mut printer = RecordedSink::new(lines);
     program_described(alloc, &mut process, &mut input, &mut printer)
@@ -110,10 +110,10 @@ fn serve_two(
     lines: &mut ByBytes,
     other_lines: &mut ByBytes,
 ) -> (ExitCode, ExitCode) {
-    let mut process = RecordedProcess::new(alloc, process_in("630"));
+    let mut process = RecordedProcess::new(process_in("630"));
     let mut input = RecordedSource::new(TWO.as_bytes());
     let mut printer = RecordedSink::new(lines);
-    let mut other_process = RecordedProcess::new(alloc, process_in("4096"));
+    let mut other_process = RecordedProcess::new(process_in("4096"));
     let mut other_input = RecordedSource::new(TWO.as_bytes());
     let mut other_printer = RecordedSink::new(other_lines);
     program_twice(
@@ -139,7 +139,7 @@ fn serves_two_recorded_processes(rt: HostRuntime) {
 
 #[test]
 fn serves_a_text_in_memory(rt: HostRuntime) {
-    let mut process = RecordedProcess::new(rt.alloc(), process_in("630"));
+    let mut process = RecordedProcess::new(process_in("630"));
     let (code, lines) = program_in_memory(
         rt.alloc(),
         &mut process,

@@ -1,3 +1,5 @@
 mod Taking
 mod Passing
 mod Copying
+mod Knowing
+mod Serving

@@ -2,9 +2,8 @@
 use Rattle.std.specs.Prelude.{ℕ, List, Option, Some}
 use Rattle.std.specs.declared.io.Write as write
 use Rattle.b67_backing.specs.declared.device.Backing.{Ghosts}
-use Rattle.b67_recorded.specs.Mirror.{mirrored, kept_by}
+use Rattle.b67_recorded.specs.Mirror.{mirrored}
 use Rattle.b67_recorded.specs.declared.mirror.Mirrored.{Mirrored}
-use Rattle.b67_recorded.specs.declared.files.RecordedFiles.{RecordedFiles}
 use Rattle.b67_recorded.specs.declared.sink.RecordedSink.{RecordedSink}
 
 -- the sectors of a mirrored device
@@ -20,13 +19,12 @@ mirror_size {g = g} m = g.size m.inner
 abbrev pub mirror_faults : {F : Type 0} {g : Ghosts F} → Mirrored F g → ℕ
 mirror_faults m = m.faults
 
--- the paths that were opened
-abbrev pub files_opened : {D F : Type 0} {g : Ghosts F} → RecordedFiles D F g → Option (List (List ℕ))
-files_opened p = Some p.opened.texts
+-- a text in memory, as a source that can't fail: what is left of it is itself
+abbrev pub text_told : List ℕ → Option (List ℕ)
+text_told text = Some text
 
--- what the file holds that was closed, whatever the path
-abbrev pub files_kept : {D F : Type 0} {g : Ghosts F} → RecordedFiles D F g → List ℕ → Option (List (List ℕ))
-files_kept p path = kept_by mirror_sectors p.file
+abbrev pub text_faults : List ℕ → ℕ
+text_faults text = 0
 
 -- the bytes that a printer's writer took
 abbrev pub sink_told : {W : Type 0} {w : write.Ghosts W} → RecordedSink W w → Option (List ℕ)

@@ -3,5 +3,6 @@ pub mod Taken
 pub mod Given
 pub mod Mirror
 pub mod Ends
+pub mod Files
 pub mod Faithful
 pub mod Recorded

@@ -8,7 +8,6 @@
 //! Begin with `serve_recorded`: `served`, `faithful`; then `Mirrored`.
 #![tactic(auto)]
 
-mod files;
 mod mirror;
 mod process;
 mod record;
@@ -16,7 +15,6 @@ mod serving;
 mod sink;
 mod source;
 
-pub use files::RecordedFiles;
 pub use mirror::Mirrored;
 pub use process::RecordedProcess;
 pub use record::{Record, Texts};

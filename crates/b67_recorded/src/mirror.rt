@@ -1,10 +1,10 @@
 //! A device, and a copy of what its sectors hold.
 
-ghost use Rattle.std.specs.Prelude.{◌≡◌, ◌≤◌, [], ◌∷◌, length, take, Some, IsTrue, OnOk, OnErr};
+ghost use Rattle.std.specs.Prelude.{◌≡◌, ◌≤◌, length, ◌↔◌, [], ◌∷◌, Some, IsTrue, IfOk, IfErr, OnOk, OnErr, Bool, false, vec_capacity};
 ghost use Rattle.b67_io.specs.Causes.{HasCause, Rose};
 ghost use Rattle.b67_backing.specs.Device.{Tells, Becomes, Changes, Counts};
 ghost use Rattle.b67_backing.specs.Held.{SameBut, Sets, sector};
-ghost use Rattle.b67_recorded.specs.Mirror.{mirrored};
+ghost use Rattle.b67_recorded.specs.Mirror.{mirrored, IsMirrorOf};
 
 use b67_backing::Backing;
 use b67_word::Failed;
@@ -26,7 +26,8 @@ pub struct Mirrored<B: Backing + Drop> {
 impl<B: Backing + Drop> Mirrored<B> {
     /// Over a device whose sectors aren't read before they are written. The room is for the copy, and what it holds is dropped.
     pub fn over(inner: B, room: Vec<[u64; 30]>) -> Self
-        ensures device { result.inner ≡ inner }
+        ensures over { (copies : Bool) → copies ≡ false → IsMirrorOf B.holds B.size copies inner result.inner result.held.items }
+        ensures room { vec_capacity room ≤ vec_capacity result.held }
         ensures calls { result.calls ≡ 0 }
         ensures faults { result.faults ≡ 0 }
     {
@@ -40,32 +41,59 @@ impl<B: Backing + Drop> Mirrored<B> {
         }
     }
 
-    /// Copies what the device's sectors hold, up to the first that isn't read, or for which memory is refused.
-    pub fn copy_all(&mut self)
-        ensures size { B.size self.new.inner ≡ B.size self.old.inner }
-        ensures calls { self.new.calls ≡ self.old.calls }
-        ensures faults { self.new.faults ≡ self.old.faults }
-        ensures copies { Tells B.holds self.old.inner (λ all. self.new.held.items ≡ take (length self.new.held.items) all) }
+    /// Over a device whose sectors are read before they are written: all of them are copied. If one isn't read, or there is no room
+    /// for it, the device is given back.
+    pub fn copied(inner: B, room: Vec<[u64; 30]>) -> Result<Self, B>
+        ensures over { IfOk result (λ m. (copies : Bool) → IsMirrorOf B.holds B.size copies inner m.inner m.held.items) }
+        ensures room { IfOk result (λ m. vec_capacity room ≤ vec_capacity m.held) }
+        ensures calls { IfOk result (λ m. m.calls ≡ 0) }
+        ensures faults { IfOk result (λ m. m.faults ≡ 0) }
+        ensures fair { B.size inner ≤ vec_capacity room → IfErr result (λ left. Rose B.faults inner left) }
     {
-        self.held.clear();
+        let mut inner = inner;
+        let mut held = room;
+        held.clear();
         let mut sector = BLANK;
-        'copy: for k in 0..self.inner.sectors() {
-            if self.inner.read(k + 1, &mut sector).is_err() || self.held.push(sector).is_err() {
-                return;
+        'copy: for k in 0..inner.sectors() {
+            match inner.read(k + 1, &mut sector) {
+                Ok(()) => match held.push(sector) {
+                    Ok(()) => {}
+                    Err(_) => return Err(inner),
+                },
+                Err(_) => return Err(inner),
             }
         }
+        Ok(Mirrored {
+            inner,
+            held,
+            calls: 0,
+            faults: 0,
+        })
     }
 
-    /// What sector n holds.
-    fn known(&self, n: u32) -> [u64; 30]
+    /// The device.
+    pub fn into_inner(self) -> B
+        ensures { result ≡ self.inner }
+    {
+        let Mirrored {
+            inner,
+            held: _,
+            calls: _,
+            faults: _,
+        } = self;
+        inner
+    }
+
+    /// Whether sector n holds these numbers.
+    fn is_known(&self, n: u32, numbers: &[u64; 30]) -> bool
         requires low { 1 ≤ n }
         requires high { n ≤ B.size self.now.inner }
-        ensures { sector (mirrored (B.size self.now.inner) self.now.held.items) n ≡ Some result }
+        ensures { IsTrue result ↔ (sector (mirrored (B.size self.now.inner) self.now.held.items) n ≡ Some numbers.now) }
     {
         if n as usize <= self.held.len() {
-            return self.held[n as usize - 1];
+            return self.held[n as usize - 1] == *numbers;
         }
-        BLANK
+        *numbers == BLANK
     }
 
     /// Changes the copy of sector n, and says whether there was memory for it.
@@ -76,6 +104,7 @@ impl<B: Backing + Drop> Mirrored<B> {
         ensures others { SameBut (n ∷ []) (mirrored (B.size self.old.inner) self.old.held.items) (mirrored (B.size self.new.inner) self.new.held.items) }
         ensures device { self.new.inner ≡ self.old.inner }
         ensures counts { (self.new.calls ≡ self.old.calls) × (self.new.faults ≡ self.old.faults) }
+        ensures room { n ≤ vec_capacity self.old.held → IsTrue result }
     {
         if n as usize > self.held.len() && self.held.resize(n as usize, BLANK).is_err() {
             return false;
@@ -111,10 +140,12 @@ impl<B: Backing + Drop> Backing for Mirrored<B> {
         ensures fair { B.holds self.old.inner ≡ Some (mirrored (B.size self.old.inner) self.old.held.items) → OnErr result (Rose B.faults self.old.inner self.new.inner) }
     {
         self.calls = self.calls.saturating_add(1);
-        let known = self.known(n);
-        if self.inner.read(n, into).is_ok() && *into == known {
-            *into = known;
-            return Ok(());
+        if self.inner.read(n, into).is_ok() {
+            if self.is_known(n, into) {
+                return Ok(());
+            }
+            self.faults = self.faults.saturating_add(1);
+            return Err(Failed);
         }
         self.faults = self.faults.saturating_add(1);
         Err(Failed)
@@ -130,11 +161,14 @@ impl<B: Backing + Drop> Backing for Mirrored<B> {
         ensures calm { OnOk result (self.new.faults ≡ self.old.faults) }
         ensures cause { HasCause (λ m. m.faults) self.old self.new result }
         ensures asked { OnOk result (Changes B.holds self.old.inner self.new.inner (Sets n from.now)) }
+        ensures fair { n ≤ vec_capacity self.old.held → OnErr result (Rose B.faults self.old.inner self.new.inner) }
     {
         self.calls = self.calls.saturating_add(1);
-        let written = self.inner.write(n, from).is_ok();
-        let kept = self.keep(n, from);
-        if written && kept {
+        if !self.keep(n, from) {
+            self.faults = self.faults.saturating_add(1);
+            return Err(Failed);
+        }
+        if self.inner.write(n, from).is_ok() {
             return Ok(());
         }
         self.faults = self.faults.saturating_add(1);

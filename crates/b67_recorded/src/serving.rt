@@ -1,33 +1,38 @@
 //! The program's call over ends that record.
 
-ghost use Rattle.std.specs.Prelude.{◌≡◌, ◌<◌, ◌^◌, ◌++◌, ℕ, List, IfOk, IfSome, map, string_bytes};
+ghost use Rattle.std.specs.Prelude.{◌≡◌, ◌≤◌, ◌<◌, ◌^◌, ◌++◌, ℕ, List, [], Ok, Some, IfOk, IfSome, map, string_bytes, vec_capacity};
 ghost use Rattle.std.specs.Process.{exit_status};
-ghost use Rattle.b67_job.specs.Command.{command_line_of};
-ghost use Rattle.b67_job.specs.Due.{reading_text};
+ghost use Rattle.b67_io.specs.Line.{ended};
+ghost use Rattle.b67_job.specs.Command.{command_line_of, backing_path};
 ghost use Rattle.b67_job.specs.Judgement.{text_limit};
+ghost use Rattle.b67_job.specs.Lines.{backing_fault_line};
 ghost use Rattle.b67_session_lines.specs.Ends.{EndsPrinting};
+ghost use Rattle.b67_program.specs.Input.{IsTakenIn};
 ghost use Rattle.b67_program.specs.Words.{texts_of};
+ghost use Rattle.b67_recorded.specs.Ends.{text_told, text_faults};
 ghost use Rattle.b67_recorded.specs.Faithful.{GaveNoted, IsFaithful};
+ghost use Rattle.b67_recorded.specs.Files.{reads_sectors};
 ghost use Rattle.b67_recorded.specs.Given.{WasTextTaken};
-ghost use Rattle.b67_recorded.specs.Recorded.{IsTextServed, IsRecordServed};
+ghost use Rattle.b67_recorded.specs.Recorded.{RunsOverMirror, RunsOverCopyBy, ServesTextBy, IsTextServedBy, IsRecordServed};
 
-use crate::files::RecordedFiles;
+use crate::mirror::Mirrored;
 use crate::process::RecordedProcess;
 use crate::record::Texts;
 use crate::sink::RecordedSink;
 use crate::source::RecordedSource;
-use b67_io::{FreeTape, Sink};
-use b67_job::{CommandLine, command_of, refuse_memory};
-use b67_model::{DECK_BYTES, IMAGE_BYTES};
-use b67_program::{Devices, InputFault, Words, serve};
+use b67_io::Sink;
+use b67_job::{CommandLine, backing_path, command_of, refuse_memory, say_reading_fault};
+use b67_program::{
+    Devices, InputFault, Words, carry_out, memory_backing, text_limit,
+};
 use b67_session_lines::{line_of, say};
 use b67_word::Bytes;
 use std::alloc::{AllocError, Global};
 use std::io::{Read, Write};
 use std::process::ExitCode;
 
-/// The tape hands out so many bytes at once.
-const PIECE: usize = 4096;
+/// So many sectors a file of the system has: its copy has room for them.
+const SECTORS: usize = 65536;
 
 /// The same words, as `serve` takes them, which are noted.
 fn noted<'a>(
@@ -46,26 +51,14 @@ fn noted<'a>(
     Ok(all)
 }
 
-/// How many bytes of a text the command of the words may read, where it reads one.
-fn text_limit(words: &[&str]) -> Option<usize>
-    ensures limit { result ≡ text_limit (command_line_of words.now) }
-    ensures small { IfSome result (λ most. most < 2 ^ 31) }
+/// Whether the command of the words reads the sectors of its file before it writes them.
+fn reads_first(words: &[&str]) -> bool
+    ensures { result ≡ reads_sectors (command_line_of words.now) }
 {
     match command_of(words) {
-        None => None,
-        Some(CommandLine::Exercise { .. }) => None,
-        Some(CommandLine::Resume) => Some(IMAGE_BYTES),
-        Some(CommandLine::Dump) => Some(IMAGE_BYTES),
-        Some(_) => Some(DECK_BYTES),
-    }
-}
-
-/// Whether the command of the words reads the sectors of its file before it writes them.
-fn reads_first(words: &[&str]) -> bool {
-    match command_of(words) {
+        None => false,
         Some(CommandLine::Resume) => true,
-        Some(CommandLine::Dump) => true,
-        _ => false,
+        Some(_) => false,
     }
 }
 
@@ -86,33 +79,145 @@ fn take_text<R: Read>(
     }
 }
 
-fn say_reading_fault<K: Sink>(printer: &mut K) -> u8
-    ensures { EndsPrinting K.taken K.faults printer.old printer.new 7 reading_text result }
+fn say_backing_fault<K: Sink>(printer: &mut K) -> u8
+    ensures { EndsPrinting K.taken K.faults printer.old printer.new 6 (ended backing_fault_line) result }
 {
-    say(printer, 7, &line_of("READING FAULT"))
+    say(printer, 6, &line_of("BACKING FAULT"))
 }
 
-/// Reads the text of the words' command, and serves them over it.
-fn serve_words<D: Devices + Drop, R: Read, W: Write>(
+/// Carries out the command of the words over a text and a mirrored file, and closes the file.
+fn serve_mirrored<D: Devices + Drop, W: Write>(
     alloc: Global,
     words: &[&str],
-    files: &mut RecordedFiles<D>,
+    path: &str,
+    text: Bytes,
+    process: &mut RecordedProcess<D>,
+    file: Mirrored<D::File>,
+    printer: &mut RecordedSink<W>,
+) -> u8
+    ensures over { RunsOverMirror D.kept words.now text path.now file process.new.inner printer.old printer.new result }
+    ensures same { D.opened process.new.inner ≡ D.opened process.old.inner }
+    ensures noted { (process.new.words.texts ≡ process.old.words.texts) × (process.new.opened.texts ≡ process.old.opened.texts) }
+{
+    let mut file = file;
+    let status = carry_out(alloc, words, text, printer, &mut file);
+    process.inner.close(path, file.into_inner());
+    status
+}
+
+/// The same over a file whose sectors are all copied first. If they can't be, it is closed, and the call ends with `BACKING FAULT`.
+fn serve_copied<D: Devices + Drop, W: Write>(
+    alloc: Global,
+    words: &[&str],
+    path: &str,
+    text: Bytes,
+    process: &mut RecordedProcess<D>,
+    device: D::File,
+    room: Vec<[u64; 30]>,
+    printer: &mut RecordedSink<W>,
+) -> u8
+    requires { 65536 ≤ vec_capacity room }
+    ensures over { RunsOverCopyBy D.kept words.now text path.now device process.new printer.old printer.new result }
+    ensures same { D.opened process.new.inner ≡ D.opened process.old.inner }
+    ensures noted { (process.new.words.texts ≡ process.old.words.texts) × (process.new.opened.texts ≡ process.old.opened.texts) }
+{
+    match Mirrored::copied(device, room) {
+        Ok(file) => serve_mirrored(alloc, words, path, text, process, file, printer),
+        Err(device) => {
+            process.inner.close(path, device);
+            say_backing_fault(printer)
+        }
+    }
+}
+
+/// Serves words over a text and the file of their path.
+fn serve_file<D: Devices + Drop, W: Write>(
+    alloc: Global,
+    words: &[&str],
+    path: &str,
+    text: Bytes,
+    process: &mut RecordedProcess<D>,
+    room: Vec<[u64; 30]>,
+    printer: &mut RecordedSink<W>,
+) -> u8
+    requires room { 65536 ≤ vec_capacity room }
+    requires named { backing_path words.now ≡ Some path.now }
+    requires taken { IsTakenIn (text_limit (command_line_of words.now)) text_told text_faults text [] (Ok text) }
+    ensures served { ServesTextBy D.opened D.kept words.now text process.old process.new printer.old printer.new result }
+    ensures noted { process.new.words.texts ≡ process.old.words.texts }
+{
+    process.opened.note(path.as_bytes());
+    let device = process.inner.open(path);
+    if reads_first(words) {
+        return serve_copied(alloc, words, path, text, process, device, room, printer);
+    }
+    let file = Mirrored::over(device, room);
+    serve_mirrored(alloc, words, path, text, process, file, printer)
+}
+
+/// Serves words over a text in memory: over the file of their path, or over sectors in memory if they name none.
+fn serve_text<D: Devices + Drop, W: Write>(
+    alloc: Global,
+    words: &[&str],
+    text: Bytes,
+    process: &mut RecordedProcess<D>,
+    room: Vec<[u64; 30]>,
+    printer: &mut RecordedSink<W>,
+) -> ExitCode
+    requires room { 65536 ≤ vec_capacity room }
+    requires taken { IsTakenIn (text_limit (command_line_of words.now)) text_told text_faults text [] (Ok text) }
+    ensures served { ServesTextBy D.opened D.kept words.now text process.old process.new printer.old printer.new (exit_status result) }
+    ensures noted { process.new.words.texts ≡ process.old.words.texts }
+{
+    match backing_path(words) {
+        Some(path) => ExitCode::from(serve_file(
+            alloc, words, path, text, process, room, printer,
+        )),
+        None => match memory_backing(alloc) {
+            Ok(mut backing) => {
+                ExitCode::from(carry_out(alloc, words, text, printer, &mut backing))
+            }
+            Err(_) => ExitCode::from(refuse_memory(printer).status),
+        },
+    }
+}
+
+/// Reads the text of the words' command, and serves them over it, with room for the copy of a file.
+fn serve_read<D: Devices + Drop, R: Read, W: Write>(
+    alloc: Global,
+    words: &[&str],
+    process: &mut RecordedProcess<D>,
+    room: Vec<[u64; 30]>,
     input: &mut RecordedSource<R>,
     printer: &mut RecordedSink<W>,
 ) -> ExitCode
-    ensures served { IsTextServed words.now files.old files.new input.old input.new printer.old printer.new (exit_status result) }
+    requires { 65536 ≤ vec_capacity room }
+    ensures served { IsTextServedBy D.opened D.kept words.now process.old process.new input.old input.new printer.old printer.new (exit_status result) }
     ensures faithful { IsFaithful R.remaining input.old input.new printer.old printer.new }
+    ensures noted { process.new.words.texts ≡ process.old.words.texts }
 {
-    if files.prepare(reads_first(words)).is_err() {
-        return ExitCode::from(refuse_memory(printer).status);
-    }
     match take_text(alloc, text_limit(words), input) {
-        Ok(text) => {
-            let mut tape = FreeTape::new(text, PIECE);
-            serve(alloc, words, files, &mut tape, printer)
-        }
+        Ok(text) => serve_text(alloc, words, text, process, room, printer),
         Err(InputFault::SourceFault) => ExitCode::from(say_reading_fault(printer)),
         Err(InputFault::Memory) => ExitCode::from(refuse_memory(printer).status),
+    }
+}
+
+/// The same, once there is memory for that copy.
+fn serve_words<D: Devices + Drop, R: Read, W: Write>(
+    alloc: Global,
+    words: &[&str],
+    process: &mut RecordedProcess<D>,
+    input: &mut RecordedSource<R>,
+    printer: &mut RecordedSink<W>,
+) -> ExitCode
+    ensures served { IsTextServedBy D.opened D.kept words.now process.old process.new input.old input.new printer.old printer.new (exit_status result) }
+    ensures faithful { IsFaithful R.remaining input.old input.new printer.old printer.new }
+    ensures noted { process.new.words.texts ≡ process.old.words.texts }
+{
+    match Vec::with_capacity(alloc, SECTORS) {
+        Ok(room) => serve_read(alloc, words, process, room, input, printer),
+        Err(_) => ExitCode::from(refuse_memory(printer).status),
     }
 }
 
@@ -129,14 +234,14 @@ pub fn serve_recorded<D: Words + Devices + Drop, R: Read, W: Write>(
     printer: &mut RecordedSink<W>,
 ) -> ExitCode
     // The process's words were noted and served over the text that the input gave; or a read failed, or memory was refused.
-    ensures served { IsRecordServed D.given process.old.words.texts process.new.words.texts process.old.files process.new.files input.old input.new printer.old printer.new (exit_status result) }
+    ensures served { IsRecordServed D.given D.opened D.kept process.old process.new input.old input.new printer.old printer.new (exit_status result) }
 
     // The bytes that were noted are those that the writer took and that the reader gave, where these tell what they have.
     ensures faithful { IsFaithful R.remaining input.old input.new printer.old printer.new }
 {
-    match process.files.inner.words(alloc) {
+    match process.inner.words(alloc) {
         Ok(words) => match noted(alloc, &mut process.words, words.as_slice()) {
-            Ok(words) => serve_words(alloc, words.as_slice(), &mut process.files, input, printer),
+            Ok(words) => serve_words(alloc, words.as_slice(), process, input, printer),
             Err(_) => ExitCode::from(refuse_memory(printer).status),
         },
         Err(_) => ExitCode::from(refuse_memory(printer).status),

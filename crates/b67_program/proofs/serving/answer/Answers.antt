@@ -1,23 +1,17 @@
 use Rattle.std.proofs.Common.{Err, refl, subst}
 use Rattle.b67_program.specs.Input.{IsTakenIn}
 use Rattle.b67_program.specs.declared.reading.InputFault.{InputFault}
-use Rattle.b67_program.proofs.Answering.{unread_of, failed_of, outlasts, carried, failed, wanted, seven, not_seven}
+use Rattle.b67_program.proofs.Answering.{unread_of, failed_of, carried, failed, wanted, seven, not_seven}
 use Rattle.b67_program.proofs.serving.answer.Goals as goal
 
 pub returns-in-Ok-clause-answered : goal.returns-in-Ok-clause-answered
-returns-in-Ok-clause-answered g c =
-    carried c.text_limit.result c.in-Ok.bytes c.new-deck.result c.run-outcome.new.deck c.run-outcome.result.machine c.text_limit.ensures.limit c.in-Ok.ensures c.new-deck.ensures.left
-    (outlasts g.B.Backing.holds g.B.Backing.size g.B.Backing.calls g.B.Backing.faults c.args.backing.now c.run-outcome.new.backing c.run-outcome.ensures.device) c.run-outcome.ensures.opened c.image_is_typed.ensures
-    c.run-outcome.ensures.due c.run-outcome.ensures.status c.run-outcome.ensures.complete
+returns-in-Ok-clause-answered g c = carried c.text_limit.result c.in-Ok.bytes c.text_limit.ensures.limit c.in-Ok.ensures c.carry_out.ensures
 
 pub returns-in-Ok-clause-unread : goal.returns-in-Ok-clause-unread
 returns-in-Ok-clause-unread g c = λ e. unread_of _ _ _ _ _ _ c.text_limit.ensures.limit _ c.in-Ok.ensures e
 
 pub returns-in-Ok-clause-reading : goal.returns-in-Ok-clause-reading
-returns-in-Ok-clause-reading g c = λ e.
-    seven (carried c.text_limit.result c.in-Ok.bytes c.new-deck.result c.run-outcome.new.deck c.run-outcome.result.machine c.text_limit.ensures.limit c.in-Ok.ensures c.new-deck.ensures.left
-    (outlasts g.B.Backing.holds g.B.Backing.size g.B.Backing.calls g.B.Backing.faults c.args.backing.now c.run-outcome.new.backing c.run-outcome.ensures.device) c.run-outcome.ensures.opened c.image_is_typed.ensures
-    c.run-outcome.ensures.due c.run-outcome.ensures.status c.run-outcome.ensures.complete) e
+returns-in-Ok-clause-reading g c = λ e. seven (carried c.text_limit.result c.in-Ok.bytes c.text_limit.ensures.limit c.in-Ok.ensures c.carry_out.ensures) e
 
 pub returns-in-Err-SourceFault-clause-answered : goal.returns-in-Err-SourceFault-clause-answered
 returns-in-Err-SourceFault-clause-answered g c = failed c.text_limit.result c.text_limit.ensures.limit (subst (λ (f : InputFault). IsTakenIn c.text_limit.result g.S.Source.left g.S.Source.faults c.args.input.now c.take_in.new.input (Err f)) c.in-Err-SourceFault.field-0-is c.in-Err-SourceFault.ensures) refl c.say_reading_fault.ensures

@@ -5,10 +5,10 @@ use Rattle.b67_promises.proofs.shipped.program_twice.Goals as goal
 pub returns-clause-same : goal.returns-clause-same
 returns-clause-same g c = λ words words' text w w' is is' gave gave'.
     took_same c.args.printer.now c.serve_recorded-one.new.printer (exit_status c.serve_recorded-one.result) c.args.other_printer.now c.serve_recorded-other.new.printer (exit_status c.serve_recorded-other.result) text
-    (call_prints c.args.process.now.files c.serve_recorded-one.new.process.files c.args.input.now c.serve_recorded-one.new.input c.args.printer.now c.serve_recorded-one.new.printer (exit_status c.serve_recorded-one.result) text
-    g.D.Words.given c.args.process.now.words.texts c.serve_recorded-one.new.process.words.texts words w is gave c.serve_recorded-one.ensures.served)
-    (call_prints c.args.other_process.now.files c.serve_recorded-other.new.process.files c.args.other_input.now c.serve_recorded-other.new.input c.args.other_printer.now c.serve_recorded-other.new.printer (exit_status c.serve_recorded-other.result) text
-    g.E.Words.given c.args.other_process.now.words.texts c.serve_recorded-other.new.process.words.texts words' w' is' gave' c.serve_recorded-other.ensures.served)
+    (call_prints g.D.Devices.kept c.args.process.now c.serve_recorded-one.new.process c.args.input.now c.serve_recorded-one.new.input c.args.printer.now c.serve_recorded-one.new.printer (exit_status c.serve_recorded-one.result) text
+    g.D.Words.given g.D.Devices.opened words w is gave c.serve_recorded-one.ensures.served)
+    (call_prints g.E.Devices.kept c.args.other_process.now c.serve_recorded-other.new.process c.args.other_input.now c.serve_recorded-other.new.input c.args.other_printer.now c.serve_recorded-other.new.printer (exit_status c.serve_recorded-other.result) text
+    g.E.Words.given g.E.Devices.opened words' w' is' gave' c.serve_recorded-other.ensures.served)
 
 pub returns-clause-call : goal.returns-clause-call
 returns-clause-call g c = c.serve_recorded-one.ensures.served
