@@ -2,4 +2,4 @@ mod Taking
 mod Passing
 mod Copying
 mod Knowing
-mod Serving
+mod OverFiles

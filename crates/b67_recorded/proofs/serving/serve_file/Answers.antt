@@ -1,7 +1,7 @@
 use Rattle.std.proofs.Common.{rules, ◌≡◌, ◌++◌, [], ◌∷◌, sym, ◌∙◌}
 use Rattle.b67_job.specs.Command.{command_line_of}
 use Rattle.b67_recorded.specs.Files.{reads_sectors}
-use Rattle.b67_recorded.proofs.Serving.{over_mirror, over_copy}
+use Rattle.b67_recorded.proofs.OverFiles.{over_mirror, over_copy}
 use Rattle.b67_recorded.proofs.serving.serve_file.Goals as goal
 
 pub returns-then-reads_first-clause-served : goal.returns-then-reads_first-clause-served

@@ -4,7 +4,7 @@ use Rattle.b67_job.specs.Judgement.{text_limit}
 use Rattle.b67_recorded.specs.Given.{WasTextTaken}
 use Rattle.b67_recorded.specs.Recorded.{over_text, reading_failed, memory_wanted}
 use Rattle.b67_recorded.proofs.Passing.{took_noted}
-use Rattle.b67_recorded.proofs.Serving.{as_taken}
+use Rattle.b67_recorded.proofs.OverFiles.{as_taken}
 use Rattle.b67_recorded.proofs.Taking.{failed_of}
 use Rattle.b67_recorded.proofs.serving.serve_read.Goals as goal
 

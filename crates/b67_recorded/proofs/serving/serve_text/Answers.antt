@@ -3,7 +3,7 @@ use Rattle.b67_program.specs.Opening.{paths_of}
 use Rattle.b67_program.specs.Served.{over_memory, sectors_want_memory, carried_out}
 use Rattle.b67_recorded.specs.Files.{OpensNoted}
 use Rattle.b67_recorded.specs.Recorded.{is_served}
-use Rattle.b67_recorded.proofs.Serving.{opens_nothing}
+use Rattle.b67_recorded.proofs.OverFiles.{opens_nothing}
 use Rattle.b67_recorded.proofs.serving.serve_text.Goals as goal
 
 pub returns-in-Some-clause-served : goal.returns-in-Some-clause-served
