@@ -32,16 +32,18 @@ as_taken None before after failed failed' ended text t = (sym (same_Ok text [] t
 pub opens_nothing : {D : Type 0} (opened : D → Option (List (List ℕ))) (now : D) (noted : List (List ℕ)) → OpensNoted opened now now noted noted []
 opens_nothing opened now noted = record { notes = sym (append-nil noted); opens = record { told = λ before e. subst (λ (x : List (List ℕ)). opened now ≡ Some x) (sym (append-nil before)) e } }
 
+-- the path is that of the words
+opens_path : {D : Type 0} (opened : D → Option (List (List ℕ))) (words : List (Bor (List ℕ))) (path : List ℕ) (now later : D) (noted noted' : List (List ℕ)) → backing_path words ≡ Some path → OpensNoted opened now later noted noted' (path ∷ [])
+    → OpensNoted opened now later noted noted' (paths_of (backing_path words))
+opens_path opened words path now later noted noted' named opens = subst (λ (o : Option (List ℕ)). OpensNoted opened now later noted noted' (paths_of o)) (sym named) opens
+
 module _ {D F W : Type 0} {g : Ghosts F} {w : write.Ghosts W} (opened : D → Option (List (List ℕ))) (kept : D → List ℕ → Option (List (List ℕ))) (words : List (Bor (List ℕ))) (text path : List ℕ) (now later : D) (noted noted' : List (List ℕ))
     (old new : RecordedSink W w) (status : ℕ) (named : backing_path words ≡ Some path) (opens : OpensNoted opened now later noted noted' (path ∷ [])) (taken : IsTakenIn (text_limit (command_line_of words)) text_told text_faults text [] (Ok text))
     (device : F) (found : Finds kept g.holds now path device) where
-  opens_path : OpensNoted opened now later noted noted' (paths_of (backing_path words))
-  opens_path = subst (λ (o : Option (List ℕ)). OpensNoted opened now later noted noted' (paths_of o)) (sym named) opens
-
   pub over_mirror : (file : Mirrored F g) → IsMirrorOf g.holds g.size (reads_sectors (command_line_of words)) device file.inner file.held.items → file.faults ≡ 0 → RunsOverMirror kept words text path file later old new status
       → ServesText g opened kept words text now later noted noted' old new status
   over_mirror file mirrors calm r =
-      is_served opens_path (over_file path file r.file_after named (record { device = device; found = found; mirrors = mirrors; calm = calm }) r.left_so (carried_out (record { bytes = text; given = taken; over = r.over })))
+      is_served (opens_path opened words path now later noted noted' named opens) (over_file path file r.file_after named (record { device = device; found = found; mirrors = mirrors; calm = calm }) r.left_so (carried_out (record { bytes = text; given = taken; over = r.over })))
 
   pub over_copy : reads_sectors (command_line_of words) ≡ true → RunsOverCopy g kept words text path device later old new status → ServesText g opened kept words text now later noted noted' old new status
   over_copy first (is_copied file mirrors calm r) = over_mirror file (mirrors (reads_sectors (command_line_of words))) calm r

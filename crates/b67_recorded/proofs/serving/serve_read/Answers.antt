@@ -17,10 +17,10 @@ pub returns-in-Err-SourceFault-clause-served : goal.returns-in-Err-SourceFault-c
 returns-in-Err-SourceFault-clause-served g c =
     reading_failed c.take_text.ensures.gave.0 c.take_text.ensures.gave.1
     (failed_of c.args.input.now.given.bytes c.take_text.new.input.given.bytes c.args.input.now.faults c.take_text.new.input.faults c.take_text.new.input.ended c.text_limit.result _ c.in-Err-SourceFault.field-0-is c.in-Err-SourceFault.ensures.answer)
-    (record { notes = refl; same = refl }) (rw c.from-in-Err-SourceFault.ensures c.say_reading_fault.ensures)
+    (record { notes = refl; same = refl }) (rw c.from.ensures c.say_reading_fault.ensures)
 
-pub returns-in-Err-Memory-clause-served : goal.returns-in-Err-Memory-clause-served
-returns-in-Err-Memory-clause-served g c =
+pub returns-clause-served : goal.returns-clause-served
+returns-clause-served g c =
     memory_wanted c.take_text.ensures.gave.0 c.take_text.ensures.gave.1 (record { notes = refl; same = refl }) (rw c.from-in-Err-Memory.ensures c.refuse_memory.ensures.ends)
 
 pub returns-in-Ok-clause-faithful : goal.returns-in-Ok-clause-faithful
@@ -29,8 +29,8 @@ returns-in-Ok-clause-faithful g c = record { read = c.in-Ok.ensures.faithful; pr
 pub returns-in-Err-SourceFault-clause-faithful : goal.returns-in-Err-SourceFault-clause-faithful
 returns-in-Err-SourceFault-clause-faithful g c = record { read = c.take_text.ensures.faithful; printed = took_noted c.args.printer.now c.say_reading_fault.new.printer }
 
-pub returns-in-Err-Memory-clause-faithful : goal.returns-in-Err-Memory-clause-faithful
-returns-in-Err-Memory-clause-faithful g c = record { read = c.take_text.ensures.faithful; printed = took_noted c.args.printer.now c.refuse_memory.new.printer }
+pub returns-clause-faithful : goal.returns-clause-faithful
+returns-clause-faithful g c = record { read = c.take_text.ensures.faithful; printed = took_noted c.args.printer.now _ }
 
 pub serve_text-requires-clause-taken : goal.serve_text-requires-clause-taken
 serve_text-requires-clause-taken g c =
