@@ -22,7 +22,7 @@ BOUNDS = {
 
 # Optional fields that stand in a premise of their record and are tied by what another field's definition says of them.
 TIED = {
-    'IsCarriedOut machine': '`due` says of each answer whether there is a machine',
+    'CarriesOut machine': '`due` says of each answer whether there is a machine',
 }
 
 
