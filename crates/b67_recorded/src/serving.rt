@@ -22,9 +22,7 @@ use crate::sink::RecordedSink;
 use crate::source::RecordedSource;
 use b67_io::Sink;
 use b67_job::{CommandLine, backing_path, command_of, refuse_memory, say_reading_fault};
-use b67_program::{
-    Devices, InputFault, Words, carry_out, memory_backing, text_limit,
-};
+use b67_program::{Devices, InputFault, Words, carry_out, memory_backing, text_limit};
 use b67_session_lines::{line_of, say};
 use b67_word::Bytes;
 use std::alloc::{AllocError, Global};
@@ -170,9 +168,7 @@ fn serve_text<D: Devices + Drop, W: Write>(
     ensures noted { process.new.words.texts ≡ process.old.words.texts }
 {
     match backing_path(words) {
-        Some(path) => ExitCode::from(serve_file(
-            alloc, words, path, text, process, room, printer,
-        )),
+        Some(path) => ExitCode::from(serve_file(alloc, words, path, text, process, room, printer)),
         None => match memory_backing(alloc) {
             Ok(mut backing) => {
                 ExitCode::from(carry_out(alloc, words, text, printer, &mut backing))
