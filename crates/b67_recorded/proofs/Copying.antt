@@ -1,11 +1,9 @@
 -- One more sector is copied, and all of them.
-use Rattle.std.proofs.Common.{◌≡◌, ◌+◌, ◌-◌, ℕ, List, [], ◌∷◌, ◌++◌, length, take, arith, sym, subst, ◌∙◌, ap, Some, append-nil}
+use Rattle.std.proofs.Common.{◌≡◌, ◌+◌, ◌-◌, ℕ, List, [], ◌∷◌, ◌++◌, take, arith, sym, subst, ◌∙◌, ap, Some}
 use Rattle.std.specs.List.{slice_get}
 use Rattle.std.proofs.lemmas.List.{take_more}
 use Rattle.std.proofs.lemmas.Option.{slice_get_within, get_or_from_slice_get}
 use Rattle.b67_backing.specs.Device.{sector}
-use Rattle.b67_backing.specs.Held.{blank}
-use Rattle.b67_recorded.specs.Mirror.{mirrored}
 
 module _ (all held : List (List ℕ)) (k : ℕ) (numbers : List ℕ) where
   pub one_more : held ≡ take k all → sector all (k + 1) ≡ Some numbers → held ++ numbers ∷ [] ≡ take (k + 1) all

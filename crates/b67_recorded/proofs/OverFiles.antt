@@ -1,5 +1,5 @@
 -- How the parts of the program's call over ends that record fit.
-use Rattle.std.proofs.Common.{◌≡◌, ◌++◌, ℕ, List, [], ◌∷◌, append-nil, refl, sym, subst, ◌∙◌, Option, Some, None, Ok, true}
+use Rattle.std.proofs.Common.{◌≡◌, ℕ, List, [], ◌∷◌, append-nil, refl, sym, subst, ◌∙◌, Option, Some, None, Ok, true}
 use Rattle.std.proofs.lemmas.Option.{same_Some}
 use Rattle.std.specs.declared.io.Write as write
 use denote.Ref.{Bor}
@@ -8,7 +8,7 @@ use Rattle.b67_model_text.proofs.Contents.{same_Ok}
 use Rattle.b67_job.specs.Command.{command_line_of, backing_path}
 use Rattle.b67_job.specs.Judgement.{text_limit}
 use Rattle.b67_program.specs.Input.{IsTakenIn}
-use Rattle.b67_program.specs.Opening.{OpensPaths, Finds, paths_of}
+use Rattle.b67_program.specs.Opening.{Finds, paths_of}
 use Rattle.b67_program.specs.Served.{carried_out, over_file}
 use Rattle.b67_recorded.specs.Ends.{text_told, text_faults}
 use Rattle.b67_recorded.specs.Files.{reads_sectors, OpensNoted}

@@ -1,5 +1,5 @@
 -- What the program's call does with the file of its path.
-use Rattle.std.specs.Prelude.{◌≡◌, ◌≤◌, ◌++◌, ℕ, List, Option, Some, None, Bool, true, false}
+use Rattle.std.specs.Prelude.{◌≡◌, ◌≤◌, ◌++◌, ℕ, List, Option, Some, Bool, true, false}
 use Rattle.b67_io.specs.Causes.{Rose}
 use Rattle.b67_backing.specs.declared.device.Backing.{Ghosts}
 use Rattle.b67_job.specs.declared.command.CommandLine.{CommandLine}

@@ -1,4 +1,4 @@
-use Rattle.std.proofs.Common.{rules, ◌≡◌, ◌≤◌, ◌+◌, ◌++◌, [], ◌∷◌, Some, ◌∙◌}
+use Rattle.std.proofs.Common.{rules, ◌≡◌, ◌+◌, ◌++◌, [], ◌∷◌, Some, ◌∙◌}
 use Rattle.b67_backing.specs.Device.{Tells, sector}
 use Rattle.b67_recorded.proofs.Copying.{one_more}
 use Rattle.b67_recorded.proofs.mirror.Mirrored.copied.Goals as goal

@@ -1,4 +1,4 @@
-use Rattle.std.proofs.Common.{◌≡◌, ◌≤◌, ◌<◌, length, arith, replicate, zero}
+use Rattle.std.proofs.Common.{◌≤◌, ◌<◌, length, arith, replicate, zero}
 use Rattle.b67_recorded.specs.Mirror.{mirrored}
 use Rattle.b67_recorded.proofs.Knowing.{tested, tested_back, within, behind}
 use Rattle.b67_recorded.proofs.mirror.Mirrored.is_known.Goals as goal
