@@ -338,9 +338,9 @@ for name in refill house links sizes trust names heads premises signatures state
 done
 for words in --nonsense -h nothere folder -x --jobs '--into nothere/lines' '--into folder' '--jobs 0' 'nothing more'; do refused bash $tools/more-edits.sh $words; done
 done_with more-edits.sh
-for words in '' nothere 'nothere /tmp/none' 'binary ../files/out' 'folder /tmp/none' '../bin/b67 out' '../bin/b67 /dev/null/out' '--remove /dev/null/out' '--remove folder' --help; do refused sh $tools/install.sh $words; done
+for words in '' nothere "nothere $room/none" 'binary ../files/out' "folder $room/none" '../bin/b67 out' '../bin/b67 /dev/null/out' '--remove /dev/null/out' '--remove folder' --help; do refused sh $tools/install.sh $words; done
 done_with install.sh
-for words in '' nothere 'nothere /tmp/none.deb' 'binary ../files/out.deb' 'folder out.deb' '../bin/b67 out' '../bin/b67 nothere/out.deb' '../bin/b67 -out.deb' --help; do refused sh $tools/deb.sh $words; done
+for words in '' nothere "nothere $room/none.deb" 'binary ../files/out.deb' 'folder out.deb' '../bin/b67 out' '../bin/b67 nothere/out.deb' '../bin/b67 -out.deb' --help; do refused sh $tools/deb.sh $words; done
 done_with deb.sh
 # those of the page: what they refuse before they begin, since each takes minutes
 for name in web check-web check-page; do
