@@ -14,7 +14,8 @@ pub enum Kind {
     Code,
 }
 
-/// What is known of an area.
+/// What is known of an area: its words, the core address of its original or segment descriptor, and the first sector that is
+/// kept for it, 0 for none.
 #[derive(Clone, Copy, Debug, PartialEq, Eq)]
 pub struct Info {
     pub kind: Kind,

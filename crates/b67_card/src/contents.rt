@@ -1,4 +1,5 @@
-// What the cards of a deck add to its jobs.
+//! What the cards of a deck add to its jobs.
+
 ghost use Rattle.std.specs.Prelude.{◌≡◌, ℕ, List, [], ◌∷◌, ◌++◌, map, reverse, OnOk, IfOk, None};
 ghost use Rattle.b67_model_text.specs.declared.deck.Job as job;
 ghost use Rattle.b67_model_text.specs.declared.deck.Stand.TheVariants.{Front};

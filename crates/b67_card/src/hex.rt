@@ -1,4 +1,5 @@
-// Bytes as pairs of hexadecimal digits.
+//! Bytes as pairs of hexadecimal digits.
+
 ghost use Rattle.std.specs.Prelude.{◌≡◌, ◌≤◌, ◌++◌, ◌==◌, ◌&&◌, ◌%◌, OnOk, IfSome, is_some, unwrap_or, length};
 ghost use Rattle.std.specs.List.{list_all};
 ghost use Rattle.b67_model_text.specs.Hex.{hex_digit, digit_value, is_hex, digit_bytes};

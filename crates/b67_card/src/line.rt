@@ -1,4 +1,5 @@
-// The lines of a text.
+//! The lines of a text.
+
 ghost use Rattle.std.specs.Prelude.{◌≡◌, ◌==◌, ◌<◌, ◌≤◌, ◌+◌, ◌∷◌, length, position, count_by};
 ghost use Rattle.std.specs.Str.Lines.{lines, strip_carriage_return};
 ghost use Rattle.b67_model_text.specs.Cards.{trimmed};

@@ -1,4 +1,5 @@
-// Where the cards of a deck may stand.
+//! Where the cards of a deck may stand.
+
 ghost use Rattle.std.specs.Prelude.{◌≡◌, ◌-◌, slice_get, length, [], ℕ, List};
 ghost use Rattle.b67_model_text.specs.Command as card;
 ghost use Rattle.b67_model_text.specs.Placing.{is_above};

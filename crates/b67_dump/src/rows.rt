@@ -17,12 +17,12 @@ pub fn families_are_dumped()
     ensures { dump_text (shown eight) ≡ eight_dump }
 {}
 
-/// The same text, read off the machine.
+/// The dump of the halted machine, read off it.
 pub fn halted_machines_are_walked()
     ensures { walk_text halted ≡ halted_dump }
 {}
 
-/// The same text, read off the machine.
+/// The dump of two tasks, read off their machine.
 pub fn families_are_walked()
     ensures { walk_text eight ≡ eight_dump }
 {}

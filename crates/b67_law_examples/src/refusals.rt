@@ -27,7 +27,7 @@ pub fn branches_go_to_starts()
     ensures to_0_5 { refusals (branching 0 5) ≡ [] }
 {}
 
-/// And of the six places of the next word.
+/// Of the six places of the word after its own a branch is admitted exactly to the starts.
 pub fn branches_go_to_starts_of_the_next_word()
     ensures to_1_0 { refusals (branching 1 0) ≡ refused_at 0 5 3 }
     ensures to_1_1 { refusals (branching 1 1) ≡ refused_at 0 5 3 }
