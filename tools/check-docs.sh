@@ -4,7 +4,7 @@
 #
 #     bash tools/check-docs.sh PROGRAM [DOCUMENT..]
 #
-# In the pages at the top, in docs/ and teaching/, and in the README of bench, decks, reference, tools and web
+# In the pages at the top, in docs/ and teaching/, and in the README of bench, decks, reference, scripts, tools and web
 # - a block that begins with ```console holds commands after `$ ` and, after each, exactly what it prints;
 # - a block that begins with ```sh holds commands without their output: each must end with status 0;
 # - a block that begins with a `?` card is the deck of a folder of decks/, and a block of lines that begin with a
@@ -48,7 +48,7 @@ done
 export PATH="$room/bin:$PATH" HOME="$room/home"
 mkdir -p "$HOME"
 cd "$room/clone" || exit 2
-[ $# -gt 0 ] || set -- *.md docs/*.md bench/README.md decks/README.md reference/README.md tools/README.md web/README.md teaching/*.md teaching/*/*.md teaching/*/*/*.md
+[ $# -gt 0 ] || set -- *.md docs/*.md bench/README.md decks/README.md reference/README.md scripts/README.md tools/README.md web/README.md teaching/*.md teaching/*/*.md teaching/*/*/*.md
 if strace -o "$room/traced" true 2>/dev/null; then strace=1; else strace=; fi
 
 passed=0

@@ -1,7 +1,7 @@
 #!/usr/bin/env python3
 """usage: names.py [DOCUMENT..]
 
-Looks at what documents name: README, CONTRIBUTING and those of docs, bench, reference, tools and web, or the ones that are given. CHANGES
+Looks at what documents name: README, CONTRIBUTING and those of docs, bench, reference, scripts, tools and web, or the ones that are given. CHANGES
 tells of the past. A name in backquotes that stands with a crate or a file must be declared there: `NAME` of `CRATE`, `NAME`
 (`CRATE`), `NAME`, `CRATE`, `FILE`: `NAME`, and in a table the names behind a crate. A file behind a crate must be that crate's.
 Each other name with a low line must be declared somewhere. A drawing, a block of code that begins with ```calls, is held against
@@ -15,7 +15,7 @@ import sys
 import rattle_source
 
 TOP = rattle_source.TOP
-PAGES = ["README.md", "CONTRIBUTING.md", "docs/*.md", "bench/README.md", "reference/README.md", "tools/README.md", "web/README.md"]
+PAGES = ["README.md", "CONTRIBUTING.md", "docs/*.md", "bench/README.md", "reference/README.md", "scripts/README.md", "tools/README.md", "web/README.md"]
 QUOTED = r"`([^`]+)`"
 NAME = r"[A-Za-z_]\w*(?:::\w+)*(?:-\w+)*"
 IS_FILE = re.compile(r"(?:[\w./]*/)?[\w-]+\.(?:rt|antt)$|(?:src|specs|proofs)/\w+$")

@@ -62,7 +62,7 @@ mapfile -t files < <(git ls-files README.md CHANGES.md CITATION.cff CONTRIBUTING
     crates/b67/src/main.rt crates/b67_promises/src/lib.rt crates/b67_promises/src/shipped.rt crates/b67_recorded/src)
 put "${files[@]}"
 # the page stands at the top, where a pupil finds it
-moved='s:`web/b67\.html`:`b67.html`:; s:node web/b67\.mjs:node b67.mjs:'
+moved='s:`web/b67\.html`:`b67.html`:; s:node web/b67\.mjs:node b67.mjs:g; s:run\.sh web/b67\.mjs:run.sh ./b67.mjs:'
 sed -i "$moved" "$out/README.md" "$out/web/README.md"
 # what teachers alone get is named there, and no link leads to it
 find "$out" -name '*.md' -exec sed -i -E 's:\[([^]]*)\]\(([./]*teaching/README|([./]*teaching/|\.\./)(TEACHING|SOLUTIONS|KEYS|EXAM|EXAM-ANSWERS))\.md[^)]*\):\1:g' {} +
