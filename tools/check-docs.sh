@@ -17,7 +17,8 @@
 # - the table of decks must name each folder of decks/, that of crates be what tools/heads.py makes, some page name each script;
 # - the manual pages, README.md and CHANGES.md must be of the version and date that CITATION.cff has; b67.1 must name each status's line,
 #   and its examples must end with status 0 and print something;
-# - the minutes of the gate in README.md and docs/PAPER.md must be those of the table in docs/CHANGING.md, to a tenth;
+# - the CPU minutes of the gate in README.md, docs/CHANGING.md and docs/PAPER.md must be those of docs/minutes.txt, to a tenth, which must
+#   have a line for each crate;
 # - each number of lines in README.md and docs/PAPER.md must be one that tools/trust.py or tools/sizes.py prints;
 # - docs/TRUST.md must name each public function of b67_promises, docs/TESTED.md the number of rows, README.md that of decks,
 #   docs/ARCHITECTURE.md that of crates.
@@ -149,13 +150,14 @@ for page in docs/b67.1 docs/*.5; do
     head -1 "$page" | grep -qF "\"$date\" \"b67 $version\"" || wrong "$page: its head isn't of b67 $version, $date"
 done
 if grep -qF "This is version $version " README.md && grep -q "^## $version, $date" CHANGES.md; then passed=$((passed + 1)); else wrong "README.md or CHANGES.md isn't of $version, $date"; fi
-minutes=$(awk -F'|' '/^\| \*\*all\*\*/ { print $3 + $4 + $5 }' docs/CHANGING.md)
-for page in README.md docs/PAPER.md; do
-    said=$(grep -oE 'some [0-9]+ minutes of a processor' $page | head -1 | cut -d' ' -f2)
+minutes=$(awk '$1 == "all" { print $2 + $3 + $4 }' docs/minutes.txt)
+for page in README.md docs/CHANGING.md docs/PAPER.md; do
+    said=$(grep -oE '(some|about) [0-9]+ (minutes of a processor|minutes of CPU time|CPU minutes)' $page | head -1 | cut -d' ' -f2)
     if [ $((${said:-0} * 10)) -ge $((minutes * 9)) ] && [ $((${said:-0} * 10)) -le $((minutes * 11)) ]; then passed=$((passed + 1)); else
-        wrong "$page: the gate takes ${said:-no} minutes, and $minutes by docs/CHANGING.md"
+        wrong "$page: the gate takes ${said:-no} minutes, and $minutes by docs/minutes.txt"
     fi
 done
+if [ "$(LC_ALL=C ls crates)" = "$(sed -n 's/^\(b67[a-z0-9_]*\) .*/\1/p' docs/minutes.txt | LC_ALL=C sort)" ]; then passed=$((passed + 1)); else wrong 'the crates of docs/minutes.txt'; fi
 for page in README.md CONTRIBUTING.md docs/CHANGING.md docs/PAPER.md tools/before-landing.sh; do
     if grep -qE 'one (to|or) two hours' $page; then passed=$((passed + 1)); else wrong "$page: the gate takes one to two hours"; fi
 done

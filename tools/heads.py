@@ -2,9 +2,9 @@
 """usage: heads.py [--check]
 
 Makes the table of crates in docs/ARCHITECTURE.md again, from what each crate says of itself at the head of its src/lib.rt, or of
-src/main.rt: what it promises and to whom, then, in a paragraph of its own, where to begin. Lists in a head stay out of the table.
-The rows and their order are those of the page. With --check nothing is written: it tells which rows are old, which crates have
-no row or no head, and ends with status 1 if there are any.
+src/main.rt: the first sentence, or enough of it to say what the crate is, and the first thing that the paragraph `Begin with`
+names. The rest of a head is for whoever opens the crate. The rows and their order are those of the page. With --check nothing is
+written: it tells which rows are old, which crates have no row or no head, and ends with status 1 if there are any.
 """
 import glob
 import os
@@ -19,13 +19,25 @@ ROW = re.compile(r"\| `(b67\w*)` \|")
 BEGIN = "Begin with "
 
 
+def first_sentence(text):
+    """The first sentence, up to a colon or semicolon if eight words before it already say what a crate is."""
+    sentence = re.split(r"(?<=\.) (?=[A-Z`])", text)[0]
+    short = re.match(r"(?:\S+ ){7,}?\S*[^\s:;](?=[:;] )", sentence)
+    return short.group() + "." if short else sentence
+
+
+def first_thing(text):
+    """A list of things up to its first comma, colon or semicolon outside brackets."""
+    return re.match(r"(?:\([^()]*\)|`[^`]*`|[^,:;(`])*", text).group().strip().rstrip(".")
+
+
 def head(crate):
-    """What a crate says of itself, and where to begin: None if it says nothing."""
+    """What a crate is, and where to begin: None if it says nothing."""
     said = rattle_source.said(rattle_source.read(rattle_source.root(crate)))
     parts = [part.strip() for part in re.split(r"\n\s*\n", "\n".join(said)) if part.strip()]
     parts = [re.sub(r"\[(`[^`]*`)\]", r"\1", " ".join(part.split())) for part in parts if not part.startswith("- ")]
     begin = [part[len(BEGIN):] for part in parts if part.startswith(BEGIN)]
-    return (" ".join(part for part in parts if not part.startswith(BEGIN)), " ".join(begin)) if parts else None
+    return (first_sentence(parts[0]), first_thing(" ".join(begin))) if parts else None
 
 
 def row(crate, cells):

@@ -1,12 +1,12 @@
 #!/usr/bin/env python3
 """usage: minutes.py [CRATE..]
 
-Prints what the gate costs from nothing: for each crate the minutes of one processor that its check, its tests and its edits take, as
-the rows of a table, then the sum of each, what the system counted for all processes, and how long it took by the clock. It calls
-`rt ci --anew` at the top, over all or over these crates and those below them, and a third of a second at a time reads what each
-process below it has used so far; so it misses some tenths of a second of each, and the system's count is the higher one. That has
-besides the compilers of programs, the runs of programs and tests, and rt itself. Call it in a clone of its own with nothing beside
-it, for half an hour on four processors. What the gate prints goes to the standard error, and a gate that fails is the status.
+Prints what the gate costs from nothing, as docs/minutes.txt: the CPU minutes of each crate's check, tests and mutants, the sum of
+each, what the system counted for all processes, and the wall time. It calls `rt ci --anew` at the top, over all crates or over these
+and those below them, and three times a second reads what each process below it has used so far; so it misses some tenths of a second
+of each, and the system's count is higher. That count also has the compilers of programs, the runs of programs and tests, and rt
+itself. Call it in a clone of its own with nothing else running: half an hour on four processors. What the gate prints goes to
+standard error, and a gate that fails is the status.
 """
 import collections
 import os
@@ -62,6 +62,10 @@ def look(gate, works, ticks):
         ticks[key] = status[2]
 
 
+def show(name, cells):
+    print(f"{name:18}" + "".join(f"{it:>7}" for it in cells))
+
+
 def main():
     if any(it.startswith("-") or not os.path.isdir(f"{TOP}/crates/{it}") for it in sys.argv[1:]):
         sys.exit(__doc__.splitlines()[0])
@@ -75,13 +79,15 @@ def main():
     for key, work in works.items():
         if work:
             minutes[work] += ticks[key] / TICKS / 60
-    shown = lambda it: f"{it:.1f}" if it else ""
+    day, kit = time.strftime("%Y-%m-%d", time.gmtime()), subprocess.run(["rt", "version"], capture_output=True, text=True).stdout.split()
+    print(f"# CPU minutes of the gate from nothing, by tools/minutes.py; {day}, {kit[0] if kit else 'rt'}, {os.cpu_count()} processors")
+    show("crate", KINDS)
     for crate in sorted({crate for crate, _ in minutes}):
-        print(f"| `{crate}` | {' | '.join(shown(minutes[crate, kind]) for kind in KINDS)} |")
+        show(crate, [f"{minutes[crate, kind]:.1f}" if minutes[crate, kind] else "-" for kind in KINDS])
     sums = [sum(it for (_, at), it in minutes.items() if at == kind) for kind in KINDS]
-    print(f"| **all** | {' | '.join(f'{it:.0f}' for it in sums)} |")
+    show("all", [f"{it:.0f}" for it in sums])
     used = resource.getrusage(resource.RUSAGE_CHILDREN)
-    print(f"in all {sum(sums):.1f}, by the system {(used.ru_utime + used.ru_stime) / 60:.1f}, by the clock {clock:.1f}")
+    print(f"# in all {sum(sums):.1f}, with compilers, programs and rt {(used.ru_utime + used.ru_stime) / 60:.1f}, of wall time {clock:.1f}")
     sys.exit(gate.returncode)
 
 
