@@ -11,7 +11,7 @@ import subprocess
 import sys
 
 TOP = os.path.normpath(os.path.join(os.path.dirname(os.path.abspath(__file__)), ".."))
-BLOCK = re.compile(r"(```console\n\$ (python3 tools/(?:trust|sizes|premises|statement)\.py[^\n]*)\n).*?\n```", re.S)
+BLOCK = re.compile(r"(```console\n\$ (python3 tools/(?:trust|sizes|premises|statement|plants)\.py[^\n]*)\n)(?:(?!```)[^\n]*\n)*```")
 
 
 def printed(found):
