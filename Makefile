@@ -12,7 +12,7 @@ CORE = 4096
 ARCHIVE = out/b67-$(shell sed -n 's/^version: //p' CITATION.cff).tar.gz
 PARTS = bash tools/before-landing.sh
 TESTS = decks rows algol tracer modules scripts
-LINTS = python shell manual house signatures premises links names made mends
+LINTS = python shell manual house signatures premises claims links names made mends
 
 .PHONY: help try build prove gate test page page-test lint fill release install uninstall land
 

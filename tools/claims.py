@@ -250,7 +250,8 @@ def flaws_of_page(path, text):
                 yield f"{path}: a table lists most scripts of {folder}, but not {', '.join(sorted(missing))}"
 
 
-def flaws(texts):
+def flaws(texts, changed=None):
+    """What is wrong with the pages, or only what may be if one of them has changed."""
     yield from flaws_of_listings(texts[PAPER])
     yield from flaws_of_promises(texts[PROVED])
     main = re.search(r"\*\*The main theorem\*\*, `(\w+)`", texts[PAPER])
@@ -260,7 +261,8 @@ def flaws(texts):
         yield from flaws_of_statuses(path, texts[path])
     yield from flaws_of_counts(texts)
     for path, text in texts.items():
-        yield from flaws_of_page(path, text)
+        if changed in (None, path):
+            yield from flaws_of_page(path, text)
 
 
 # ---- planted errors
@@ -308,7 +310,7 @@ def planted(texts):
     missed = 0
     for what, path, old, new, wanted in ERRORS:
         changed, count = re.subn(old, new, texts[path], count=0 if wanted != "old block" else 1)
-        found = flaws_of_blocks(path, changed) if wanted == "old block" else list(flaws({**texts, path: changed}))
+        found = flaws_of_blocks(path, changed) if wanted == "old block" else list(flaws({**texts, path: changed}, path))
         if not count or not any(wanted in it for it in found):
             missed += 1
             print(f"{what}: the text stands {count} times, and {wanted!r} isn't said, but", *found, sep="\n    ", flush=True)
