@@ -40,7 +40,7 @@ FUNCTIONS = [
 MAIN = {name.partition("::")[2]: [clause] for name, clause in FUNCTIONS}
 
 
-SIGNS = ["→", "×", "⊎", "≡", "≢", "∷", "++", "λ"]
+SIGNS = ["→", "×", "⊎", "≡", "≢", "∷", "++"]
 
 
 class Wrong(Exception):
