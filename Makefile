@@ -12,7 +12,7 @@ CORE = 4096
 ARCHIVE = out/b67-$(shell sed -n 's/^version: //p' CITATION.cff).tar.gz
 PARTS = bash tools/before-landing.sh
 TESTS = decks rows algol tracer modules scripts
-LINTS = python shell manual house signatures premises links names made mends
+LINTS = python shell manual house signatures premises claims links names made mends
 
 .PHONY: help try build prove gate test page page-test lint fill release install uninstall land
 
@@ -47,8 +47,9 @@ page-test: $(PROGRAM) ## compares the page with the program, in node and in Chro
 lint: ## pyflakes3, shellcheck, mandoc; names, links, signatures, bounds; what is made and is old
 	$(PARTS) $(LINTS:%=--only %)
 
-fill: ## makes what is made: the table of crates, blocks of TRUST and PAPER, the statement, the page's texts
+fill: ## makes what is made: the table of crates, blocks of PROVED and PAPER, the premises, the statement, the page's texts
 	python3 tools/heads.py
+	python3 tools/premises.py --fill
 	python3 tools/refill.py
 	python3 tools/statement.py
 	python3 web/build/join.py web/b67.html web/b67.html

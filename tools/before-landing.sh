@@ -11,7 +11,7 @@
 # changed. Of a part that failed the last thirty lines are shown.
 [ -n "${BASH_VERSION:-}" ] || { echo "usage: bash tools/before-landing.sh --list, or PROGRAM" >&2; exit 2; }
 set -u
-parts='gate rows decks algol tracer modules scripts documents python shell manual house signatures premises links names made page browser release edits mends'
+parts='gate rows decks algol tracer modules scripts documents python shell manual house signatures premises claims links names made page browser release edits mends'
 with_program=' decks algol modules scripts documents page browser release '
 usage() {
     printf '%s\nusage: bash tools/before-landing.sh [--skip PART].. [--only PART].. [--since COMMIT] [PROGRAM]\nparts: %s\n' "$1" "$parts" >&2
@@ -28,9 +28,10 @@ means() {
     house) echo 'tools/house.py: no count above its bound' ;;
     signatures) echo 'the public calls against their list' ;;
     premises) echo 'what meets the premises of each theorem' ;;
+    claims) echo 'whether the listings of PAPER stand in the sources, and what PROVED and PAPER say that a script can see' ;;
     links) echo 'each link and path of the documents' ;;
     names) echo 'what pages say of functions, calls and crates is in the code' ;;
-    made) echo 'the statement, the blocks of TRUST and PAPER, the table of crates, the page: none is older than its sources' ;;
+    made) echo 'the statement, the blocks of PROVED and PAPER, the table of crates, the page: none is older than its sources' ;;
     python) echo 'pyflakes3 finds nothing' ;;
     shell) echo 'shellcheck has no warning' ;;
     manual) echo 'mandoc -Tlint has no warning of the manual pages' ;;
@@ -103,6 +104,7 @@ tracer() { sh tools/check-trace.sh; }
 house() { python3 tools/house.py; }
 signatures() { python3 tools/signatures.py; }
 premises() { python3 tools/premises.py && python3 tools/check-premises.py; }
+claims() { python3 tools/claims.py --planted; }
 links() { python3 tools/links.py; }
 names() { python3 tools/names.py; }
 modules() { B67=$program node --test --test-reporter=tap web/tests/*.test.js >"$room/tests" || { cat "$room/tests" && return 1; } && sed -n 's/^# pass /modules: tests passed: /p' "$room/tests"; }

@@ -19,8 +19,8 @@
 #   and its examples must end with status 0 and print something;
 # - the CPU minutes of the gate in README.md, docs/CHANGING.md and docs/PAPER.md must be those of docs/minutes.txt, to a tenth, which must
 #   have a line for each crate;
-# - each number of lines in README.md and docs/PAPER.md must be one that tools/trust.py or tools/sizes.py prints;
-# - docs/TRUST.md must name each public function of b67_promises, docs/TESTED.md the number of rows, README.md that of decks,
+# - each number of lines in README.md, docs/PROVED.md and docs/PAPER.md must be one that tools/trust.py or tools/sizes.py prints;
+# - docs/PROVED.md must name each public function of b67_promises, docs/TESTED.md the number of rows, README.md that of decks,
 #   docs/ARCHITECTURE.md that of crates.
 set -u
 usage() {
@@ -130,14 +130,14 @@ missing=$(for script in scripts/*.sh tools/*.sh tools/*.py; do grep -qF "$(basen
 if [ -z "$missing" ]; then passed=$((passed + 1)); else wrong "scripts that no page names: $(echo $missing)"; fi
 python3 tools/trust.py >"$room/sizes"
 python3 tools/sizes.py >>"$room/sizes"
-missing=$(grep -ohE '[0-9][0-9,]* lines' README.md docs/PAPER.md | sed 's/ lines//; s/,//g' | sort -u | while read -r number; do
+missing=$(grep -ohE '[0-9][0-9,]* lines' README.md docs/PROVED.md docs/PAPER.md | sed 's/ lines//; s/,//g' | sort -u | while read -r number; do
     grep -qw "$number" "$room/sizes" || echo "$number"
 done)
 if [ -z "$missing" ]; then passed=$((passed + 1)); else wrong "numbers of lines that no script prints: $(echo $missing)"; fi
 missing=$(tr '\n' ' ' <crates/b67_promises/src/lib.rt | grep -oE 'pub use [^;]*;' | sed 's/.*:://' | grep -oE '\b[a-z_]+\b' | while read -r name; do
-    grep -qE "::$name( |\$)" "$room/sizes" && grep -qF "\`$name\`" docs/TRUST.md || echo "$name"
+    grep -qE "::$name( |\$)" "$room/sizes" && grep -qF "\`$name\`" docs/PROVED.md || echo "$name"
 done)
-if [ -z "$missing" ]; then passed=$((passed + 1)); else wrong "theorems that docs/TRUST.md or tools/trust.py leaves out: $(echo $missing)"; fi
+if [ -z "$missing" ]; then passed=$((passed + 1)); else wrong "theorems that docs/PROVED.md or tools/trust.py leaves out: $(echo $missing)"; fi
 rows=$(tail -1 crates/b67_rows/stdout | cut -d' ' -f1)
 if grep -qF "$rows rows" docs/TESTED.md; then passed=$((passed + 1)); else wrong "docs/TESTED.md: there are $rows rows"; fi
 crates=$(ls -d crates/*/ | wc -l)

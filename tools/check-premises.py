@@ -1,8 +1,8 @@
 #!/usr/bin/env python3
 """usage: check-premises.py
 
-Whether premises.py finds what is wrong with the table of premises of docs/TRUST.md. Errors are put into a copy of the code and of the
-table, one at a time; of each premises.py must say what is wrong. Without one it must find nothing.
+Whether premises.py finds what is wrong with docs/premises.txt. Errors are put into a copy of the code and of that
+list, one at a time; of each premises.py must say what is wrong. Without one it must find nothing.
 """
 import os
 import re
@@ -14,37 +14,39 @@ sys.dont_write_bytecode = True
 import premises  # noqa: E402
 
 TOP = os.path.realpath(os.path.join(os.path.dirname(os.path.abspath(__file__)), ".."))
-TRUST = "docs/TRUST.md"
+LIST = "docs/premises.txt"
 TESTS, SHELF = "crates/b67_promises/src/tests.rt", "crates/b67_promises/src/shelf_rows.rt"
 
 # What each error is, the file, a text that stands there once, the text in its place, and what is to be said of it.
 ERRORS = [
-    ("a row is removed", TRUST, r"(?m)^\| `run_one_session` \|.*\n", "", "run_one_session decks: no row"),
+    ("a row is removed", LIST, r"(?m)^run_one_session decks\n( .*\n)*", "", "run_one_session decks: no row"),
     ("a test has another name", TESTS, r"fn sum_is_described\(", "fn sum_described(", "there is no test sum_is_described"),
     ("the call has another name", TESTS, r"=> run_one_session\(", "=> run_two_sessions(", "sum_as_cards_and_as_a_codefile doesn't call it"),
-    ("a test of the same file that doesn't call it", TRUST, r"test `goes_on_from_an_image`, 3, 0", "test `serves_a_process`, 0", "serves_a_process doesn't call it"),
+    ("a test of the same file that doesn't call it", LIST, r"test `goes_on_from_an_image`, 3, 0", "test `serves_a_process`, 0", "serves_a_process doesn't call it"),
     ("a test's body is empty", SHELF, r"(?s)(fn goes_on_from_an_image\(rt: HostRuntime\) \{\n).*?\n\}\n", r"\1}\n", "goes_on_from_an_image doesn't call it"),
     ("a test wants another status", SHELF, r"codes\.0, ExitCode::from\(3\)", "codes.0, ExitCode::from(2)", "doesn't want 3, 0"),
-    ("theorems that are met through one another", TRUST, r"test `sum_behind_another_job`, 0, 0", "through `run_apart`", "no test or program meets it"),
-    ("a theorem that has nothing to do with it", TRUST, r"test `sum_behind_another_job`, 0, 0", "through `run_described`", "run_described doesn't call it"),
+    ("theorems that are met through one another", LIST, r"test `sum_behind_another_job`, 0, 0", "through `run_apart`", "no test or program meets it"),
+    ("a theorem that has nothing to do with it", LIST, r"test `sum_behind_another_job`, 0, 0", "through `run_described`", "run_described doesn't call it"),
     ("the call is a comment", SHELF, r"\n    serve_halted_then_resumed\(", "\n    // serve_halted_then_resumed(", "goes_on_from_an_image doesn't call it"),
     ("a contract is lost", "crates/b67_promises/src/jobs.rt", r"    ensures jobs \{.*\n.*\n.*\n", "", "it has no clause jobs"),
     ("a clause has no row", "crates/b67_promises/src/shelves.rt", r"    ensures decks \{", "    ensures more { 0 ≡ 1 → 0 ≡ 2 }\n    ensures decks {", "serve_on_shelves more: no row"),
-    ("a test that chooses another theorem", TRUST, r"test `sum_behind_another_job`, 0, 0", "test `sum_in_two_cores`, 0, 0", "sum_in_two_cores doesn't call it"),
-    ("a row wants another status", TRUST, r"`sum_is_described`, 0:", "`sum_is_described`, 3:", "sum_is_described doesn't want 3"),
+    ("a test that chooses another theorem", LIST, r"test `sum_behind_another_job`, 0, 0", "test `sum_in_two_cores`, 0, 0", "sum_in_two_cores doesn't call it"),
+    ("a row wants another status", LIST, r"(run_described ends\n    met by: test `sum_is_described`), 0:", r"\1, 3:", "sum_is_described doesn't want 3"),
     ("the call stands in a text", SHELF, r"(?s)\n    serve_on_shelf\(alloc.*?paper\)\n", '\n    unknown("serve_on_shelf(alloc)")\n', "serves_on_a_shelf doesn't call it"),
-    ("a program that doesn't call it", TRUST, r"program `b67_rows`", "program `b67`", "the program b67 doesn't call it"),
-    ("a law that states something else", TRUST, r"`IsDescribed`, which", "`NeverTwoReady`, which", "the row doesn't name what the law states"),
-    ("a theorem that doesn't state what the law does", TRUST, r"through `run_under_switches`: `NeverTwoReady`", "through `run_twice`: `NeverTwoReady`", "run_twice doesn't state NeverTwoReady"),
-    ("a theorem with premises is said to have none", TRUST, r"test `sum_is_described`, 0: memory tells", "it has no premise", "run_described ends: it has premises"),
-    ("nothing is said", TRUST, r"test `sum_is_described`, 0: memory tells", "memory tells", "nothing is said to meet it"),
+    ("a program that doesn't call it", LIST, r"(serve unread\n    met by: )program `b67_rows`", r"\1program `b67`", "the program b67 doesn't call it"),
+    ("a law that states something else", LIST, r"`IsDescribed`, which", "`NeverTwoReady`, which", "the row doesn't name what the law states"),
+    ("a theorem that doesn't state what the law does", LIST, r"(runs_need_two\n    met by: )through `run_under_switches`: `NeverTwoReady`", r"\1through `run_twice`: `NeverTwoReady`", "run_twice doesn't state NeverTwoReady"),
+    ("a theorem with premises is said to have none", LIST, r"(run_described ends\n    met by: )test `sum_is_described`, 0: memory is observable", r"\1it has no premise", "run_described ends: it has premises"),
+    ("nothing is said", LIST, r"(run_described ends\n    met by: )test `sum_is_described`, 0: memory is observable", r"\1memory is observable", "nothing is said to meet it"),
+    ("a premise is left out", LIST, r"(run_twice decks\n.*\n.*\n)    if AsksForRun other_words.now\n", r"\1", "run_twice decks: other premises than those of the sources"),
+    ("a clause asks for less", "crates/b67_promises/src/paging.rt", r"(ensures more_core \{.*) → core ≤ more", r"\1", "run_twice more_core: other premises"),
     ("no test of that name calls it, but a function does", TESTS, r"#\[test\]\nfn sum_is_described", "fn sum_is_described", "there is no test sum_is_described"),
 ]
 
 
 def copied(room):
     """The code, its definitions, the table and the scripts."""
-    for part in ("tools", TRUST, "crates.txt"):
+    for part in ("tools", LIST, "crates.txt"):
         (shutil.copytree if os.path.isdir(f"{TOP}/{part}") else copy_file)(f"{TOP}/{part}", f"{room}/{part}")
     for crate in os.listdir(f"{TOP}/crates"):
         for part in ("src", "specs"):

@@ -1,18 +1,22 @@
 #!/usr/bin/env python3
-"""usage: premises.py [TOP]
+"""usage: premises.py [--fill|TOP]
+       premises.py --of FUNCTION CLAUSE..
 
-A clause whose premises nothing meets says nothing. docs/TRUST.md has a table of the clauses with premises of the theorems of
-b67_promises and b67_program, and of what meets the premises of each: a test, with the statuses that it wants; a program; another
+A clause whose premises nothing meets says nothing. docs/premises.txt has an entry for each clause with premises of the theorems of
+b67_promises and b67_program, and for each law. Its premises, lines that begin with `requires`, `if`, `says` or `states`, are made from the
+sources by --fill. What meets them stands in the line `met by` by hand: a test, with the statuses that it wants; a program; another
 theorem, through which they are met; or nothing yet, with the reason. This checks that
 
-- each such clause of each function that those crates make public has its row, and each law, which has no clause;
+- each such clause of each function that those crates make public has its entry, and each law, which has no clause, and that the premises
+  there are those of the sources;
 - a test's body calls the theorem, itself or by a function of its file, in an arm of a choice that its body names; comments and texts
-  are no calls. The statuses of the row are those that the test wants;
+  are no calls. The statuses of the entry are those that the test wants;
 - a program's body calls it, or what it calls does;
-- a theorem through which a clause is met calls the other one, or, where that is a law, states what the row names, as the law does; and following these
+- a theorem through which a clause is met calls the other one, or, where that is a law, states what the entry names, as the law does; and following these
   one comes to a test or a program.
 
-Prints what is wrong, and of how many clauses the premises are met. Ends with status 1 if something is wrong. TOP is a repository.
+Prints what is wrong, and of how many clauses the premises are met. Ends with status 1 if something is wrong. TOP is a repository. With --of
+it prints the premises of clauses, for pages; FUNCTION is CRATE::NAME. Whether a page's own words for a premise are right no script can say.
 """
 import functools
 import os
@@ -22,11 +26,11 @@ import sys
 import trust
 
 HERE = os.path.dirname(os.path.abspath(__file__))
-TABLE = "docs/TRUST.md"
-HEAD = "| theorem | clause | what meets its premises |"
+TABLE = "docs/premises.txt"
 CRATES = ("b67_promises", "b67_program")
 TESTS = ("b67_promises", "b67_surface")
 FUNCTION = re.compile(r"^( *)(?:pub(?:\([^)]*\))? )?(?:const )?fn (\w+)", re.M)
+VALUES = ("ℕ", "List", "Option", "Exercise", "Prepared", "Bool")
 ARM = re.compile(r"^( *)([A-Z]\w*::[A-Z]\w*)(?: \{[^}]*\}|\([^)]*\))? =>", re.M)
 
 
@@ -48,10 +52,51 @@ class Function:
         self.is_test = text[: head.start()].rstrip().endswith("#[test]") or re.search(r"#\[test\]\s*(?:///[^\n]*\s*)*\Z", text[: head.start()]) is not None
         self.is_law = bool(re.match(r"pub fn \w+\(\)", whole))
 
+    def parts(self, word):
+        """What the function requires, or ensures: names and texts, each in one line."""
+        found = re.findall(rf"^ +{word}\*? ?(\w*) ?\{{(.*?)\}}(?=\s*(?:\Z|\n\s*(?:ensures|requires|//|\{{)))", self.contract, re.S | re.M)
+        return [(name, " ".join(text.split())) for name, text in found]
+
     def clauses(self):
         """The names of the clauses with premises; of a law the empty name."""
-        found = re.findall(r"^ +ensures\*? ?(\w*) ?\{(.*?)\}(?=\s*(?:\Z|\n\s*(?:ensures|requires|//|\{)))", self.contract, re.S | re.M)
+        found = self.parts("ensures")
         return [""] if self.is_law and found else [name for name, text in found if "→" in text]
+
+    def premises(self, clause):
+        """What a clause asks for, a line each: what the function requires, and what stands before its arrows; or the whole clause, if its arrows stand within it."""
+        text = dict(self.parts("ensures"))[clause]
+        if self.is_law:
+            return [f"states {text}"]
+        lines = [f"requires {asked}" for _, asked in self.parts("requires")]
+        within = re.fullmatch(r"IfOk result \(λ (\w+)\. (.*)\)", text)
+        asked = split(within.group(2) if within else text)[:-1]
+        if not asked:
+            return [*lines, f"says {text}"]
+        lines += [f"if result ≡ Ok {within.group(1)}"] if within else []
+        return lines + [f"if {it}" for it in map(premise, asked) if it]
+
+
+def split(text):
+    """What stands between the arrows of a text that stand in no brackets."""
+    found, depth = [""], 0
+    for sign in text:
+        depth += (sign in "({[") - (sign in ")}]")
+        if sign == "→" and depth == 0:
+            found.append("")
+        else:
+            found[-1] += sign
+    return [it.strip() for it in found]
+
+
+def premise(part):
+    """A part before an arrow as a premise; empty if it only names values."""
+    while True:
+        binder = re.match(r"\(([^():]+) : ((?:[^()]|\([^()]*(?:\([^()]*\)[^()]*)*\))*)\) ?", part)
+        if not binder:
+            return part
+        kind, part = binder.group(2), part[binder.end() :]
+        if kind.split()[0] not in VALUES:
+            return kind
 
 
 def read(top, path):
@@ -83,24 +128,38 @@ def theorems(top, code):
 
 
 class Row:
-    """A row of the table: a theorem, a clause, and what meets its premises: kinds, names, statuses."""
+    """An entry of the list: a theorem, a clause, its premises, and what meets them: kinds, names, statuses."""
 
-    def __init__(self, names, clauses, met):
-        self.names, self.clauses = re.findall(r"`(\w+)`", names), re.findall(r"`(\w+)`", clauses) or [""]
+    def __init__(self, name, clause, lines):
+        met = next((line.removeprefix("met by: ") for line in lines if line.startswith("met by: ")), "")
+        self.names, self.clauses, self.premises = [name], [clause], [line for line in lines if not line.startswith("met by: ")]
         self.met = re.findall(r"\b(test|program|through) `(\w+)`(?:, (\d+(?:, \d+)*)|: `(\w+)`)?", met)
         self.lacks, self.has_none = met.startswith("nothing yet"), met.startswith("it has no premise")
+        self.said = met
 
 
 def rows(top):
-    text = read(top, TABLE)
-    if HEAD not in text:
-        sys.exit(f"{TABLE}: no table that begins with {HEAD}")
+    """The entries: a line NAME or NAME CLAUSE, and under it lines that are set in."""
     found = []
-    for line in text[text.index(HEAD) :].split("\n")[2:]:
-        if not line.startswith("|"):
-            return found
-        found.append(Row(*(cell.strip() for cell in line.strip("|").split("|")[:3])))
+    for part in re.split(r"\n{2,}", read(top, TABLE)):
+        head, *lines = part.strip("\n").split("\n")
+        if head and not head.startswith("#"):
+            name, _, clause = head.partition(" ")
+            found.append(Row(name, clause, [line.strip() for line in lines]))
     return found
+
+
+def filled(top):
+    """The list with the premises of the sources, in the order in which it stands."""
+    known = theorems(top, functions(top))
+    whole = read(top, TABLE)
+    parts = [part for part in re.split(r"\n{2,}", whole) if part.startswith("#")]
+    for row in rows(top):
+        name, clause = row.names[0], row.clauses[0]
+        function = known.get(name)
+        made = function.premises(clause) if function and (clause, name) in {(it, name) for it, _ in function.parts("ensures")} else row.premises
+        parts.append("\n".join([f"{name} {clause}".strip(), *(f"    {line}" for line in [f"met by: {row.said}", *made])]))
+    return "\n\n".join(part.strip("\n") for part in parts) + "\n"
 
 
 def arms_of(body, names):
@@ -189,6 +248,8 @@ def problems_of(row, clause, code, known):
             yield f"{name} {clause}: it has premises"
         elif not row.met and not row.lacks and not row.has_none:
             yield f"{name} {clause}: nothing is said to meet it"
+        elif row.premises != known[name].premises(clause):
+            yield f"{name} {clause}: other premises than those of the sources: python3 tools/premises.py --fill"
         else:
             for kind, by, wanted, stated in row.met:
                 yield {"test": wrong_test(name, by, wanted, code), "program": wrong_program(name, by, code, known), "through": ""}[kind] or (
@@ -220,11 +281,32 @@ def judged(top):
     return list(dict.fromkeys(problems)), met, lacks
 
 
+def print_premises(top, function, *clauses):
+    """The premises of clauses of a function; those that several of them have, once."""
+    crate, _, name = function.partition("::")
+    found = next((it for path, held in functions(top).items() if path.startswith(f"crates/{crate}/") for it in held if it.name == name and it.is_public), None)
+    if found is None or not set(clauses) <= {it for it, _ in found.parts("ensures")}:
+        print(f"{function} {' '.join(clauses)}: no such clauses", file=sys.stderr)
+        return 2
+    for clause in clauses:
+        print(f"{name}, {clause}:", *found.premises(clause), sep="\n  ")
+    return 0
+
+
 def main():
     sys.setrecursionlimit(10_000)
-    top = sys.argv[1] if sys.argv[1:] else os.path.join(HERE, "..")
-    if len(sys.argv) > 2 or top.startswith("-") or not os.path.isfile(os.path.join(top, TABLE)):
-        print(__doc__.split("\n")[0], file=sys.stderr)
+    arguments, top = sys.argv[1:], os.path.join(HERE, "..")
+    if arguments[:1] == ["--of"] and len(arguments) > 2:
+        return print_premises(top, *arguments[1:])
+    if arguments == ["--fill"]:
+        made, old = filled(top), read(top, TABLE)
+        with open(os.path.join(top, TABLE), "w", encoding="utf-8") as out:
+            out.write(made)
+        print(f"{TABLE}: {'as it was' if made == old else 'changed'}")
+        return 0
+    top = arguments[0] if arguments else top
+    if len(arguments) > 1 or top.startswith("-") or not os.path.isfile(os.path.join(top, TABLE)):
+        print("\n".join(__doc__.split("\n")[:2]), file=sys.stderr)
         return 2
     problems, met, lacks = judged(top)
     print("\n".join([*problems, f"of {met} clauses the premises are met, of {lacks} by nothing yet"]))

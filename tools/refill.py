@@ -1,8 +1,8 @@
 #!/usr/bin/env python3
 """usage: refill.py [--check]
 
-Makes again the blocks of docs/TRUST.md and docs/PAPER.md that tools/trust.py and tools/sizes.py print: what stands after such
-a command becomes what it prints now. Numbers in sentences are left; tools/check-docs.sh says which of them are old. With --check
+Makes again the blocks of docs/PROVED.md and docs/PAPER.md that scripts print (trust.py, sizes.py, premises.py, statement.py --signs):
+what stands after such a command becomes what it prints now. Numbers in sentences are left; tools/check-docs.sh says which of them are old. With --check
 nothing is written, and the status is 1 if a block is old.
 """
 import os
@@ -11,7 +11,7 @@ import subprocess
 import sys
 
 TOP = os.path.normpath(os.path.join(os.path.dirname(os.path.abspath(__file__)), ".."))
-BLOCK = re.compile(r"(```console\n\$ (python3 tools/(?:trust|sizes)\.py[^\n]*)\n).*?\n```", re.S)
+BLOCK = re.compile(r"(```console\n\$ (python3 tools/(?:trust|sizes|premises|statement|plants)\.py[^\n]*)\n)(?:(?!```)[^\n]*\n)*```")
 
 
 def printed(found):
@@ -25,7 +25,7 @@ def main(arguments):
         print(__doc__.split("\n")[0], file=sys.stderr)
         return 2
     old_pages = 0
-    for page in ["docs/TRUST.md", "docs/PAPER.md"]:
+    for page in ["docs/PROVED.md", "docs/PAPER.md"]:
         path = os.path.join(TOP, page)
         with open(path, encoding="utf-8") as text:
             old = text.read()

@@ -1,16 +1,17 @@
 #!/usr/bin/env python3
-"""usage: statement.py [--check|--figures|FILE]
+"""usage: statement.py [--check|--figures|--signs|FILE]
 
-Makes docs/statement.html, or FILE: the statement that one clicks through. It holds the contracts of program_twice, program,
-program_in_memory, run_twice and serve_in_memory, and each definition that they name, down to the model, as they stand in the sources,
-and beside each where it stands. What a name names is found as tools/trust.py finds it. The page's text and its acts are in tools/statement/page.html,
+Makes docs/statement.html, or FILE: the statement that one clicks through. It begins with the main theorem of docs/PAPER.md,
+program_twice, and holds the contracts of the functions of FUNCTIONS below, in this order, and each definition that they name, down to the
+model, as they stand in the sources, and beside each where it stands; last how many lines each theorem has. What a name names is found as tools/trust.py finds it. The page's text and its acts are in tools/statement/page.html,
 the usual way in way.txt, a sentence for each clause in clauses.txt, the statuses in statuses.txt, what the page says of fields in
 beside.txt, the words of the language and of the standard library in words.txt. The same sources give the same bytes.
 
 A page isn't made if a name of it leads nowhere: each must be a definition that is shown, a word that is built in, or bound where it
 stands. With --check nothing is written: the status is 1 if docs/statement.html isn't what the sources give; or, by that file alone, if a
 link of it leads nowhere, a line isn't as it stands in its source, or a count isn't that of the lines to which its links lead. With
---figures the lines and names are printed.
+--figures the lines and names are printed, with --signs the signs that PAPER uses, as words.txt explains them. Whether an explanation there
+is right no script can say: it is the one place that gives it.
 """
 import collections
 import html
@@ -25,9 +26,21 @@ import trust
 HERE = os.path.dirname(os.path.abspath(__file__))
 PAGE = os.path.join(HERE, "..", "docs", "statement.html")
 PARTS = os.path.join(HERE, "statement")
-FUNCTIONS = [("b67_promises::program_twice", "same"), ("b67_promises::program", "described"), ("b67_promises::program_in_memory", "printed"), ("b67_promises::run_twice", "decks"), ("b67_program::serve_in_memory", "served")]
+FUNCTIONS = [
+    ("b67_promises::program_twice", "same"),
+    ("b67_promises::program", "described"),
+    ("b67_promises::program_described", "described"),
+    ("b67_promises::program_in_memory", "printed"),
+    ("b67_promises::run_described", "ends"),
+    ("b67_promises::run_twice", "decks"),
+    ("b67_promises::run_in_memory_twice", "decks"),
+    ("b67_program::serve_in_memory", "served"),
+]
 # the clauses of each function that the usual way is on
-MAIN = {"program_twice": ["same"], "program": ["described"], "program_in_memory": ["printed"], "run_twice": ["decks"], "serve_in_memory": ["served"]}
+MAIN = {name.partition("::")[2]: [clause] for name, clause in FUNCTIONS}
+
+
+SIGNS = ["→", "×", "⊎", "≡", "≢", "∷", "++"]
 
 
 class Wrong(Exception):
@@ -217,7 +230,7 @@ class Page:
         """A function that a body calls stands among the words, since its contract isn't shown."""
         if block.name not in self.word_at:
             self.word_at[block.name] = len(self.words)
-            self.words.append((block.name, f"A function of the program, in {where(block)}, line {block.first}. Its contract isn't on this page; docs/PROMISES.md says in words what `run` and `serve` promise."))
+            self.words.append((block.name, f"A function of the program, in {where(block)}, line {block.first}. Its contract isn't on this page; docs/PROVED.md says in words what is proved of `run` and `serve`."))
         self.used.add(block.name)
         return -1 - self.word_at[block.name]
 
@@ -306,6 +319,14 @@ class Page:
             beside.append([self.by_name[name], field, said])
         return beside
 
+    def sizes(self):
+        """How many lines each theorem of trust.py has with all that it names, as rows of a table."""
+        for function, clauses in trust.THEOREMS:
+            whole, order = trust.rests_on(function, clauses)
+            lines = sum(len(block.lines()) for block in order) + len(whole.lines())
+            crate, _, name = function.partition("::")
+            yield f"<tr><td>{lines:,}</td><td>{len({block.path for block in order} | {whole.path})}</td><td><code>{name}</code></td><td>{', '.join(clauses) or 'all'}</td><td><code>{crate}</code></td></tr>"
+
     def lines_at_most(self):
         """Of each clause with all that it names, how many lines."""
         most = {}
@@ -385,6 +406,7 @@ class Page:
         }
         for name, value in places.items():
             template = template.replace("{{" + name + "}}", html.escape(value))
+        template = template.replace("{{SIZES}}", "\n".join(self.sizes()))
         lost = [name for name in re.findall(r'href="#([^"]+)"', template) if name not in self.by_name and f'id="{name}"' not in template]
         if lost:
             raise Wrong("page.html: no definition " + ", ".join(lost))
@@ -460,8 +482,12 @@ def flaws_of(text):
 
 
 def main(arguments):
-    if len(arguments) > 1 or arguments and (arguments[0].startswith("-") and arguments[0] not in ("--check", "--figures")):
+    if len(arguments) > 1 or arguments and (arguments[0].startswith("-") and arguments[0] not in ("--check", "--figures", "--signs")):
         return None
+    if arguments == ["--signs"]:
+        said = {row[0]: row[1] for row in rows("words.txt") if row[0] is not None}
+        print("\n".join(f"{sign:2} {said[sign]}" for sign in SIGNS))
+        return 0
     path = arguments[0] if arguments and not arguments[0].startswith("-") else PAGE
     if path != PAGE and not (path.endswith(".html") and os.path.isdir(os.path.dirname(path) or ".")):
         return None

@@ -10,7 +10,7 @@ Nine lines of page.html are placeholders. Each is replaced by a text, and nothin
 - @MESSAGES@: the headings and the rows of tables of docs/MESSAGES.md;
 - @OPERATORS@: the tables of operators and intrinsics of docs/MACHINE.md, sections 11 and 12;
 - @GLOSSARY@: the rows of tables of docs/GLOSSARY.md;
-- @PROVED@: the section "The page" of docs/TRUST.md;
+- @PROVED@: the section "The page" of docs/PROVED.md;
 - @VERSION@: the version that CITATION.cff has;
 - @MODULE@: the module, in base64;
 - @SCRIPT@: the modules, from start.js on, as esbuild joins them into one script."""
@@ -102,7 +102,7 @@ def glossary():
 
 def proved():
     """Without links and backquotes."""
-    return re.sub(r"\[([^\]]*)\]\([^)]*\)|`", lambda found: found[1] or "", section("docs/TRUST.md", "### The page"))
+    return re.sub(r"\[([^\]]*)\]\([^)]*\)|`", lambda found: found[1] or "", section("docs/PROVED.md", "### The page"))
 
 
 def version():
