@@ -1,14 +1,10 @@
 -- Names in a list that grows at its end.
 use denote.Bor.{Bor}
-use Rattle.std.proofs.Common.{◌≡◌, ℕ, Bool, true, false, cond, List, [], ◌∷◌, ◌++◌, map, ◌||◌, Option, Some, None, is_some, refl, sym, ap, subst, ◌∙◌}
+use Rattle.std.proofs.Common.{◌≡◌, ℕ, Bool, true, false, cond, List, [], ◌∷◌, ◌++◌, map, ◌||◌, Option, Some, None, is_some, refl, sym, ap, ◌∙◌}
 use Rattle.std.specs.Option.{option_or, option_copied}
 use Rattle.std.specs.List.{cons_option}
 use Rattle.std.specs.Str.{bytes_eq}
-use Rattle.std.specs.BTreeMap.{BTreeMap, get_by, UpdatesBy}
-use Rattle.std.specs.Cmp.Lexicographic.{slice_cmp}
 use Rattle.std.specs.Map.{lookup}
-use Rattle.std.specs.Ordering.{is_eq, nat_cmp}
-use Rattle.std.proofs.lemmas.Map.Text.{is_eq-slice_cmp, btree_map_updates_str}
 use Rattle.std.proofs.lemmas.Slice.Eq.{bytes_eq-Decides}
 
 -- where the keys lie doesn't matter
@@ -40,30 +36,6 @@ name_behind q (e ∷ es) k v = step (bytes_eq q e.0.now) e.1 _ _ _ (name_behind 
     step : {B : Type 0} (b : Bool) (v : B) (all front back : Option B) → all ≡ option_or front back → cond b (Some v) all ≡ option_or (cond b (Some v) front) back
     step true v all front back h = refl
     step false v all front back h = h
-
--- a map in the order of its keys, as a list
-pub lookup_sorted : {X : Type 0} (q : List ℕ) (es : List (Bor (List ℕ) × X)) → lookup (λ (k : Bor (List ℕ)). is_eq (slice_cmp nat_cmp q k.now)) es ≡ lookup (bytes_eq q) (map (λ (e : Bor (List ℕ) × X). (e.0.now, e.1)) es)
-lookup_sorted q [] = refl
-lookup_sorted q (e ∷ es) =
-    ap (λ (b : Bool). cond b (Some e.1) (lookup (λ (k : Bor (List ℕ)). is_eq (slice_cmp nat_cmp q k.now)) es)) (is_eq-slice_cmp q e.0.now) ∙ ap (cond (bytes_eq q e.0.now) (Some e.1)) (lookup_sorted q es)
-
--- a key that was absent is put into its place
-pub key_added : {X : Type 0} (old new : BTreeMap (Bor (List ℕ)) X) (name : List ℕ) (v : X) → UpdatesBy (λ x y. slice_cmp nat_cmp x.now y.now) (λ k. slice_cmp nat_cmp name k.now) old new (Some v) → lookup (bytes_eq name) (map (λ (e : Bor (List ℕ) × X). (e.0.now, e.1)) old.entries) ≡ None → (q : List ℕ) → lookup (bytes_eq q) (map (λ (e : Bor (List ℕ) × X). (e.0.now, e.1)) new.entries) ≡ option_or (lookup (bytes_eq q) (map (λ (e : Bor (List ℕ) × X). (e.0.now, e.1)) old.entries)) (lookup (bytes_eq q) ((name, v) ∷ []))
-key_added {X} old new name v u absent q = sym (lookup_sorted q new.entries) ∙ btree_map_updates_str name old new (Some v) u q ∙ at (bytes_eq name q) refl
-  where
-    meaning : List ℕ → Option X
-    meaning t = lookup (bytes_eq t) (map (λ (e : Bor (List ℕ) × X). (e.0.now, e.1)) old.entries)
-
-    alone : List ℕ → Option X
-    alone t = lookup (bytes_eq t) ((name, v) ∷ [])
-
-    other : (b : Bool) → bytes_eq q name ≡ b → bytes_eq name q ≡ false → meaning q ≡ option_or (meaning q) (alone q)
-    other true e f = absurd (let same = (bytes_eq-Decides q name).0 e in cc)
-    other false e f = rw e (or_none (meaning q))
-
-    at : (b : Bool) → bytes_eq name q ≡ b → cond b (Some v) (get_by (λ (k : Bor (List ℕ)). slice_cmp nat_cmp q k.now) old) ≡ option_or (meaning q) (alone q)
-    at true e = let same = (bytes_eq-Decides name q).0 e in subst (λ t. Some v ≡ option_or (meaning t) (alone t)) same (rw absent (rw ((bytes_eq-Decides name name).1 refl) refl))
-    at false e = lookup_sorted q old.entries ∙ other (bytes_eq q name) refl e
 
 pub copied_some : {X : Type 0} (o : Option (Bor X)) → is_some (option_copied o) ≡ is_some o
 copied_some None = refl

@@ -11,15 +11,14 @@ use b67_model::Op;
 use b67_model_text::{Line, Named, Sketch, Statement};
 use indexmap::IndexMap;
 use std::alloc::{AllocError, Global};
-use std::collections::BTreeMap;
 
 // The names and labels that cards define.
 
 /// The labels of a segment's cards with their syllables, and the labels that its ENTRY cards name.
 #[derive(Drop)]
 pub struct Labels<'a> {
-    pub places: BTreeMap<&'a [u8], u64>,
-    pub entries: BTreeMap<&'a [u8], u64>,
+    pub places: IndexMap<&'a [u8], u64>,
+    pub entries: IndexMap<&'a [u8], u64>,
 }
 
 /// What names mean, and the labels of each segment, by its number.
@@ -37,10 +36,10 @@ pub fn meaning_of(names: &IndexMap<&[u8], Named>, name: &[u8]) -> Option<Named>
 }
 
 /// A label's syllable.
-pub fn place_of<'a>(labels: &BTreeMap<&'a [u8], u64>, label: &'a [u8]) -> Option<u64>
+pub fn place_of<'a>(labels: &IndexMap<&'a [u8], u64>, label: &'a [u8]) -> Option<u64>
     ensures { result ≡ meaning (label_entries labels.now.entries) label.now }
 {
-    labels.get(&label).copied()
+    labels.get(label).copied()
 }
 
 /// The syllable of a segment's label.
@@ -84,13 +83,13 @@ fn define<'a>(
 
 // Adds a label, unless it is there already.
 fn define_at<'a>(
-    labels: &mut BTreeMap<&'a [u8], u64>,
+    labels: &mut IndexMap<&'a [u8], u64>,
     label: &'a [u8],
     syllable: u64,
 ) -> Result<(), AllocError>
     ensures { OnOk result ((q : List ℕ) → meaning (label_entries labels.new.entries) q ≡ option_or (meaning (label_entries labels.old.entries) q) (meaning ((label.now, syllable) ∷ []) q)) }
 {
-    if labels.get(&label).is_some() {
+    if labels.get(label).is_some() {
         return Ok(());
     }
     match labels.insert(label, syllable) {
@@ -145,7 +144,7 @@ fn define_line<'a>(
 
 #[tactic(auto, using(crate::proofs::NamesLaw::or_none))]
 fn label_statement<'a>(
-    labels: &mut BTreeMap<&'a [u8], u64>,
+    labels: &mut IndexMap<&'a [u8], u64>,
     statement: &'a Statement,
     n: u64,
 ) -> Result<(), AllocError>
@@ -165,7 +164,7 @@ fn label_statement<'a>(
 
 #[tactic(auto, using(crate::proofs::NamesLaw::or_none))]
 fn label_line<'a>(
-    labels: &mut BTreeMap<&'a [u8], u64>,
+    labels: &mut IndexMap<&'a [u8], u64>,
     line: &'a Line,
     n: u64,
 ) -> Result<(), AllocError>
@@ -284,11 +283,11 @@ fn meanings_of<'a>(
 pub fn labels_of<'a>(
     alloc: Global,
     lines: &'a [Line],
-) -> Result<BTreeMap<&'a [u8], u64>, AllocError>
+) -> Result<IndexMap<&'a [u8], u64>, AllocError>
     requires { length lines.now < 2 ^ 31 }
     ensures { IfOk result (λ m. (q : List ℕ) → meaning (label_entries m.entries) q ≡ meaning (labels 0 lines.now) q) }
 {
-    let mut labels = BTreeMap::new(alloc);
+    let mut labels = IndexMap::new(alloc);
     let mut n: u64 = 0;
     for line in lines {
         label_line(&mut labels, line, n)?;
@@ -298,7 +297,7 @@ pub fn labels_of<'a>(
 }
 
 // Adds the label that a card names, if it is an ENTRY.
-fn enter_line<'a>(entries: &mut BTreeMap<&'a [u8], u64>, line: &'a Line) -> Result<(), AllocError>
+fn enter_line<'a>(entries: &mut IndexMap<&'a [u8], u64>, line: &'a Line) -> Result<(), AllocError>
     ensures { OnOk result ((q : List ℕ) → is_some (meaning (label_entries entries.new.entries) q) ≡ (is_some (meaning (label_entries entries.old.entries) q) || names_entry q line.now.says)) }
 {
     match &line.says {
@@ -308,7 +307,7 @@ fn enter_line<'a>(entries: &mut BTreeMap<&'a [u8], u64>, line: &'a Line) -> Resu
 }
 
 fn enter_statement<'a>(
-    entries: &mut BTreeMap<&'a [u8], u64>,
+    entries: &mut IndexMap<&'a [u8], u64>,
     statement: &'a Statement,
 ) -> Result<(), AllocError>
     ensures { OnOk result ((q : List ℕ) → is_some (meaning (label_entries entries.new.entries) q) ≡ (is_some (meaning (label_entries entries.old.entries) q) || names_entry q (Ok statement.now))) }
@@ -323,10 +322,10 @@ fn enter_statement<'a>(
 }
 
 // The labels that ENTRY cards name.
-fn entries_of<'a>(alloc: Global, lines: &'a [Line]) -> Result<BTreeMap<&'a [u8], u64>, AllocError>
+fn entries_of<'a>(alloc: Global, lines: &'a [Line]) -> Result<IndexMap<&'a [u8], u64>, AllocError>
     ensures { IfOk result (λ m. (q : List ℕ) → is_some (meaning (label_entries m.entries) q) ≡ list_any (λ l. names_entry q l.says) lines.now) }
 {
-    let mut entries = BTreeMap::new(alloc);
+    let mut entries = IndexMap::new(alloc);
     for line in lines {
         enter_line(&mut entries, line)?;
     }

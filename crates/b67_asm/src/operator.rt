@@ -14,7 +14,7 @@ use crate::names::{Names, is_entry, label_of, meaning_of, place_of};
 use b67_model::{MOST_SEGMENT, Op};
 use b67_model_text::{Branch, Call, Name, Named, Sketch, Statement, Values};
 use b67_word::{Couple, Place, bits_of};
-use std::collections::BTreeMap;
+use indexmap::IndexMap;
 
 // The operator that a card of a segment denotes.
 
@@ -22,7 +22,7 @@ use std::collections::BTreeMap;
 #[derive(Clone, Copy)]
 pub struct Scope<'s, 'a> {
     pub names: &'s Names<'a>,
-    pub labels: &'s BTreeMap<&'a [u8], u64>,
+    pub labels: &'s IndexMap<&'a [u8], u64>,
     pub segments: u32,
     pub level: u8,
 }
@@ -154,7 +154,7 @@ pub fn has_entry<'a>(names: &Names<'a>, sketch: &'a Sketch) -> bool
     }
 }
 
-fn has_label<'a>(labels: &BTreeMap<&'a [u8], u64>, sketch: &'a Sketch) -> bool
+fn has_label<'a>(labels: &IndexMap<&'a [u8], u64>, sketch: &'a Sketch) -> bool
     ensures { result ≡ asm.has_label (λ label. asm.meaning (label_entries labels.now.entries) label) sketch.now }
 {
     match sketch {
@@ -272,7 +272,7 @@ fn couple_call(call: Call, couple: Option<Couple>, level: u8) -> Option<Op>
     }
 }
 
-fn is_first_label<'a>(labels: &BTreeMap<&'a [u8], u64>, n: u64, label: &'a Option<Name>) -> bool
+fn is_first_label<'a>(labels: &IndexMap<&'a [u8], u64>, n: u64, label: &'a Option<Name>) -> bool
     ensures { result ≡ asm.is_first_label (λ text. asm.meaning (label_entries labels.now.entries) text) n label.now }
 {
     match label {
@@ -294,7 +294,7 @@ fn row_operator<'a>(scope: &Scope<'_, 'a>, call: Call, row: &'a [u8]) -> Option<
     }
 }
 
-fn jump<'a>(labels: &BTreeMap<&'a [u8], u64>, branch: Branch, label: &'a [u8]) -> Option<Op>
+fn jump<'a>(labels: &IndexMap<&'a [u8], u64>, branch: Branch, label: &'a [u8]) -> Option<Op>
     ensures exact { result ≡ option_map (asm.branch_to branch) (asm.meaning (label_entries labels.now.entries) label.now) }
     ensures fits { IfSome result (λ op. IsTrue (has_bits op)) }
 {
