@@ -1,5 +1,5 @@
-//! The program: it reads a deck from standard input, prints to standard output and pages to the file of its words. It promises
-//! nothing of its own: all of it is one call of `program`, whose contract is in `b67_promises`.
+//! The program: it reads a deck from standard input, prints to standard output and pages to the file that its arguments name. It
+//! guarantees nothing itself: all of it is one call of `program`, whose contract is in `b67_promises`.
 //!
 //! For whoever is at the shell; the manual page `docs/b67.1` says its words and statuses.
 //!

@@ -1,4 +1,4 @@
-//! All between the words of the program and its exit: the words, the deck read into memory, the file of the path opened and
+//! All between the program's arguments and its exit: the arguments, the deck read into memory, the file of the path opened and
 //! closed, the exit status. It promises that what is printed, and the status, are those of `run` on the deck that was read.
 //!
 //! For the program `b67`, by `b67_recorded`: `carry_out`. For callers with sources of their own: `serve`, `serve_process`. For a page:

@@ -1,7 +1,6 @@
-//! The ends of the program, which tell their content whatever is behind them: an input and a printer that record the bytes that went
-//! through them, a file that is compared with a copy of its sectors in memory, and a process that records its words and the paths
-//! that it opened. It promises of the program's call over any reader, any writer and any files what `serve` promises over devices
-//! that tell.
+//! The program's input, output and files, which record what went through them: an input and an output that record their bytes, a
+//! file that is compared with a copy of its sectors in memory, and a process that records its arguments and the paths that it opened.
+//! It guarantees of the program's call over any reader, any writer and any files what `serve` guarantees over observable devices.
 //!
 //! For the program `b67`, by `program` of `b67_promises`. Records are for proofs alone: they take no memory and no time.
 //!
