@@ -30,7 +30,7 @@ means() {
     premises) echo 'what meets the premises of each theorem' ;;
     links) echo 'each link and path of the documents' ;;
     names) echo 'what pages say of functions, calls and crates is in the code' ;;
-    made) echo 'the statement, the blocks of TRUST and PAPER, the table of crates, the page: none is older than its sources' ;;
+    made) echo 'the lists of operators, the exact cores of rows and decks, the statement, the blocks of TRUST and PAPER, the table of crates, the page: none is older than its sources' ;;
     python) echo 'pyflakes3 finds nothing' ;;
     shell) echo 'shellcheck has no warning' ;;
     manual) echo 'mandoc -Tlint has no warning of the manual pages' ;;
@@ -119,6 +119,8 @@ found() {
 made() {
     local old=0
     python3 tools/statement.py --check || old=1
+    python3 tools/tables.py --check || old=1
+    python3 tools/cores.py --check || old=1
     python3 tools/heads.py --check || old=1
     python3 tools/refill.py --check || old=1
     python3 web/build/join.py web/b67.html --check || old=1
