@@ -1,9 +1,8 @@
 #!/usr/bin/env python3
 """usage: tables.py [--check]
 
-Makes the lists of the operators again, from the machine's table `operators` (crates/b67_model/specs/Operators.antt) and the names of the
-assembler (crates/b67_asm/src/statement.rt): the tables of b67_syllable and b67_exec by first syllable, which their proofs compare with
-it, and the lists of the editors, of scripts/listing.sh and of the page.
+Makes the lists of the operators again, from the one table OPERATORS of crates/b67_model/src/operators.rt: the tables of b67_syllable and
+b67_exec by first syllable, which their proofs compare with it, and the lists of the editors, of scripts/listing.sh and of the page.
 Then compares what is written by hand: the table of docs/MACHINE.md, the lists of docs/b67-deck.5 and of the reference, and what the page
 says of each operator. With --check nothing is written, and the status is 1 if a list is old. It is 1, too, if a page says otherwise.
 """
@@ -14,10 +13,7 @@ import sys
 from rattle_source import TOP, read
 
 MODEL = "crates/b67_model/src/operators.rt"
-TABLE = "crates/b67_model/specs/Operators.antt"
-NAMES = "crates/b67_asm/src/statement.rt"
-ROW = re.compile(r"\(0x([0-9A-F]{2}), (?:Alone codes\.(\w+)|(?:(?:One|Two)More|Literal|branch) (?:\(λ high low\. )?(\w+))")
-NAME = re.compile(r'\(b"(\w+)", Mnemonic::(?:Plain\(Code::(\w+)\)|(\w+))\)')
+ROW = re.compile(r'^    \(0x([0-9A-F]{2}), b"(\w+)", Mnemonic::(?:Plain\(Code::(\w+)\)|(\w+))\),$', re.M)
 # What an operator with parameters is in the table of kinds, and how many syllables follow its first; 8 for the next whole word.
 PARAMETERS = {
     "Lt8": ("Literal8", 1), "Lt16": ("Literal16", 2), "Lt48": ("Literal48", 8), "Mpcw": ("MakePcw", 8), "Bset": ("SetBit", 1),
@@ -35,12 +31,10 @@ ASKED = ["LAND", "LOR", "ISOL", "INSR", "NXLV"]
 
 def operators():
     """Each operator: its first syllable, its name, the code of one without parameters, the variant of one that has some."""
-    names = {code or other: name for name, code, other in NAME.findall(read(NAMES))}
-    table = read(TABLE).partition("\noperators =\n")[2].partition("[]")[0]
-    rows = [(int(first, 16), names[code or other], code, other) for first, code, other in ROW.findall(table)]
-    rows = [(0x00, "VALC", "", "Valc"), (0x40, "NAMC", "", "Namc"), *rows]
-    if len(rows) != table.count("(0x") + 2 or len(rows) != len(names) or rows != sorted(rows):
-        sys.exit(f"{TABLE}: an operator isn't read, has no name, or stands out of order")
+    table = read(MODEL).partition("const OPERATORS")[2].partition("\n];")[0]
+    rows = [(int(first, 16), name, code, other) for first, name, code, other in ROW.findall(table)]
+    if len(rows) != table.count("Mnemonic::") or rows != sorted(rows):
+        sys.exit(f"{MODEL}: a line of OPERATORS isn't read, or stands out of order")
     return rows
 
 
@@ -97,7 +91,7 @@ def codes_of(rows, form):
     known = re.findall(r"^    (\w+),$", read(MODEL).partition("pub enum Code {\n")[2].partition("\n}")[0], re.M)
     first = {code: at for at, _, code, _ in rows if code}
     if sorted(known) != sorted(first):
-        sys.exit(f"{MODEL}: an operator without parameters isn't in the table, or twice: {sorted(set(known) ^ set(first))}")
+        sys.exit(f"{MODEL}: an operator without parameters isn't in OPERATORS, or twice: {sorted(set(known) ^ set(first))}")
     return "".join(form % (code, at) for code, at in first.items())
 
 
