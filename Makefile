@@ -47,7 +47,9 @@ page-test: $(PROGRAM) ## compares the page with the program, in node and in Chro
 lint: ## pyflakes3, shellcheck, mandoc; names, links, signatures, bounds; what is made and is old
 	$(PARTS) $(LINTS:%=--only %)
 
-fill: ## makes what is made: the table of crates, blocks of PROVED and PAPER, the premises, the statement, the page's texts
+fill: ## makes what is made: lists of operators, exact cores, the table of crates, PROVED, PAPER, the premises, the statement, the page
+	python3 tools/tables.py
+	python3 tools/cores.py
 	python3 tools/heads.py
 	python3 tools/premises.py --fill
 	python3 tools/refill.py

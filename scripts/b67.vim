@@ -11,10 +11,10 @@ syntax case match
 " cards of assembly; a label ends in a colon, a comment begins with ;
 syntax match b67Comment ";.*$"
 syntax match b67Label "^\s*\zs[A-Z][A-Z0-9]\{,15}:"
-syntax keyword b67Value VALC NAMC LOAD STOD STON INDX NXLV STFF LT8 LT16 LT48 ZERO ONE MPCW
-syntax keyword b67Arithmetic ADD SUBT MULT IDIV RDIV CHSN LESS GREQ GRTR LSEQ EQUL NEQL
-syntax keyword b67Bits LAND LOR LNOT LEQV SAME BSET BRST ISOL INSR
-syntax keyword b67Flow BRFL BRTR BRUN MKST ENTR EXIT RETN
+syntax keyword b67Value VALC NAMC INDX NXLV STFF ZERO ONE LT8 LT16 STOD STON LOAD LT48 MPCW
+syntax keyword b67Arithmetic ADD SUBT MULT IDIV RDIV LESS GREQ GRTR LSEQ EQUL NEQL CHSN
+syntax keyword b67Bits LAND LOR LNOT LEQV SAME BSET ISOL INSR BRST
+syntax keyword b67Flow BRFL BRTR BRUN EXIT RETN ENTR MKST
 syntax keyword b67Stack PUSH DLET EXCH DUPL NOOP NVLD
 syntax keyword b67Section SEGMENT ROW NUM ENTRY CELL
 syntax match b67Number "\(^\|\s\)\@<=-\?\d\+\>"

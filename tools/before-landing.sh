@@ -31,7 +31,7 @@ means() {
     claims) echo 'whether the listings of PAPER stand in the sources, and what PROVED and PAPER say that a script can see' ;;
     links) echo 'each link and path of the documents' ;;
     names) echo 'what pages say of functions, calls and crates is in the code' ;;
-    made) echo 'the statement, the blocks of PROVED and PAPER, the table of crates, the page: none is older than its sources' ;;
+    made) echo 'the lists of operators, the exact cores of examples and decks, the statement, the blocks of PROVED and PAPER, the table of crates, the page: none is older than its sources' ;;
     python) echo 'pyflakes3 finds nothing' ;;
     shell) echo 'shellcheck has no warning' ;;
     manual) echo 'mandoc -Tlint has no warning of the manual pages' ;;
@@ -121,6 +121,8 @@ found() {
 made() {
     local old=0
     python3 tools/statement.py --check || old=1
+    python3 tools/tables.py --check || old=1
+    python3 tools/cores.py --check || old=1
     python3 tools/heads.py --check || old=1
     python3 tools/refill.py --check || old=1
     python3 web/build/join.py web/b67.html --check || old=1

@@ -109,6 +109,8 @@ def bound_names(block, text):
         bound.update(re.findall(r"^    ([A-Z]\w*)\b", whole, re.M))
         bound.update(re.findall(r"[{,] ([a-z_]\w*): ", whole))
         bound.update(re.findall(r"Ok\((\w+)\)", whole))
+        # a variant behind its enum, and the letter before a string of bytes
+        bound.update(re.findall(r"\b[A-Z]\w*::([A-Z]\w*)", whole) + re.findall(r'\b(b)"', "\n".join(text)))
         bound.update(re.findall(r"[{;] *([^\W\d][\w']*) = ", whole))
         return bound
     for line in whole.split("\n"):

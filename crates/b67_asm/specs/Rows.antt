@@ -1,11 +1,11 @@
 -- Rows of tables, and lists that grow.
 use denote.Bor.{Bor}
 use Rattle.std.specs.Prelude.{◌≡◌, ℕ, Bool, true, false, List, ◌++◌, Option, Some, None, Result, Ok, Err}
-use Rattle.b67_model_text.specs.declared.assembly.Mnemonic.{Mnemonic}
+use Rattle.b67_model.specs.declared.operators.Mnemonic.{Mnemonic}
 
--- a row without where its key lies
-abbrev pub key_and_mnemonic : Bor (List ℕ) × Mnemonic → List ℕ × Mnemonic
-key_and_mnemonic row = (row.0.now, row.1)
+-- a row of the operators' table without its syllable, and without where its name lies
+abbrev pub key_and_mnemonic : ℕ × Bor (List ℕ) × Mnemonic → List ℕ × Mnemonic
+key_and_mnemonic row = (row.1.now, row.2)
 
 -- the values are appended, or one is malformed
 abbrev pub ValuesPut : {E : Type 0} → Result Bool E → Option (List (Option ℕ)) → List (Option ℕ) → List (Option ℕ) → Type 0

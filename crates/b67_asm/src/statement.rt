@@ -1,4 +1,4 @@
-ghost use Rattle.b67_model_text.specs.declared.assembly.Mnemonic.TheVariants as names;
+ghost use Rattle.b67_model.specs.declared.operators.Mnemonic.TheVariants as names;
 ghost use Rattle.b67_model_text.specs.Statements as spec;
 ghost use Rattle.std.specs.Prelude.{◌≡◌, ◌-◌, [], ◌∷◌, ◌≤◌, map, take, IfOk, IfSome, length};
 ghost use Rattle.std.specs.Option.{option_and_then};
@@ -8,72 +8,19 @@ ghost use Rattle.b67_asm.specs.Rows.{key_and_mnemonic, ValuesPut};
 
 use crate::number::{bits_in, numeral_up_to};
 use b67_card::{name, parted, words};
-use b67_model::{Code, Op};
-use b67_model_text::{
-    Branch, Call, Card, Kind, Line, Lines, Mnemonic, Name, Sketch, Statement, Values,
-};
+use b67_model::{Mnemonic, OPERATORS, Op};
+use b67_model_text::{Branch, Call, Card, Kind, Line, Lines, Name, Sketch, Statement, Values};
 use b67_word::Couple;
 use std::alloc::{AllocError, Global};
 
 // What an assembly card says by itself.
 
-const MNEMONICS: [(&[u8], Mnemonic); 48] = [
-    (b"VALC", Mnemonic::Valc),
-    (b"NAMC", Mnemonic::Namc),
-    (b"ADD", Mnemonic::Plain(Code::Add)),
-    (b"SUBT", Mnemonic::Plain(Code::Subt)),
-    (b"MULT", Mnemonic::Plain(Code::Mult)),
-    (b"IDIV", Mnemonic::Plain(Code::Idiv)),
-    (b"RDIV", Mnemonic::Plain(Code::Rdiv)),
-    (b"LESS", Mnemonic::Plain(Code::Less)),
-    (b"GREQ", Mnemonic::Plain(Code::Greq)),
-    (b"GRTR", Mnemonic::Plain(Code::Grtr)),
-    (b"LSEQ", Mnemonic::Plain(Code::Lseq)),
-    (b"EQUL", Mnemonic::Plain(Code::Equl)),
-    (b"NEQL", Mnemonic::Plain(Code::Neql)),
-    (b"CHSN", Mnemonic::Plain(Code::Chsn)),
-    (b"LAND", Mnemonic::Plain(Code::Land)),
-    (b"LOR", Mnemonic::Plain(Code::Lor)),
-    (b"LNOT", Mnemonic::Plain(Code::Lnot)),
-    (b"LEQV", Mnemonic::Plain(Code::Leqv)),
-    (b"SAME", Mnemonic::Plain(Code::Same)),
-    (b"BSET", Mnemonic::Bset),
-    (b"BRST", Mnemonic::Brst),
-    (b"ISOL", Mnemonic::Isol),
-    (b"INSR", Mnemonic::Insr),
-    (b"BRFL", Mnemonic::Brfl),
-    (b"BRTR", Mnemonic::Brtr),
-    (b"BRUN", Mnemonic::Brun),
-    (b"EXIT", Mnemonic::Plain(Code::Exit)),
-    (b"INDX", Mnemonic::Plain(Code::Indx)),
-    (b"RETN", Mnemonic::Plain(Code::Retn)),
-    (b"ENTR", Mnemonic::Plain(Code::Entr)),
-    (b"NXLV", Mnemonic::Plain(Code::Nxlv)),
-    (b"MKST", Mnemonic::Plain(Code::Mkst)),
-    (b"STFF", Mnemonic::Plain(Code::Stff)),
-    (b"ZERO", Mnemonic::Plain(Code::Zero)),
-    (b"ONE", Mnemonic::Plain(Code::One)),
-    (b"LT8", Mnemonic::Lt8),
-    (b"LT16", Mnemonic::Lt16),
-    (b"PUSH", Mnemonic::Plain(Code::Push)),
-    (b"DLET", Mnemonic::Plain(Code::Dlet)),
-    (b"EXCH", Mnemonic::Plain(Code::Exch)),
-    (b"DUPL", Mnemonic::Plain(Code::Dupl)),
-    (b"STOD", Mnemonic::Plain(Code::Stod)),
-    (b"STON", Mnemonic::Plain(Code::Ston)),
-    (b"LOAD", Mnemonic::Plain(Code::Load)),
-    (b"LT48", Mnemonic::Lt48),
-    (b"MPCW", Mnemonic::Mpcw),
-    (b"NOOP", Mnemonic::Plain(Code::Noop)),
-    (b"NVLD", Mnemonic::Plain(Code::Nvld)),
-];
-
-fn look_up(rows: &[(&[u8], Mnemonic)], word: &[u8]) -> Option<Mnemonic>
+fn look_up(rows: &[(u8, &[u8], Mnemonic)], word: &[u8]) -> Option<Mnemonic>
     ensures { result ≡ row_of word.now (map key_and_mnemonic rows.now) }
 {
     for row in rows {
-        if row.0 == word {
-            return Some(row.1);
+        if row.1 == word {
+            return Some(row.2);
         }
     }
     None
@@ -82,7 +29,7 @@ fn look_up(rows: &[(&[u8], Mnemonic)], word: &[u8]) -> Option<Mnemonic>
 fn mnemonic_of(word: &[u8]) -> Option<Mnemonic>
     ensures { result ≡ row_of word.now spec.mnemonics }
 {
-    look_up(&MNEMONICS, word)
+    look_up(&OPERATORS, word)
 }
 
 fn jump_to(branch: Branch, word: &[u8]) -> Option<Sketch>

@@ -1,6 +1,6 @@
 -- The listing of code in which the literals of MPCWs are changed.
 use Rattle.std.proofs.Common.{◌≡◌, ℕ, zero, suc, ◌+◌, ◌-◌, ◌*◌, ◌/◌, ◌%◌, ◌^◌, ◌<◌, ◌≤◌, Bool, true, false, cond, ltb, ◌&&◌, List, [], ◌∷◌, length, map, Option, Some, None, Ok, Err, refl, sym, ap, subst, ◌∙◌, arith, ◌⊎◌, inl, inr}
-use Rattle.std.specs.Prelude.{option_map, slice_get, slice_index, unwrap_or}
+use Rattle.std.specs.Prelude.{drop, option_map, slice_get, slice_index, unwrap_or}
 use Rattle.std.specs.List.{AllByRecursion}
 use Rattle.std.proofs.Math.Nat.{le_refl}
 use Rattle.std.proofs.lemmas.Bool.{ltb-true, lt-ltb, and_parts, and_from}
@@ -11,6 +11,10 @@ use Rattle.b67_model.specs.declared.operators.Op.{Op}
 use Rattle.b67_model.specs.declared.operators.Op.TheVariants as op
 use Rattle.b67_model.specs.declared.operators.Undecodable.{Undecodable}
 use Rattle.b67_model.specs.declared.operators.Undecodable.TheVariants.{BadPlace, NotAdmitted, PastEnd}
+use Rattle.b67_model.specs.declared.operators.Mnemonic.{Mnemonic}
+use Rattle.b67_model.specs.declared.operators.Mnemonic.TheVariants as names
+use Rattle.b67_model.specs.declared.operators.TheConstants.{OPERATORS}
+use Rattle.b67_model.specs.Operators.{form_of_name}
 use Rattle.b67_model.specs.Common.{Form, Alone, OneMore, TwoMore, Literal, Reading, operators, form_in, form_of, syllable, place_at, count_at, ends_at, reads, operator_at, Entry, At, Break, entries_from, origin, listing, place_of_entry, proc_bits}
 use Rattle.b67_load.proofs.Operator.{IsPlaceIn, operator_at-inside, operator_at-is}
 use Rattle.b67_bind.specs.Reasons.{proc_in}
@@ -36,8 +40,28 @@ form_in-makes : (rows : List (ℕ × Form)) (first : ℕ) → AllByRecursion (λ
 form_in-makes [] first h = tt
 form_in-makes (row ∷ rows) first h = grind (arith, form_in-makes rows first h.1)
 
+name_makes : (name : Mnemonic) → FormMakes (form_of_name name)
+name_makes (names.Plain code) = tt
+name_makes names.Valc = λ n. refl
+name_makes names.Namc = λ n. refl
+name_makes names.Brun = λ a b. refl
+name_makes names.Brtr = λ a b. refl
+name_makes names.Brfl = λ a b. refl
+name_makes names.Lt8 = λ n. refl
+name_makes names.Lt16 = λ a b. refl
+name_makes names.Lt48 = inl (λ n. refl)
+name_makes names.Mpcw = inr (λ n. refl)
+name_makes names.Bset = λ n. refl
+name_makes names.Brst = λ n. refl
+name_makes names.Isol = λ a b. refl
+name_makes names.Insr = λ a b. refl
+
+table_makes : {A : Type 0} (rows : List (ℕ × A × Mnemonic)) → AllByRecursion (λ (row : ℕ × Form). FormMakes row.1) (map (λ row. (row.0, form_of_name row.2)) rows)
+table_makes [] = tt
+table_makes (row ∷ rows) = (name_makes row.2, table_makes rows)
+
 operators_make : AllByRecursion (λ row. FormMakes row.1) operators
-operators_make = (tt, (tt, (tt, (tt, (tt, (tt, (tt, (tt, (tt, (tt, (tt, (tt, (tt, (tt, (tt, (tt, (tt, ((λ n. refl), ((λ a b. refl), ((λ a b. refl), ((λ n. refl), ((λ a b. refl), ((λ a b. refl), ((λ a b. refl), (tt, (tt, (tt, (tt, (tt, (tt, (tt, (tt, (tt, ((λ n. refl), ((λ a b. refl), (tt, (tt, (tt, (tt, (tt, (tt, (tt, (inl (λ n. refl), (inr (λ n. refl), (tt, (tt, tt))))))))))))))))))))))))))))))))))))))))))))))
+operators_make = table_makes (drop 2 OPERATORS)
 
 form_of-makes : (first : ℕ) → AnyMakes (form_of first)
 form_of-makes first = valc (ltb first 0x40)

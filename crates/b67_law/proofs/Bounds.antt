@@ -1,16 +1,18 @@
 -- Operators on numbers and bits keep operands in 48 bits.
-use Rattle.std.proofs.Common.{◌≡◌, ℕ, zero, suc, ◌+◌, ◌-◌, ◌*◌, ◌/◌, ◌%◌, ◌^◌, ◌<◌, ◌≤◌, ℤ, nat_abs, Bool, true, false, cond, eqb, ltb, leb, Ok, Err, refl, sym, ap, subst, inl, inr, arith, ◌&&◌}
-use Rattle.std.specs.Prelude.{int_lt}
-use Rattle.b67_word.specs.declared.faults.Fault.TheVariants.{Exponent}
+use Rattle.std.proofs.Common.{◌≡◌, ℕ, zero, suc, ◌+◌, ◌-◌, ◌*◌, ◌/◌, ◌%◌, ◌^◌, ◌<◌, ◌≤◌, ℤ, nat_abs, Bool, true, eqb, ltb, Ok, subst, arith, ◌&&◌, ◌+ℤ◌, ◌*ℤ◌, neg_ℤ, false, cond, leb, Err, refl, sym, ap, inl, inr}
+use Rattle.std.specs.Prelude.{int_div, int_rem, int_lt}
 use Rattle.std.specs.Int.Bits.{bit_and, bit_or, bit_xor, and_lt}
 use Rattle.std.proofs.lemmas.Nat.{or_lt, pow-add}
-use Rattle.std.proofs.lemmas.Bool.{cases_Bool, leb-true, ltb-true, eqb-true, and_parts}
+use Rattle.std.proofs.lemmas.Bool.{ltb-true, cases_Bool, leb-true, eqb-true, and_parts}
 use Rattle.std.proofs.Math.Pow.{ones_sub-lt, pow_mono}
-use Rattle.std.proofs.Math.Nat.{mul-le-mul_right, div-lt_iff_lt-mul, mod-lt, div-add-mod}
-use Rattle.b67_word.specs.Common.{bit, is_whole, value_of, bits_of, is_field}
-use Rattle.b67_model.specs.Common.{Answer, ◌>>=◌, to_operand, number, truth, ones, on_numbers, compared, land, lor, leqv, same, chsn, lnot, bset, brst, isol, insr}
+use Rattle.std.proofs.Math.Nat.{div-lt_iff_lt-mul, mod-lt, div-add-mod, mul-le-mul_right}
+use Rattle.b67_word.specs.Common.{bit, bits_of, is_field, is_whole, value_of}
+use Rattle.b67_model.specs.Common.{Answer, ◌>>=◌, to_operand, number, truth, ones, on_numbers, compared, land, lor, leqv, same, chsn, lnot, bset, brst, isol, insr, Class, OnTwo, OnOne, Pushes, class, divided}
+use Rattle.b67_model.specs.declared.operators.Code.{Code}
+use Rattle.b67_model.specs.declared.operators.Code.TheVariants as codes
 use Rattle.b67_law.proofs.Posts.{Post, post_ok, post_err, post_any, post_needs, post_if_is}
 use Rattle.b67_law.proofs.Cells.{Fits1, Fits2}
+use Rattle.b67_word.specs.declared.faults.Fault.TheVariants.{Exponent}
 
 pub bits_low : (v : ℤ) → nat_abs v < 2 ^ 39 → bits_of v < 2 ^ 48
 bits_low v low = grind arith
@@ -105,3 +107,32 @@ insr_low high width a b low wide x =
 
 pub insr_fits : (high width : ℕ) → Fits2 (insr high width)
 insr_fits high width a b x y = post_needs Low (is_field high width) _ _ (λ t. let f = field_low high width t in post_ok Low _ (insr_low high width a b f.0 f.1 x))
+
+-- what an operator of the class makes of operands of 48 bits has 48 bits
+abbrev pub ClassFits : Class → Type 0
+ClassFits (OnTwo f) = Fits2 f
+ClassFits (OnOne f) = Fits1 f
+ClassFits (Pushes n) = n < 2 ^ 48
+ClassFits _ = Unit {0}
+
+pub class_fits : (code : Code) → ClassFits (class code)
+class_fits codes.Add = numbers_fit (λ x y. Ok (x +ℤ y))
+class_fits codes.Subt = numbers_fit (λ x y. Ok (x +ℤ neg_ℤ y))
+class_fits codes.Mult = numbers_fit (λ x y. Ok (x *ℤ y))
+class_fits codes.Idiv = numbers_fit (divided int_div)
+class_fits codes.Rdiv = numbers_fit (divided int_rem)
+class_fits codes.Less = compared_fit _
+class_fits codes.Greq = compared_fit _
+class_fits codes.Grtr = compared_fit _
+class_fits codes.Lseq = compared_fit _
+class_fits codes.Equl = compared_fit _
+class_fits codes.Neql = compared_fit _
+class_fits codes.Chsn = chsn_fits
+class_fits codes.Land = land_fits
+class_fits codes.Lor = lor_fits
+class_fits codes.Leqv = leqv_fits
+class_fits codes.Lnot = lnot_fits
+class_fits codes.Same = same_fits
+class_fits codes.Zero = omega arith
+class_fits codes.One = omega arith
+class_fits _ = tt

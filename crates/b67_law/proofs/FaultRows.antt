@@ -7,7 +7,8 @@ use Rattle.b67_word.specs.declared.faults.Fault.TheVariants.{InvalidOperator, In
 use Rattle.b67_model.specs.declared.operators.Op.TheVariants.{Valc, Namc, Lt8, Lt16, Lt48, Mpcw, Brun, Brtr, Brfl, Bset, Brst, Isol, Insr, Plain}
 use Rattle.b67_model.specs.declared.operators.Code.{Code}
 use Rattle.b67_model.specs.declared.operators.Code.TheVariants as codes
-use Rattle.b67_model.specs.Common.{Answer, ◌>>=◌, ◌>>◌, needs, Word, Operand, Name, Ref, Row, Element, operand, number, to_operand, Standing, Marked, Entered, Task, Job, OperatorContext, place_of, End, AtCell, AtElement, AtArray, AtProc, AtIntrinsic, Link, Stops, Leads, element_end, link_from, link, chase_on, chase, follow, follow_reference, array, array_at, array_of, index_below, indexed, Binary, on_numbers, compared, divided, add, subt, mult, idiv, rdiv, less, greq, grtr, lseq, equl, neql, land, lor, leqv, same, chsn, lnot, bset, brst, isol, insr, Line, Done, top_of, cells_of, result, with_cells, leaves_cells, pushes, evaluates, enters, leaves, exit, returnable, returned, retn_word, answers, array_length, arraydec, print, row_copy, numbers_of, printrow, read, starts, process, awaits, await, status, waits_at, wait, causes, cause, deallocate, resize, intrinsic, CellRow, on_one, on_two, dlet, exch, dupl, on_cells, branches, branch_if, valc, stff, load_at, load, indx, nxlv, store_at, store, entr_at, entr_with, entr, plain}
+use Rattle.b67_model.specs.Common.{Answer, ◌>>=◌, ◌>>◌, needs, Word, Operand, Name, Ref, Row, Element, operand, number, to_operand, Standing, Marked, Entered, Task, Job, OperatorContext, place_of, End, AtCell, AtElement, AtArray, AtProc, AtIntrinsic, Link, Stops, Leads, element_end, link_from, link, chase_on, chase, follow, follow_reference, array, array_at, array_of, index_below, indexed, Binary, on_numbers, compared, divided, bset, brst, isol, insr, Line, Done, top_of, cells_of, result, with_cells, leaves_cells, pushes, evaluates, enters, leaves, exit, returnable, returned, retn_word, answers, array_length, arraydec, print, row_copy, numbers_of, printrow, read, starts, process, awaits, await, status, waits_at, wait, causes, cause, deallocate, resize, intrinsic, CellRow, on_one, on_two, dlet, exch, dupl, on_cells, branches, branch_if, valc, stff, load_at, load, indx, nxlv, store_at, store, entr_at, entr_with, entr, plain, Class, OnTwo, OnOne, OnCells, Pushes, Idle, Own, class, by_class}
+use Rattle.b67_law.proofs.Classes.{IsOnOperands}
 use Rattle.b67_model.specs.Words as Words
 use Rattle.b67_model.specs.Words.{whole}
 use Rattle.b67_law.specs.Faults.{InvalidOperatorIsNvld}
@@ -317,30 +318,46 @@ one_at h f each = on_cells_o (on_one f) h (one_o f each (cells_of h))
 two_at : (h : OperatorContext) (f : Binary) → ((x y : ℕ) → Other (f x y)) → Other (on_cells (on_two f) h)
 two_at h f each = on_cells_o (on_two f) h (two_o f each (cells_of h))
 
+-- what an operator of the class makes of operands faults otherwise
+abbrev ClassOther : Class → Type 0
+ClassOther (OnTwo f) = (x y : ℕ) → Other (f x y)
+ClassOther (OnOne f) = (x : ℕ) → Other (f x)
+ClassOther _ = Unit {0}
+
+operands_o : (code : Code) → ClassOther (class code)
+operands_o codes.Add = numbers_o (λ x y. Ok (x +ℤ y)) (λ x y. o_ok _)
+operands_o codes.Subt = numbers_o (λ x y. Ok (x +ℤ neg_ℤ y)) (λ x y. o_ok _)
+operands_o codes.Mult = numbers_o (λ x y. Ok (x *ℤ y)) (λ x y. o_ok _)
+operands_o codes.Idiv = numbers_o (divided int_div) (divided_o int_div)
+operands_o codes.Rdiv = numbers_o (divided int_rem) (divided_o int_rem)
+operands_o codes.Less = compared_o _
+operands_o codes.Greq = compared_o _
+operands_o codes.Grtr = compared_o _
+operands_o codes.Lseq = compared_o _
+operands_o codes.Equl = compared_o _
+operands_o codes.Neql = compared_o _
+operands_o codes.Chsn = λ x. o_bind (number x) _ (number_o x) (λ v. o_ok _)
+operands_o codes.Land = λ x y. o_ok _
+operands_o codes.Lor = λ x y. o_ok _
+operands_o codes.Leqv = λ x y. o_ok _
+operands_o codes.Lnot = λ x. o_ok _
+operands_o codes.Same = λ x y. o_ok _
+operands_o _ = tt
+
+class_o : (c : Class) (h : OperatorContext) → ClassOther c → IsOnOperands c → Other (by_class c h)
+class_o (OnTwo f) h each common = two_at h f each
+class_o (OnOne f) h each common = one_at h f each
+class_o (OnCells f) h each common = absurd common
+class_o (Pushes n) h each common = search steps
+class_o Idle h each common = search steps
+class_o (Own row) h each common = absurd common
+
 plain_o : (code : Code) (h : OperatorContext) → code ≢ codes.Nvld → Other (plain code h)
-plain_o codes.Add h ne = two_at h add (numbers_o (λ x y. Ok (x +ℤ y)) (λ x y. o_ok _))
-plain_o codes.Subt h ne = two_at h subt (numbers_o (λ x y. Ok (x +ℤ neg_ℤ y)) (λ x y. o_ok _))
-plain_o codes.Mult h ne = two_at h mult (numbers_o (λ x y. Ok (x *ℤ y)) (λ x y. o_ok _))
-plain_o codes.Idiv h ne = two_at h idiv (numbers_o (divided int_div) (divided_o int_div))
-plain_o codes.Rdiv h ne = two_at h rdiv (numbers_o (divided int_rem) (divided_o int_rem))
-plain_o codes.Less h ne = two_at h less (compared_o _)
-plain_o codes.Greq h ne = two_at h greq (compared_o _)
-plain_o codes.Grtr h ne = two_at h grtr (compared_o _)
-plain_o codes.Lseq h ne = two_at h lseq (compared_o _)
-plain_o codes.Equl h ne = two_at h equl (compared_o _)
-plain_o codes.Neql h ne = two_at h neql (compared_o _)
-plain_o codes.Chsn h ne = one_at h chsn (λ x. o_bind (number x) _ (number_o x) (λ v. o_ok _))
-plain_o codes.Land h ne = two_at h land (λ x y. o_ok _)
-plain_o codes.Lor h ne = two_at h lor (λ x y. o_ok _)
-plain_o codes.Leqv h ne = two_at h leqv (λ x y. o_ok _)
-plain_o codes.Lnot h ne = one_at h lnot (λ x. o_ok _)
-plain_o codes.Same h ne = two_at h same (λ x y. o_ok _)
 plain_o codes.Exit h ne = exit_o h
 plain_o codes.Indx h ne = indx_o h (cells_of h)
 plain_o codes.Retn h ne = retn_o h (top_of h).standing (cells_of h)
 plain_o codes.Entr h ne = entr_o h (top_of h).standing
 plain_o codes.Nxlv h ne = nxlv_o h (cells_of h)
-plain_o codes.Mkst h ne = search steps
 plain_o codes.Stff h ne = on_cells_o (stff h) h (stff_o h (cells_of h))
 plain_o codes.Dlet h ne = on_cells_o dlet h (dlet_o (cells_of h))
 plain_o codes.Exch h ne = on_cells_o exch h (exch_o (cells_of h))
@@ -348,11 +365,9 @@ plain_o codes.Dupl h ne = on_cells_o dupl h (dupl_o (cells_of h))
 plain_o codes.Stod h ne = store_o false h (cells_of h)
 plain_o codes.Ston h ne = store_o true h (cells_of h)
 plain_o codes.Load h ne = load_o h (cells_of h)
+plain_o codes.Mkst h ne = search steps
 plain_o codes.Nvld h ne = absurd (ne refl)
-plain_o codes.Zero h ne = search steps
-plain_o codes.One h ne = search steps
-plain_o codes.Push h ne = search steps
-plain_o codes.Noop h ne = search steps
+plain_o code h ne = class_o (class code) h (operands_o code) tt
 
 never : {A : Type 0} (a : Answer A) → Other a → a ≡ Err InvalidOperator → ⊥
 never a g e = grind arith

@@ -1,18 +1,19 @@
 -- Each way in which rows are made keeps the profiles.
-use Rattle.std.proofs.Common.{subst, ◌≡◌, ℕ, ◌+◌, Bool, true, false, List, [], ◌∷◌, reverse, map, Option, Some, None, Ok, Err, refl, sym, ap, ◌∙◌, ⊎_elim, arith}
+use Rattle.std.proofs.Common.{◌≡◌, ℕ, ◌+◌, Bool, true, false, List, [], ◌∷◌, reverse, map, Option, Some, None, Ok, refl, ap, ◌∙◌, arith, subst, Err, sym, ⊎_elim}
 use Rattle.std.specs.Prelude.{◌==◌, not, filter}
-use Rattle.std.proofs.lemmas.Bool.{cases_Bool}
-use Rattle.std.proofs.lemmas.Option.{same_Some}
 use Rattle.b67_word.specs.declared.couples.Place.{Place}
 use Rattle.b67_model.specs.declared.operators.Op.{Op}
 use Rattle.b67_model.specs.declared.operators.Op.TheVariants.{Valc, Namc, Lt8, Lt16, Lt48, Mpcw, Brun, Brtr, Brfl, Bset, Brst, Isol, Insr, Plain}
 use Rattle.b67_model.specs.declared.operators.Code.{Code}
 use Rattle.b67_model.specs.declared.operators.Code.TheVariants as codes
-use Rattle.b67_model.specs.Common.{Answer, ◌>>=◌, add, subt, mult, idiv, rdiv, less, greq, grtr, lseq, equl, neql, land, lor, leqv, same, chsn, lnot, bset, brst, isol, insr, Word, Operand, Name, operand, Array, Frame, Standing, Marked, Entered, Return, Task, Job, OperatorContext, with_task, below_top, with_top_cells, with_cell_of, End, AtCell, AtElement, AtArray, AtProc, AtIntrinsic, chase, follow, follow_reference, with_number, with_element, indexed, in_order, Line, Value, Done, Goes, Leaves, Waits, top_of, cells_of, result, with_cells, leaves_cells, pushes, without_arrays_of, accident, needs_level, back_to, evaluates, enters, left, leaves, returnable, returned, retn_word, answered, print, CellRow, on_one, on_two, dlet, exch, dupl, on_cells, branches, branch_if, stff, load_at, load, indx, nxlv, store_at, store, entr_at, entr_with, entr, plain, row, called_at, called_by, called_on, called}
-use Rattle.b67_model.specs.Words.{whole}
+use Rattle.b67_model.specs.Common.{Answer, ◌>>=◌, same, bset, brst, isol, insr, Word, Operand, Name, operand, Array, Frame, Standing, Marked, Entered, Return, Task, Job, OperatorContext, with_task, below_top, with_top_cells, with_cell_of, End, AtCell, AtElement, AtArray, AtProc, AtIntrinsic, chase, follow, follow_reference, with_number, with_element, Line, Done, Goes, Leaves, Waits, top_of, cells_of, result, with_cells, leaves_cells, pushes, without_arrays_of, accident, needs_level, back_to, evaluates, enters, left, leaves, returnable, returned, retn_word, CellRow, on_one, on_two, on_cells, branches, branch_if, stff, load_at, load, indx, nxlv, store_at, store, entr_at, entr_with, entr, plain, row, called_at, called_by, called_on, called, Class, OnTwo, OnOne, OnCells, Pushes, Idle, Own, class, by_class, indexed, in_order, Value, answered, print}
+use Rattle.b67_law.proofs.Classes.{IsCommon}
 use Rattle.b67_model.specs.Keyed.{keyed, change_keyed}
 use Rattle.b67_law.proofs.Posts.{Post, post_ok, post_err, post_any, post_then, post_at}
 use Rattle.b67_law.specs.Profiles.{Profile, profile, profiles, RowsKeepProfiles}
+use Rattle.std.proofs.lemmas.Bool.{cases_Bool}
+use Rattle.std.proofs.lemmas.Option.{same_Some}
+use Rattle.b67_model.specs.Words.{whole}
 
 -- another task of the same profile in a task's place
 pub profiles_put : (n : ℕ) (t : Task) (ts : List Task) → keyed (λ (p : Profile). p.number) n (profiles ts) ≡ Some (profile t)
@@ -149,6 +150,14 @@ module _ (none : Type 0) (first : List Profile) (own : Profile) (known : keyed (
   entr_good : (h : OperatorContext) (standing : Standing) → Source h → called_on h standing ≡ None → Good (entr h standing)
   entr_good h standing s e = grind (arith, entr_with_good)
 
+  class_good : (c : Class) (h : OperatorContext) → IsCommon c → Source h → Good (by_class c h)
+  class_good (OnTwo f) h common s = on_cells_good (on_two f) h s
+  class_good (OnOne f) h common s = on_cells_good (on_one f) h s
+  class_good (OnCells f) h common s = on_cells_good f h s
+  class_good (Pushes n) h common s = push_good h _ None s
+  class_good Idle h common s = cells_good h _ None s
+  class_good (Own row) h common s = absurd common
+
   plain_good : (code : Code) (h : OperatorContext) → Source h → called (Plain code) h ≡ None → Good (plain code h)
   plain_good codes.Exit h s e = leaves_good h (top_of h).standing _ s (λ k value from. result_good k k.job k.task [] None from.tasks from.task from.arrays)
   plain_good codes.Retn h s e = retn_good h (top_of h).standing (cells_of h) s
@@ -158,35 +167,12 @@ module _ (none : Type 0) (first : List Profile) (own : Profile) (known : keyed (
   plain_good codes.Mkst h s e =
       let marked : Frame = record { identity = h.job.next_frame; standing = Marked; cells = [] } in
       result_good h (record h.job { next_frame = h.job.next_frame + 1 }) (record h.task { frames = marked ∷ h.task.frames }) [] None s.tasks s.task s.arrays
-  plain_good codes.Zero h s e = push_good h _ None s
-  plain_good codes.One h s e = push_good h _ None s
-  plain_good codes.Push h s e = cells_good h _ None s
-  plain_good codes.Noop h s e = cells_good h _ None s
   plain_good codes.Stod h s e = store_good false h (cells_of h) s
   plain_good codes.Ston h s e = store_good true h (cells_of h) s
   plain_good codes.Load h s e = load_good h (cells_of h) s
   plain_good codes.Nvld h s e = post_err Keeps _
-  plain_good codes.Add h s e = on_cells_good (on_two add) h s
-  plain_good codes.Subt h s e = on_cells_good (on_two subt) h s
-  plain_good codes.Mult h s e = on_cells_good (on_two mult) h s
-  plain_good codes.Idiv h s e = on_cells_good (on_two idiv) h s
-  plain_good codes.Rdiv h s e = on_cells_good (on_two rdiv) h s
-  plain_good codes.Less h s e = on_cells_good (on_two less) h s
-  plain_good codes.Greq h s e = on_cells_good (on_two greq) h s
-  plain_good codes.Grtr h s e = on_cells_good (on_two grtr) h s
-  plain_good codes.Lseq h s e = on_cells_good (on_two lseq) h s
-  plain_good codes.Equl h s e = on_cells_good (on_two equl) h s
-  plain_good codes.Neql h s e = on_cells_good (on_two neql) h s
-  plain_good codes.Land h s e = on_cells_good (on_two land) h s
-  plain_good codes.Lor h s e = on_cells_good (on_two lor) h s
-  plain_good codes.Leqv h s e = on_cells_good (on_two leqv) h s
-  plain_good codes.Same h s e = on_cells_good (on_two same) h s
-  plain_good codes.Chsn h s e = on_cells_good (on_one chsn) h s
-  plain_good codes.Lnot h s e = on_cells_good (on_one lnot) h s
-  plain_good codes.Dlet h s e = on_cells_good dlet h s
-  plain_good codes.Exch h s e = on_cells_good exch h s
-  plain_good codes.Dupl h s e = on_cells_good dupl h s
   plain_good codes.Stff h s e = on_cells_good (stff h) h s
+  plain_good code h s e = class_good (class code) h tt s
 
   row_good : (op : Op) (h : OperatorContext) → Source h → called op h ≡ None → Good (row op h)
   row_good (Valc couple) h s e = post_any Keeps (chase h (Name couple)) _ (λ end. evaluates_good h end s)

@@ -15,6 +15,7 @@ pub mod RowSteps
 pub mod Entries
 pub mod Returns
 pub mod Cells
+pub mod Classes
 pub mod Stores
 pub mod Bounds
 pub mod Cuts

@@ -5,7 +5,8 @@ use Rattle.b67_model.specs.declared.operators.Op.{Op}
 use Rattle.b67_model.specs.declared.operators.Op.TheVariants.{Valc, Namc, Lt8, Lt16, Lt48, Mpcw, Brun, Brtr, Brfl, Bset, Brst, Isol, Insr, Plain}
 use Rattle.b67_model.specs.declared.operators.Code.{Code}
 use Rattle.b67_model.specs.declared.operators.Code.TheVariants as codes
-use Rattle.b67_model.specs.Common.{Answer, needs, Binary, add, subt, mult, idiv, rdiv, less, greq, grtr, lseq, equl, neql, land, lor, leqv, same, chsn, lnot, bset, brst, isol, insr, Word, Operand, Name, Ref, Row, Element, Original, operand, Return, Frame, Standing, Marked, Entered, Task, OperatorContext, top, below_top, with_task, called, called_on, called_by, called_at, with_cell, element, with_element, with_array, all_zero, resized, indexed, in_order, End, AtCell, AtElement, AtArray, AtProc, AtIntrinsic, chase, follow, Line, Done, Goes, top_of, cells_of, with_cells, leaves_cells, pushes, back_to, needs_level, answered, answers, array_length, arraydec, print, row_copy, printrow, read, child_of, starts, process, awaits, await, status, waits_at, wait, causes, cause, needs_writable, deallocate, resize, intrinsic, on_one, on_two, dlet, exch, dupl, on_cells, branches, branch_if, stff, load_at, load, indx, nxlv, store_at, store, entr_at, entr_with, entr, proc_of, plain, row, place_of, cell, follow_reference, stff_word}
+use Rattle.b67_model.specs.Common.{Answer, needs, Binary, bset, brst, isol, insr, Word, Operand, Name, Ref, Row, Element, Original, operand, Return, Frame, Standing, Marked, Entered, Task, OperatorContext, top, below_top, with_task, called, called_on, called_by, called_at, with_cell, element, with_element, with_array, all_zero, resized, indexed, in_order, End, AtCell, AtElement, AtArray, AtProc, AtIntrinsic, chase, follow, Line, Done, Goes, top_of, cells_of, with_cells, leaves_cells, pushes, back_to, needs_level, answered, answers, array_length, arraydec, print, row_copy, printrow, read, child_of, starts, process, awaits, await, status, waits_at, wait, causes, cause, needs_writable, deallocate, resize, intrinsic, on_one, on_two, dlet, exch, dupl, on_cells, branches, branch_if, stff, load_at, load, indx, nxlv, store_at, store, entr_at, entr_with, entr, proc_of, plain, row, place_of, cell, follow_reference, stff_word, Class, OnTwo, OnOne, OnCells, Pushes, Idle, Own, class, by_class}
+use Rattle.b67_law.proofs.Classes.{IsOnOperands}
 use Rattle.b67_lemmas.specs.Lists.{Has}
 use Rattle.b67_lemmas.proofs.Members.{has_reverse_back}
 use Rattle.b67_model.specs.Words.{whole}
@@ -244,24 +245,15 @@ module _ (op : Op) (h : OperatorContext) (found : Task) (live : Has h.job.tasks 
   on_two_good : (f : Binary) → Ok' (on_cells (on_two f) h)
   on_two_good f = S.on_cells_good (WordOf op h) (MarkOf op h) operands h (on_two f) source (S.two_keeps (WordOf op h) (MarkOf op h) operands f)
 
+  by_common : (c : Class) → IsOnOperands c → Ok' (by_class c h)
+  by_common (OnTwo f) common = on_two_good f
+  by_common (OnOne f) common = on_one_good f
+  by_common (OnCells f) common = absurd common
+  by_common (Pushes n) common = push (Operand n) (inr tt)
+  by_common Idle common = still
+  by_common (Own row) common = absurd common
+
   by_code : (code : Code) → op ≡ Plain code → Ok' (plain code h)
-  by_code codes.Add e = on_two_good add
-  by_code codes.Subt e = on_two_good subt
-  by_code codes.Mult e = on_two_good mult
-  by_code codes.Idiv e = on_two_good idiv
-  by_code codes.Rdiv e = on_two_good rdiv
-  by_code codes.Less e = on_two_good less
-  by_code codes.Greq e = on_two_good greq
-  by_code codes.Grtr e = on_two_good grtr
-  by_code codes.Lseq e = on_two_good lseq
-  by_code codes.Equl e = on_two_good equl
-  by_code codes.Neql e = on_two_good neql
-  by_code codes.Chsn e = on_one_good chsn
-  by_code codes.Land e = on_two_good land
-  by_code codes.Lor e = on_two_good lor
-  by_code codes.Leqv e = on_two_good leqv
-  by_code codes.Lnot e = on_one_good lnot
-  by_code codes.Same e = on_two_good same
   by_code codes.Exit e = S.exit_good (WordOf op h) (MarkOf op h) operands h source
   by_code codes.Indx e = indx_good (WordOf op h) (MarkOf op h) operands h (cells_of h) source (λ a index. inr e) words'
   by_code codes.Retn e = S.retn_good (WordOf op h) (MarkOf op h) operands h (top_of h).standing (cells_of h) source (enters_by (λ level environment back. by_retn e)) words'
@@ -269,17 +261,14 @@ module _ (op : Op) (h : OperatorContext) (found : Task) (live : Has h.job.tasks 
   by_code codes.Nxlv e = nxlv_good (WordOf op h) (MarkOf op h) operands h (cells_of h) source words'
   by_code codes.Mkst e = S.mkst_good (WordOf op h) (MarkOf op h) operands h source (λ n. inr (by_mkst e))
   by_code codes.Stff e = S.on_cells_good (WordOf op h) (MarkOf op h) operands h (stff h) source (stff_keeps (WordOf op h) (MarkOf op h) operands h (λ f offset. inr e))
-  by_code codes.Zero e = push (Operand 0) (inr tt)
-  by_code codes.One e = push (Operand 1) (inr tt)
-  by_code codes.Push e = still
   by_code codes.Dlet e = S.on_cells_good (WordOf op h) (MarkOf op h) operands h dlet source (S.dlet_keeps (WordOf op h) (MarkOf op h) operands)
   by_code codes.Exch e = S.on_cells_good (WordOf op h) (MarkOf op h) operands h exch source (S.exch_keeps (WordOf op h) (MarkOf op h) operands)
   by_code codes.Dupl e = S.on_cells_good (WordOf op h) (MarkOf op h) operands h dupl source (S.dupl_keeps (WordOf op h) (MarkOf op h) operands)
   by_code codes.Stod e = store_good (WordOf op h) (MarkOf op h) operands false h (cells_of h) source (enters_by (λ level environment back. by_stod e)) words'
   by_code codes.Ston e = store_good (WordOf op h) (MarkOf op h) operands true h (cells_of h) source (enters_by (λ level environment back. by_ston e)) words'
   by_code codes.Load e = load_good (WordOf op h) (MarkOf op h) operands h (cells_of h) source (enters_by (λ level environment back. by_load e)) (λ a. inr e) words'
-  by_code codes.Noop e = still
   by_code codes.Nvld e = post_err (S.Kept (WordOf op h) (MarkOf op h) operands) _
+  by_code code e = by_common (class code) tt
 
   by_op : (o : Op) → op ≡ o → Ok' (row o h)
   by_op (Valc couple) e = post_any (S.Kept (WordOf op h) (MarkOf op h) operands) (chase h (Name couple)) _ (λ end. S.evaluates_good (WordOf op h) (MarkOf op h) operands h end source (enters_by (λ level environment back. by_valc couple e)))

@@ -1,11 +1,14 @@
 -- What is read of code: the operators' parameters have their bits, and places fit.
-use Rattle.std.proofs.Common.{ℕ, ◌+◌, ◌-◌, ◌*◌, ◌/◌, ◌%◌, ◌^◌, ◌<◌, eqb, ltb, leb, List, [], ◌∷◌, length, Option, Some, None, Ok, Err, inl, inr, arith, ◌&&◌}
+use Rattle.std.proofs.Common.{ℕ, ◌+◌, ◌-◌, ◌*◌, ◌/◌, ◌%◌, ◌^◌, ◌<◌, eqb, ltb, leb, List, [], ◌∷◌, length, map, drop, Option, Some, None, Ok, Err, inl, inr, arith, ◌&&◌}
 use Rattle.std.specs.List.{AllByRecursion}
 use Rattle.std.proofs.lemmas.Bool.{cases_Bool, leb-true, ltb-true}
 use Rattle.b67_word.specs.declared.couples.Place.{Place}
 use Rattle.b67_model.specs.declared.operators.Op.{Op}
 use Rattle.b67_model.specs.declared.operators.Op.TheVariants.{Valc, Namc, Lt8, Lt16, Lt48, Brun, Brtr, Brfl, Plain}
-use Rattle.b67_model.specs.Operators.{Form, Alone, OneMore, TwoMore, Literal, operators, form_in, form_of, syllable, count_at, Reading, reads, operator_at}
+use Rattle.b67_model.specs.declared.operators.Mnemonic.{Mnemonic}
+use Rattle.b67_model.specs.declared.operators.Mnemonic.TheVariants as names
+use Rattle.b67_model.specs.declared.operators.TheConstants.{OPERATORS}
+use Rattle.b67_model.specs.Operators.{form_of_name, Form, Alone, OneMore, TwoMore, Literal, operators, form_in, form_of, syllable, count_at, Reading, reads, operator_at}
 use Rattle.b67_law.proofs.RowSteps.{number_low}
 
 -- a place that fits the fields of a control word
@@ -34,8 +37,25 @@ abbrev SomeFits : Option Form → Type 0
 SomeFits None = Unit {0}
 SomeFits (Some form) = FormFits form
 
-table_fits : AllByRecursion (λ (row : ℕ × Form). FormFits row.1) operators
-table_fits = (tt, (tt, (tt, (tt, (tt, (tt, (tt, (tt, (tt, (tt, (tt, (tt, (tt, (tt, (tt, (tt, (tt, ((λ low l. tt), ((λ high low h l. tt), ((λ high low h l. tt), ((λ low l. tt), ((λ high low h l. (omega (arith, h, l), omega (arith, h))), ((λ high low h l. (omega (arith, h, l), omega (arith, h))), ((λ high low h l. (omega (arith, h, l), omega (arith, h))), (tt, (tt, (tt, (tt, (tt, (tt, (tt, (tt, (tt, ((λ low l. omega (arith, l)), ((λ high low h l. omega (arith, h, l)), (tt, (tt, (tt, (tt, (tt, (tt, (tt, ((λ w l. l), ((λ w l. tt), (tt, (tt, tt))))))))))))))))))))))))))))))))))))))))))))))
+name_fits : (name : Mnemonic) → FormFits (form_of_name name)
+name_fits (names.Plain code) = tt
+name_fits names.Valc = λ low l. omega (arith, l)
+name_fits names.Namc = λ low l. omega (arith, l)
+name_fits names.Brun = λ high low h l. (omega (arith, h, l), omega (arith, h))
+name_fits names.Brtr = λ high low h l. (omega (arith, h, l), omega (arith, h))
+name_fits names.Brfl = λ high low h l. (omega (arith, h, l), omega (arith, h))
+name_fits names.Lt8 = λ low l. omega (arith, l)
+name_fits names.Lt16 = λ high low h l. omega (arith, h, l)
+name_fits names.Lt48 = λ w l. l
+name_fits names.Mpcw = λ w l. tt
+name_fits names.Bset = λ low l. tt
+name_fits names.Brst = λ low l. tt
+name_fits names.Isol = λ high low h l. tt
+name_fits names.Insr = λ high low h l. tt
+
+table_fits : {A : Type 0} (rows : List (ℕ × A × Mnemonic)) → AllByRecursion (λ (row : ℕ × Form). FormFits row.1) (map (λ row. (row.0, form_of_name row.2)) rows)
+table_fits [] = tt
+table_fits (row ∷ rows) = (name_fits row.2, table_fits rows)
 
 form_in_fits : (rows : List (ℕ × Form)) (first : ℕ) → AllByRecursion (λ (row : ℕ × Form). FormFits row.1) rows → SomeFits (form_in rows first)
 form_in_fits [] first all = tt
@@ -46,7 +66,7 @@ form_fits first = elim (cases_Bool (ltb first 64)) [
   | inl t ↦ let low = ltb-true first 64 t in rw t (λ l h. omega (arith, low, h))
   | inr t ↦ rw t (elim (cases_Bool (ltb first 128)) [
     | inl u ↦ let low = ltb-true first 128 u in rw u (λ l h. omega (arith, low, h))
-    | inr u ↦ rw u (form_in_fits operators first table_fits)
+    | inr u ↦ rw u (form_in_fits operators first (table_fits (drop 2 OPERATORS)))
   ])
 ]
 

@@ -1,26 +1,25 @@
 -- Every row keeps order.
-use Rattle.std.proofs.Common.{◌≡◌, ℕ, ◌+◌, ◌^◌, ◌<◌, ◌≤◌, true, false, not, cond, eqb, leb, List, [], ◌∷◌, ◌++◌, reverse, length, None, Ok, refl, sym, ap, ◌∙◌, subst, arith, ltb, ◌/◌, ◌%◌, ◌+ℤ◌, ◌*ℤ◌, neg_ℤ}
+use Rattle.std.proofs.Common.{◌≡◌, ℕ, ◌+◌, ◌^◌, ◌<◌, ◌≤◌, true, false, not, cond, eqb, leb, List, [], ◌∷◌, ◌++◌, reverse, length, None, refl, sym, ap, ◌∙◌, subst, arith, ltb, ◌/◌, ◌%◌, ◌+ℤ◌, ◌*ℤ◌}
 use Rattle.std.specs.List.{list_any}
 use Rattle.std.proofs.lemmas.Bool.{leb-true, not-true, ltb-true}
 use Rattle.b67_lemmas.specs.Lists.{Has}
 use Rattle.b67_lemmas.proofs.Members.{all_from, all_in, any_none, has_reverse_back, none_pass, reverse_cons, total_append, total_reverse}
 use Rattle.b67_model.specs.Words as Words
-use Rattle.b67_model.specs.Common.{Word, Operand, Name, Ref, Row, Element, Original, Proc, Intrinsic, Standing, Marked, Entered, OperatorContext, frame, level_of_frame, running, array, End, AtCell, AtElement, AtArray, AtProc, AtIntrinsic, follow_reference, top_of, cells_of, leaves_cells, pushes, is_critical, is_original, Starts, WordInOrder, CopiesAbove, NoCopyUnder, is_original_of, operand, Binary, on_two, dlet, exch, dupl, on_cells, branches, stff, answered, arraydec, print, printrow, read, child_of, starts, row_copy, process, await, status, wait, cause, deallocate, resize, number, is_copy_of, intrinsic, entr_at, entr_with, entr, is_proc, proc_of, plain, row, on_numbers, divided, chsn, lnot, bset, brst, isol, insr, may_be_last}
+use Rattle.b67_model.specs.Common.{Word, Operand, Name, Ref, Row, Element, Original, Proc, Intrinsic, Standing, Marked, OperatorContext, frame, level_of_frame, running, End, AtCell, AtElement, AtArray, AtProc, AtIntrinsic, follow_reference, top_of, cells_of, leaves_cells, pushes, is_critical, is_original, Starts, WordInOrder, CopiesAbove, is_original_of, operand, on_one, on_two, dlet, exch, dupl, branches, stff, answered, arraydec, print, printrow, read, child_of, starts, row_copy, process, await, status, wait, cause, deallocate, resize, number, intrinsic, entr_at, entr_with, entr, is_proc, proc_of, plain, row, bset, brst, isol, insr, may_be_last, Class, OnTwo, OnOne, OnCells, Pushes, Idle, Own, class, by_class, Entered, array, NoCopyUnder, is_copy_of}
+use Rattle.b67_law.proofs.Classes.{IsOnOperands}
 use Rattle.b67_law.proofs.Looks.{Run, reach}
 use Rattle.b67_law.specs.Ends.{EndInOrder}
-use Rattle.b67_law.proofs.Posts.{Post, post_ok, post_err, post_bind, post_needs, post_if, post_if_is, post_more, post_both, post_any_at}
+use Rattle.b67_law.proofs.Posts.{Post, post_err, post_bind, post_needs, post_if, post_if_is, post_more, post_both, post_any_at, post_ok}
 use Rattle.b67_law.proofs.RowSteps.{Keeps, Good, Fit, AllFit, originals, own_fit, own_copies, result_good, cells_good, push_good, mkst_good}
 use Rattle.b67_model.specs.Words.{whole}
 use Rattle.b67_law.proofs.Cuts.{Cut, answers_operand, print_good, printrow_good, status_good, await_good}
-use Rattle.b67_law.proofs.Bounds.{bits_low}
 use Rattle.b67_law.proofs.Chases.{follow_reference_in}
-use Rattle.b67_law.proofs.Cells.{plain_word, operand_plain, two_plain, followed, Followed, Fits2, run_at, on_cells_good, one_keeps, two_keeps, dlet_keeps, exch_keeps, dupl_keeps, stff_keeps, go_good, branch_good, valc_good, load_good, indx_good, nxlv_good}
+use Rattle.b67_law.proofs.Cells.{plain_word, operand_plain, two_plain, Followed, run_at, on_cells_good, one_keeps, two_keeps, dlet_keeps, exch_keeps, dupl_keeps, stff_keeps, go_good, branch_good, valc_good, load_good, indx_good, nxlv_good, followed}
 use Rattle.std.proofs.lemmas.List.{reverse-reverse}
 use Rattle.b67_model.specs.declared.operators.Op.{Op}
 use Rattle.b67_model.specs.declared.operators.Op.TheVariants.{Valc, Namc, Lt8, Lt16, Lt48, Mpcw, Brun, Brtr, Brfl, Bset, Brst, Isol, Insr, Plain}
 use Rattle.b67_model.specs.declared.operators.Code.{Code}
 use Rattle.b67_model.specs.declared.operators.Code.TheVariants as codes
-use Rattle.std.specs.Prelude.{int_div, int_rem}
 use Rattle.b67_law.specs.Parameters.{ParametersFit}
 use Rattle.b67_law.specs.Keeping.{AfterFits}
 use Rattle.b67_law.proofs.Cells as Cells
@@ -31,6 +30,7 @@ use Rattle.b67_law.proofs.Returns.{exit_good, retn_good}
 use Rattle.b67_law.proofs.Calls.{read_good, wait_good, cause_good, arraydec_good}
 use Rattle.b67_law.proofs.Lengths.{deallocate_good, resizes_good}
 use Rattle.b67_law.proofs.Children.{started_good}
+use Rattle.b67_law.proofs.Bounds.{bits_low}
 
 above_left : (xs ys : List Word) → CopiesAbove (xs ++ ys) → CopiesAbove xs
 above_left [] ys g = tt
@@ -159,33 +159,21 @@ module _ (P : Starts) (h : OperatorContext) (start : Run P (branches h h.at)) (n
   on_good : (code : Code) → AfterFits P h (Plain code) → may_be_last (Plain code) ≡ false → Run P h
   on_good code after goes = run_at P (branches h h.at) h.task.place start (after goes)
 
-  two_good : (code : Code) (f : Binary) → Fits2 f → AfterFits P h (Plain code) → may_be_last (Plain code) ≡ false → Good P h (on_cells (on_two f) h)
-  two_good code f fits after goes = on_cells_good P h (on_two f) (on_good code after goes) (two_keeps P h f fits)
-
   push_operand : (bits : ℕ) → bits < 2 ^ 48 → Run P h → Good P h (pushes h (Operand bits) None)
   push_operand bits low run = push_good P h (Operand bits) None run low (λ n. refl)
 
   still_good : Run P h → Good P h (leaves_cells h (cells_of h) None)
   still_good run = cells_good P h (cells_of h) None run (own_fit P h run) (own_copies P h run) (λ n. refl)
 
+  class_good : (c : Class) → Bounds.ClassFits c → IsOnOperands c → Run P h → Good P h (by_class c h)
+  class_good (OnTwo f) fits common run = on_cells_good P h (on_two f) run (two_keeps P h f fits)
+  class_good (OnOne f) fits common run = on_cells_good P h (on_one f) run (one_keeps P h f fits)
+  class_good (OnCells f) fits common run = absurd common
+  class_good (Pushes n) fits common run = push_operand n fits run
+  class_good Idle fits common run = still_good run
+  class_good (Own row) fits common run = absurd common
+
   plain_good : (code : Code) → AfterFits P h (Plain code) → Good P h (plain code h)
-  plain_good codes.Add after = two_good codes.Add (on_numbers (λ x y. Ok (x +ℤ y))) (Bounds.numbers_fit (λ x y. Ok (x +ℤ y))) after refl
-  plain_good codes.Subt after = two_good codes.Subt (on_numbers (λ x y. Ok (x +ℤ neg_ℤ y))) (Bounds.numbers_fit (λ x y. Ok (x +ℤ neg_ℤ y))) after refl
-  plain_good codes.Mult after = two_good codes.Mult (on_numbers (λ x y. Ok (x *ℤ y))) (Bounds.numbers_fit (λ x y. Ok (x *ℤ y))) after refl
-  plain_good codes.Idiv after = two_good codes.Idiv (on_numbers (divided int_div)) (Bounds.numbers_fit (divided int_div)) after refl
-  plain_good codes.Rdiv after = two_good codes.Rdiv (on_numbers (divided int_rem)) (Bounds.numbers_fit (divided int_rem)) after refl
-  plain_good codes.Less after = two_good codes.Less _ (Bounds.compared_fit _) after refl
-  plain_good codes.Greq after = two_good codes.Greq _ (Bounds.compared_fit _) after refl
-  plain_good codes.Grtr after = two_good codes.Grtr _ (Bounds.compared_fit _) after refl
-  plain_good codes.Lseq after = two_good codes.Lseq _ (Bounds.compared_fit _) after refl
-  plain_good codes.Equl after = two_good codes.Equl _ (Bounds.compared_fit _) after refl
-  plain_good codes.Neql after = two_good codes.Neql _ (Bounds.compared_fit _) after refl
-  plain_good codes.Chsn after = on_cells_good P h _ (on_good codes.Chsn after refl) (one_keeps P h chsn Bounds.chsn_fits)
-  plain_good codes.Land after = two_good codes.Land _ Bounds.land_fits after refl
-  plain_good codes.Lor after = two_good codes.Lor _ Bounds.lor_fits after refl
-  plain_good codes.Leqv after = two_good codes.Leqv _ Bounds.leqv_fits after refl
-  plain_good codes.Lnot after = on_cells_good P h _ (on_good codes.Lnot after refl) (one_keeps P h lnot Bounds.lnot_fits)
-  plain_good codes.Same after = two_good codes.Same _ Bounds.same_fits after refl
   plain_good codes.Exit after = exit_good P (branches h h.at) start
   plain_good codes.Indx after = indx_good P h (cells_of h) (on_good codes.Indx after refl) refl
   plain_good codes.Retn after = retn_good P (branches h h.at) start
@@ -193,17 +181,14 @@ module _ (P : Starts) (h : OperatorContext) (start : Run P (branches h h.at)) (n
   plain_good codes.Nxlv after = nxlv_good P h (cells_of h) (on_good codes.Nxlv after refl) refl
   plain_good codes.Mkst after = mkst_good P h (on_good codes.Mkst after refl)
   plain_good codes.Stff after = on_cells_good P h (stff h) (on_good codes.Stff after refl) (stff_keeps P h (on_good codes.Stff after refl))
-  plain_good codes.Zero after = push_operand 0 (omega arith) (on_good codes.Zero after refl)
-  plain_good codes.One after = push_operand 1 (omega arith) (on_good codes.One after refl)
-  plain_good codes.Push after = still_good (on_good codes.Push after refl)
   plain_good codes.Dlet after = on_cells_good P h dlet (on_good codes.Dlet after refl) (dlet_keeps P h)
   plain_good codes.Exch after = on_cells_good P h exch (on_good codes.Exch after refl) (exch_keeps P h)
   plain_good codes.Dupl after = on_cells_good P h dupl (on_good codes.Dupl after refl) (dupl_keeps P h)
   plain_good codes.Stod after = store_good P false h (cells_of h) (on_good codes.Stod after refl) start.place refl
   plain_good codes.Ston after = store_good P true h (cells_of h) (on_good codes.Ston after refl) start.place refl
   plain_good codes.Load after = load_good P h (cells_of h) (on_good codes.Load after refl) start.place refl
-  plain_good codes.Noop after = still_good (on_good codes.Noop after refl)
   plain_good codes.Nvld after = post_err (Keeps P h) _
+  plain_good code after = class_good (class code) (Bounds.class_fits code) tt (on_good code after refl)
 
   -- the operators but plain ones go on after themselves, or by a branch
   on : P h.task.segment (level_of_frame (running h.task.frames)) h.task.place → Run P h

@@ -7,7 +7,7 @@ use Rattle.std.proofs.lemmas.Bool.{ltb-true}
 use Rattle.std.proofs.lemmas.Option.{none-some}
 use Rattle.b67_model.specs.Program.{Program}
 use Rattle.b67_model_text.specs.declared.card.Card.{Card}
-use Rattle.b67_model_text.specs.declared.assembly.Mnemonic.{Mnemonic}
+use Rattle.b67_model.specs.declared.operators.Mnemonic.{Mnemonic}
 use Rattle.b67_model_text.specs.declared.assembly.Sketch as sketch
 use Rattle.b67_model_text.specs.declared.assembly.Statement as statement
 use Rattle.b67_model_text.specs.declared.assembly.Statement.TheVariants as statements

@@ -8,7 +8,8 @@ use Rattle.b67_model.specs.declared.operators.Op.{Op}
 use Rattle.b67_model.specs.declared.operators.Op.TheVariants.{Valc, Namc, Lt8, Lt16, Lt48, Mpcw, Brun, Brtr, Brfl, Bset, Brst, Isol, Insr, Plain}
 use Rattle.b67_model.specs.declared.operators.Code.{Code}
 use Rattle.b67_model.specs.declared.operators.Code.TheVariants as codes
-use Rattle.b67_model.specs.Common.{Answer, needs, add, subt, mult, idiv, rdiv, less, greq, grtr, lseq, equl, neql, land, lor, leqv, same, chsn, lnot, bset, brst, isol, insr, Word, Operand, Name, Original, operand, Standing, Marked, Entered, Return, Array, Task, Job, OperatorContext, below_top, top, element, with_array, indexed, in_order, End, AtCell, AtElement, AtArray, AtProc, AtIntrinsic, chase, follow, follow_reference, Line, Done, Goes, Leaves, Waits, top_of, cells_of, result, with_cells, leaves_cells, pushes, accident, needs_level, evaluates, enters, left, leaves, returnable, returned, retn_word, answered, needs_free, answers, array_length, arraydec, print, row_copy, printrow, read, child_of, starts, process, awaits, await, status, waits_at, wait, causes, cause, deallocate, resize, intrinsic, CellRow, on_one, on_two, dlet, exch, dupl, on_cells, branches, branch_if, stff, load_at, load, indx, nxlv, store_at, store, entr_at, entr_with, entr, proc_of, plain, row, array}
+use Rattle.b67_model.specs.Common.{Answer, needs, same, bset, brst, isol, insr, Word, Operand, Name, Original, operand, Standing, Marked, Entered, Return, Array, Task, Job, OperatorContext, below_top, top, element, with_array, indexed, in_order, End, AtCell, AtElement, AtArray, AtProc, AtIntrinsic, chase, follow, follow_reference, Line, Done, Goes, Leaves, Waits, top_of, cells_of, result, with_cells, leaves_cells, pushes, accident, needs_level, evaluates, enters, left, leaves, returnable, returned, retn_word, answered, needs_free, answers, array_length, arraydec, print, row_copy, printrow, read, child_of, starts, process, awaits, await, status, waits_at, wait, causes, cause, deallocate, resize, intrinsic, CellRow, on_one, on_two, on_cells, branches, branch_if, stff, load_at, load, indx, nxlv, store_at, store, entr_at, entr_with, entr, proc_of, plain, row, array, Class, OnTwo, OnOne, OnCells, Pushes, Idle, Own, class, by_class}
+use Rattle.b67_law.proofs.Classes.{IsCommon}
 use Rattle.b67_model.specs.Keyed.{change_keyed}
 use Rattle.b67_lemmas.specs.Lists.{Has}
 use Rattle.b67_lemmas.proofs.Members.{any_some, has_reverse_back}
@@ -229,6 +230,14 @@ module _ (T : ℕ → Type 0) (first : List Array) (keeps : Type 0) where
   entr_good h Marked s = entr_with_good h (reverse (cells_of h)) s (λ w k. own_names h s w (has_reverse_back (cells_of h) w k))
   entr_good h (Entered level environment back) s = post_err Keeps _
 
+  class_good : (c : Class) (h : OperatorContext) → IsCommon c → Source h → Good (by_class c h)
+  class_good (OnTwo f) h common s = on_cells_good (on_two f) h s
+  class_good (OnOne f) h common s = on_cells_good (on_one f) h s
+  class_good (OnCells f) h common s = on_cells_good f h s
+  class_good (Pushes n) h common s = push_good h _ s
+  class_good Idle h common s = cells_good h _ None s tt
+  class_good (Own row) h common s = absurd common
+
   -- an operator whose step keeps the arrays leaves no record
   plain_good : (code : Code) (h : OperatorContext) → Source h → (keeps → is_leaving (Plain code) ≡ false) → Good (plain code h)
   plain_good codes.Exit h s e = leaves_good h (top_of h).standing _ (λ back. let k = left_source h back s (λ x. let f = e x in absurd cc) in result_good (left h back) (left h back).job (left h back).task [] None tt k.arrays)
@@ -237,35 +246,12 @@ module _ (T : ℕ → Type 0) (first : List Array) (keeps : Type 0) where
   plain_good codes.Indx h s e = indx_good h (cells_of h) s
   plain_good codes.Nxlv h s e = nxlv_good h (cells_of h) s (own_names h s)
   plain_good codes.Mkst h s e = grind arith
-  plain_good codes.Zero h s e = push_good h _ s
-  plain_good codes.One h s e = push_good h _ s
-  plain_good codes.Push h s e = cells_good h _ None s tt
-  plain_good codes.Noop h s e = cells_good h _ None s tt
   plain_good codes.Stod h s e = store_good false h (cells_of h) s (own_names h s)
   plain_good codes.Ston h s e = store_good true h (cells_of h) s (own_names h s)
   plain_good codes.Load h s e = load_good h (cells_of h) s (own_names h s)
   plain_good codes.Nvld h s e = post_err Keeps _
-  plain_good codes.Add h s e = on_cells_good (on_two add) h s
-  plain_good codes.Subt h s e = on_cells_good (on_two subt) h s
-  plain_good codes.Mult h s e = on_cells_good (on_two mult) h s
-  plain_good codes.Idiv h s e = on_cells_good (on_two idiv) h s
-  plain_good codes.Rdiv h s e = on_cells_good (on_two rdiv) h s
-  plain_good codes.Less h s e = on_cells_good (on_two less) h s
-  plain_good codes.Greq h s e = on_cells_good (on_two greq) h s
-  plain_good codes.Grtr h s e = on_cells_good (on_two grtr) h s
-  plain_good codes.Lseq h s e = on_cells_good (on_two lseq) h s
-  plain_good codes.Equl h s e = on_cells_good (on_two equl) h s
-  plain_good codes.Neql h s e = on_cells_good (on_two neql) h s
-  plain_good codes.Land h s e = on_cells_good (on_two land) h s
-  plain_good codes.Lor h s e = on_cells_good (on_two lor) h s
-  plain_good codes.Leqv h s e = on_cells_good (on_two leqv) h s
-  plain_good codes.Same h s e = on_cells_good (on_two same) h s
-  plain_good codes.Chsn h s e = on_cells_good (on_one chsn) h s
-  plain_good codes.Lnot h s e = on_cells_good (on_one lnot) h s
-  plain_good codes.Dlet h s e = on_cells_good dlet h s
-  plain_good codes.Exch h s e = on_cells_good exch h s
-  plain_good codes.Dupl h s e = on_cells_good dupl h s
   plain_good codes.Stff h s e = on_cells_good (stff h) h s
+  plain_good code h s e = class_good (class code) h tt s
 
   pub row_good : (op : Op) (h : OperatorContext) → Source h → (keeps → is_leaving op ≡ false) → Good (row op h)
   row_good (Valc couple) h s e = post_bind (W.EndNames T) Keeps (chase h (Name couple)) _ (W.chase_names T h s.words (Name couple)) (λ end g. evaluates_good h end s g)

@@ -1,5 +1,5 @@
 -- What is known of an operator that was read.
-use Rattle.std.proofs.Common.{◌≡◌, ℕ, ◌+◌, ◌-◌, ◌*◌, ◌/◌, ◌<◌, ◌≤◌, Bool, true, false, cond, ltb, leb, eqb, ◌&&◌, List, [], ◌∷◌, length, Option, Some, None, Result, Ok, Err, refl, sym, ap, subst, ◌∙◌, arith}
+use Rattle.std.proofs.Common.{◌≡◌, ℕ, ◌+◌, ◌-◌, ◌*◌, ◌/◌, ◌<◌, ◌≤◌, Bool, true, false, cond, ltb, leb, eqb, ◌&&◌, List, [], ◌∷◌, length, map, drop, Option, Some, None, Result, Ok, Err, refl, sym, ap, subst, ◌∙◌, arith}
 use Rattle.std.specs.List.{AllByRecursion}
 use Rattle.std.proofs.lemmas.Bool.{ltb-true, lt-ltb, le-ltb, and_parts}
 use Rattle.b67_word.specs.declared.couples.Place.{Place}
@@ -7,7 +7,10 @@ use Rattle.b67_model.specs.declared.operators.Op.{Op}
 use Rattle.b67_model.specs.declared.operators.Op.TheVariants as op
 use Rattle.b67_model.specs.declared.operators.Undecodable.{Undecodable}
 use Rattle.b67_model.specs.declared.operators.Undecodable.TheVariants.{BadPlace, PastEnd}
-use Rattle.b67_model.specs.Operators.{Form, Alone, OneMore, TwoMore, Literal, Reading, operators, form_in, form_of, syllable, count_at, reads, operator_at}
+use Rattle.b67_model.specs.declared.operators.Mnemonic.{Mnemonic}
+use Rattle.b67_model.specs.declared.operators.Mnemonic.TheVariants as names
+use Rattle.b67_model.specs.declared.operators.TheConstants.{OPERATORS}
+use Rattle.b67_model.specs.Operators.{form_of_name, Form, Alone, OneMore, TwoMore, Literal, Reading, operators, form_in, form_of, syllable, count_at, reads, operator_at}
 use Rattle.b67_load.specs.Listing.{CoupleFits}
 
 -- ---- where the next operator stands
@@ -45,8 +48,28 @@ form_in-fits : (rows : List (ℕ × Form)) (first : ℕ) → AllByRecursion (λ 
 form_in-fits [] first h = tt
 form_in-fits (row ∷ rows) first h = grind (arith, form_in-fits rows first h.1)
 
+name_fits : (name : Mnemonic) → FormFits (form_of_name name)
+name_fits (names.Plain code) = tt
+name_fits names.Valc = λ n lt. omega (arith, lt)
+name_fits names.Namc = λ n lt. omega (arith, lt)
+name_fits names.Brun = λ a b. tt
+name_fits names.Brtr = λ a b. tt
+name_fits names.Brfl = λ a b. tt
+name_fits names.Lt8 = λ n lt. tt
+name_fits names.Lt16 = λ a b. tt
+name_fits names.Lt48 = λ n. tt
+name_fits names.Mpcw = λ n. tt
+name_fits names.Bset = λ n lt. tt
+name_fits names.Brst = λ n lt. tt
+name_fits names.Isol = λ a b. tt
+name_fits names.Insr = λ a b. tt
+
+table_fits : {A : Type 0} (rows : List (ℕ × A × Mnemonic)) → AllByRecursion (λ (row : ℕ × Form). FormFits row.1) (map (λ row. (row.0, form_of_name row.2)) rows)
+table_fits [] = tt
+table_fits (row ∷ rows) = (name_fits row.2, table_fits rows)
+
 operators_fit : AllByRecursion (λ row. FormFits row.1) operators
-operators_fit = (tt, (tt, (tt, (tt, (tt, (tt, (tt, (tt, (tt, (tt, (tt, (tt, (tt, (tt, (tt, (tt, (tt, ((λ n lt. tt), ((λ a b. tt), ((λ a b. tt), ((λ n lt. tt), ((λ a b. tt), ((λ a b. tt), ((λ a b. tt), (tt, (tt, (tt, (tt, (tt, (tt, (tt, (tt, (tt, ((λ n lt. tt), ((λ a b. tt), (tt, (tt, (tt, (tt, (tt, (tt, (tt, ((λ n. tt), ((λ n. tt), (tt, (tt, tt))))))))))))))))))))))))))))))))))))))))))))))
+operators_fit = table_fits (drop 2 OPERATORS)
 
 form_of-fits : (first : ℕ) → AnyFits (form_of first)
 form_of-fits first = valc (ltb first 0x40) refl

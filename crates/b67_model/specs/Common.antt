@@ -21,7 +21,7 @@ pub use Rattle.b67_model.specs.Loader.{At, Break, Entry, IsAdmitted, Listed, Ref
 pub use Rattle.b67_model.specs.Need.{NextFits, StepsFit, area_of, fixed, need, need_at_opening, need_by, need_next, need_of_job, started_by, touched_at_mark, touched_before_fault, touched_by_call, touched_of}
 pub use Rattle.b67_model.specs.Operators.{Alone, Form, Literal, OneMore, Reading, TwoMore, branch, count_at, ends_at, form_in, form_of, operator_at, operators, place_at, place_of_bits, reads, syllable}
 pub use Rattle.b67_model.specs.Program.{Opening, Program, opened, opened_from, opening, originals, row_arrays, segment_words}
-pub use Rattle.b67_model.specs.Rows.{CellRow, branch_if, branches, code_of, dlet, dupl, entr, entr_at, entr_with, exch, indx, is_proc, load, load_at, movable, mpcw, nxlv, on_cells, on_one, on_two, plain, proc_of, reading_of, row, step_by, stff, stff_word, store, store_at, valc}
+pub use Rattle.b67_model.specs.Rows.{CellRow, Class, Idle, OnCells, OnOne, OnTwo, Own, Pushes, branch_if, branches, by_class, class, code_of, dlet, dupl, entr, entr_at, entr_with, exch, indx, is_proc, load, load_at, movable, mpcw, nxlv, on_cells, on_one, on_two, plain, proc_of, reading_of, row, step_by, stff, stff_word, store, store_at, valc}
 unfoldable pub use Rattle.b67_model.specs.Rows.{step}
 pub use Rattle.b67_model.specs.Run.{IsBeforeHalt, IsWithinHalt, Run, RunLine, StepResult, after, after_from, lines, lines_from, live_after, live_tasks, moment_by, moment_for, of_job, start, with_moment}
 unfoldable pub use Rattle.b67_model.specs.Run.{next}

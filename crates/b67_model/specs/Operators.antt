@@ -1,10 +1,12 @@
 -- The operator that stands at a place of a segment's code.
-use Rattle.std.specs.Prelude.{ℕ, ◌+◌, ◌-◌, ◌*◌, ◌/◌, ◌%◌, ◌^◌, nat_lt, nat_le, ◌==◌, ◌&&◌, if◌then◌else◌, List, [], ◌∷◌, Option, Some, None, Result, Ok, Err, slice_index, length}
+use Rattle.std.specs.Prelude.{ℕ, ◌+◌, ◌-◌, ◌*◌, ◌/◌, ◌%◌, ◌^◌, nat_lt, nat_le, ◌==◌, ◌&&◌, if◌then◌else◌, List, [], ◌∷◌, Option, Some, None, Result, Ok, Err, slice_index, length, map, drop}
 use Rattle.b67_word.specs.declared.couples.Place.{Place}
 use Rattle.b67_model.specs.declared.operators.Op.{Op}
 use Rattle.b67_model.specs.declared.operators.Op.TheVariants.{Valc, Namc, Lt8, Lt16, Lt48, Mpcw, Brun, Brtr, Brfl, Bset, Brst, Isol, Insr, Plain}
 use Rattle.b67_model.specs.declared.operators.Code.{Code}
-use Rattle.b67_model.specs.declared.operators.Code.TheVariants as codes
+use Rattle.b67_model.specs.declared.operators.Mnemonic.{Mnemonic}
+use Rattle.b67_model.specs.declared.operators.Mnemonic.TheVariants as names
+use Rattle.b67_model.specs.declared.operators.TheConstants.{OPERATORS}
 use Rattle.b67_model.specs.declared.operators.Undecodable.{Undecodable}
 use Rattle.b67_model.specs.declared.operators.Undecodable.TheVariants.{BadPlace, NotAdmitted, PastEnd}
 
@@ -19,18 +21,26 @@ pub data Form : Type 0 where
 abbrev pub branch : (Place → Op) → Form
 branch op = TwoMore (λ high low. op (record { word = (high % 32) * 256 + low; syllable = high / 32 }))
 
+-- what follows the first syllable of an operator of this name; VALC and NAMC keep six bits of their couple in it
+abbrev pub form_of_name : Mnemonic → Form
+form_of_name (names.Plain code) = Alone code
+form_of_name names.Valc = OneMore Valc
+form_of_name names.Namc = OneMore Namc
+form_of_name names.Brun = branch Brun
+form_of_name names.Brtr = branch Brtr
+form_of_name names.Brfl = branch Brfl
+form_of_name names.Lt8 = OneMore Lt8
+form_of_name names.Lt16 = TwoMore (λ high low. Lt16 (high * 256 + low))
+form_of_name names.Lt48 = Literal Lt48
+form_of_name names.Mpcw = Literal Mpcw
+form_of_name names.Bset = OneMore Bset
+form_of_name names.Brst = OneMore Brst
+form_of_name names.Isol = TwoMore Isol
+form_of_name names.Insr = TwoMore Insr
+
+-- the operators by the table, but VALC and NAMC
 abbrev pub operators : List (ℕ × Form)
-operators =
-    (0x80, Alone codes.Add) ∷ (0x81, Alone codes.Subt) ∷ (0x82, Alone codes.Mult) ∷ (0x84, Alone codes.Idiv) ∷ (0x85, Alone codes.Rdiv) ∷
-    (0x88, Alone codes.Less) ∷ (0x89, Alone codes.Greq) ∷ (0x8A, Alone codes.Grtr) ∷ (0x8B, Alone codes.Lseq) ∷ (0x8C, Alone codes.Equl) ∷
-    (0x8D, Alone codes.Neql) ∷ (0x8E, Alone codes.Chsn) ∷ (0x90, Alone codes.Land) ∷ (0x91, Alone codes.Lor) ∷ (0x92, Alone codes.Lnot) ∷
-    (0x93, Alone codes.Leqv) ∷ (0x94, Alone codes.Same) ∷ (0x96, OneMore Bset) ∷ (0x9A, TwoMore Isol) ∷
-    (0x9C, TwoMore Insr) ∷ (0x9E, OneMore Brst) ∷ (0xA0, branch Brfl) ∷ (0xA1, branch Brtr) ∷
-    (0xA2, branch Brun) ∷ (0xA3, Alone codes.Exit) ∷ (0xA6, Alone codes.Indx) ∷ (0xA7, Alone codes.Retn) ∷ (0xAB, Alone codes.Entr) ∷
-    (0xAD, Alone codes.Nxlv) ∷ (0xAE, Alone codes.Mkst) ∷ (0xAF, Alone codes.Stff) ∷ (0xB0, Alone codes.Zero) ∷ (0xB1, Alone codes.One) ∷
-    (0xB2, OneMore Lt8) ∷ (0xB3, TwoMore (λ high low. Lt16 (high * 256 + low))) ∷ (0xB4, Alone codes.Push) ∷
-    (0xB5, Alone codes.Dlet) ∷ (0xB6, Alone codes.Exch) ∷ (0xB7, Alone codes.Dupl) ∷ (0xB8, Alone codes.Stod) ∷ (0xB9, Alone codes.Ston) ∷
-    (0xBD, Alone codes.Load) ∷ (0xBE, Literal Lt48) ∷ (0xBF, Literal Mpcw) ∷ (0xFE, Alone codes.Noop) ∷ (0xFF, Alone codes.Nvld) ∷ []
+operators = map (λ row. (row.0, form_of_name row.2)) (drop 2 OPERATORS)
 
 abbrev pub form_in : List (ℕ × Form) → ℕ → Option Form
 form_in [] first = None

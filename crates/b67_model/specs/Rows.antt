@@ -182,42 +182,63 @@ mpcw h bits = do
   needs (is_proc h bits) InvalidOperator
   pushes h (proc_of bits) None
 
+-- what an operator without parameters does, by its class: something of its operands, or of the cells, or as its own row says
+pub data Class : Type 0 where
+  OnTwo : Binary → Class
+  OnOne : (ℕ → Answer ℕ) → Class
+  OnCells : CellRow → Class
+  Pushes : ℕ → Class
+  Idle : Class
+  Own : (OperatorContext → Answer Done) → Class
+
+abbrev pub class : Code → Class
+class codes.Add = OnTwo add
+class codes.Subt = OnTwo subt
+class codes.Mult = OnTwo mult
+class codes.Idiv = OnTwo idiv
+class codes.Rdiv = OnTwo rdiv
+class codes.Less = OnTwo less
+class codes.Greq = OnTwo greq
+class codes.Grtr = OnTwo grtr
+class codes.Lseq = OnTwo lseq
+class codes.Equl = OnTwo equl
+class codes.Neql = OnTwo neql
+class codes.Chsn = OnOne chsn
+class codes.Land = OnTwo land
+class codes.Lor = OnTwo lor
+class codes.Leqv = OnTwo leqv
+class codes.Lnot = OnOne lnot
+class codes.Same = OnTwo same
+class codes.Exit = Own exit
+class codes.Indx = Own (λ h. indx h (cells_of h))
+class codes.Retn = Own retn
+class codes.Entr = Own (λ h. entr h (top_of h).standing)
+class codes.Nxlv = Own (λ h. nxlv h (cells_of h))
+class codes.Mkst = Own mkst
+class codes.Stff = Own (λ h. on_cells (stff h) h)
+class codes.Zero = Pushes 0
+class codes.One = Pushes 1
+class codes.Push = Idle
+class codes.Dlet = OnCells dlet
+class codes.Exch = OnCells exch
+class codes.Dupl = OnCells dupl
+class codes.Stod = Own (λ h. store false h (cells_of h))
+class codes.Ston = Own (λ h. store true h (cells_of h))
+class codes.Load = Own (λ h. load h (cells_of h))
+class codes.Noop = Idle
+class codes.Nvld = Own (λ h. Err InvalidOperator)
+
+-- one meaning for each class
+abbrev pub by_class : Class → OperatorContext → Answer Done
+by_class (OnTwo f) h = on_cells (on_two f) h
+by_class (OnOne f) h = on_cells (on_one f) h
+by_class (OnCells f) h = on_cells f h
+by_class (Pushes n) h = pushes h (Operand n) None
+by_class Idle h = leaves_cells h (cells_of h) None
+by_class (Own row) h = row h
+
 abbrev pub plain : Code → OperatorContext → Answer Done
-plain codes.Add h = on_cells (on_two add) h
-plain codes.Subt h = on_cells (on_two subt) h
-plain codes.Mult h = on_cells (on_two mult) h
-plain codes.Idiv h = on_cells (on_two idiv) h
-plain codes.Rdiv h = on_cells (on_two rdiv) h
-plain codes.Less h = on_cells (on_two less) h
-plain codes.Greq h = on_cells (on_two greq) h
-plain codes.Grtr h = on_cells (on_two grtr) h
-plain codes.Lseq h = on_cells (on_two lseq) h
-plain codes.Equl h = on_cells (on_two equl) h
-plain codes.Neql h = on_cells (on_two neql) h
-plain codes.Chsn h = on_cells (on_one chsn) h
-plain codes.Land h = on_cells (on_two land) h
-plain codes.Lor h = on_cells (on_two lor) h
-plain codes.Leqv h = on_cells (on_two leqv) h
-plain codes.Lnot h = on_cells (on_one lnot) h
-plain codes.Same h = on_cells (on_two same) h
-plain codes.Exit h = exit h
-plain codes.Indx h = indx h (cells_of h)
-plain codes.Retn h = retn h
-plain codes.Entr h = entr h (top_of h).standing
-plain codes.Nxlv h = nxlv h (cells_of h)
-plain codes.Mkst h = mkst h
-plain codes.Stff h = on_cells (stff h) h
-plain codes.Zero h = pushes h (Operand 0) None
-plain codes.One h = pushes h (Operand 1) None
-plain codes.Push h = leaves_cells h (cells_of h) None
-plain codes.Dlet h = on_cells dlet h
-plain codes.Exch h = on_cells exch h
-plain codes.Dupl h = on_cells dupl h
-plain codes.Stod h = store false h (cells_of h)
-plain codes.Ston h = store true h (cells_of h)
-plain codes.Load h = load h (cells_of h)
-plain codes.Noop h = leaves_cells h (cells_of h) None
-plain codes.Nvld h = Err InvalidOperator
+plain code h = by_class (class code) h
 
 abbrev pub row : Op → OperatorContext → Answer Done
 row (Valc couple) h = valc h couple

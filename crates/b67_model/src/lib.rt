@@ -21,4 +21,4 @@ pub use limits::{
     MOST_PARTS, MOST_QUANTUM, MOST_SECTORS, MOST_SEGMENT, MOST_STACK, MOST_STACKS, MOST_SWITCHES,
     MOST_TASKS, USUAL_LIMIT,
 };
-pub use operators::{Code, Op, Undecodable};
+pub use operators::{Code, Mnemonic, OPERATORS, Op, Undecodable};

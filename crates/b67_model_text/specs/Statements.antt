@@ -1,15 +1,15 @@
 -- Assembly: what a card says by itself.
-use Rattle.std.specs.Prelude.{ℕ, zero, suc, ◌+◌, ◌-◌, ◌*◌, ◌^◌, ◌==◌, ◌&&◌, nat_le, Bool, true, false, is_some, unwrap_or, List, [], ◌∷◌, fold, take, length, slice_index, Option, Some, None, Ok, Err, if◌then◌else◌, codes}
+use Rattle.std.specs.Prelude.{ℕ, zero, suc, ◌+◌, ◌-◌, ◌*◌, ◌^◌, ◌==◌, ◌&&◌, nat_le, Bool, true, false, is_some, unwrap_or, List, [], ◌∷◌, fold, take, map, length, slice_index, Option, Some, None, Ok, Err, if◌then◌else◌, codes}
 use Rattle.std.specs.List.{filter_map, list_all}
 use Rattle.std.specs.Option.{option_map, option_and_then}
 use Rattle.std.specs.Str.{bytes_eq}
 use Rattle.b67_word.specs.declared.couples.Couple.{Couple}
 use Rattle.b67_model.specs.declared.operators.Op.{Op}
 use Rattle.b67_model.specs.declared.operators.Op.TheVariants as ops
-use Rattle.b67_model.specs.declared.operators.Code.TheVariants as codes_of
 use Rattle.b67_model_text.specs.declared.card.Card.{Card}
-use Rattle.b67_model_text.specs.declared.assembly.Mnemonic.{Mnemonic}
-use Rattle.b67_model_text.specs.declared.assembly.Mnemonic.TheVariants as names
+use Rattle.b67_model.specs.declared.operators.Mnemonic.{Mnemonic}
+use Rattle.b67_model.specs.declared.operators.Mnemonic.TheVariants as names
+use Rattle.b67_model.specs.declared.operators.TheConstants.{OPERATORS}
 use Rattle.b67_model_text.specs.declared.assembly.Call as call
 use Rattle.b67_model_text.specs.declared.assembly.Call.TheVariants as calls
 use Rattle.b67_model_text.specs.declared.assembly.Branch as branch
@@ -131,24 +131,9 @@ abbrev pub sketch_of : Mnemonic → List (List ℕ) → Option sketch.Sketch
 sketch_of m [] = is_plain m
 sketch_of m (word ∷ more) = if is_empty more then with_operand m word else None
 
+-- the names of the table
 abbrev pub mnemonics : List (List ℕ × Mnemonic)
-mnemonics =
-    (codes "VALC", names.Valc) ∷ (codes "NAMC", names.Namc) ∷
-    (codes "ADD", names.Plain codes_of.Add) ∷ (codes "SUBT", names.Plain codes_of.Subt) ∷ (codes "MULT", names.Plain codes_of.Mult) ∷
-    (codes "IDIV", names.Plain codes_of.Idiv) ∷ (codes "RDIV", names.Plain codes_of.Rdiv) ∷ (codes "LESS", names.Plain codes_of.Less) ∷
-    (codes "GREQ", names.Plain codes_of.Greq) ∷ (codes "GRTR", names.Plain codes_of.Grtr) ∷ (codes "LSEQ", names.Plain codes_of.Lseq) ∷
-    (codes "EQUL", names.Plain codes_of.Equl) ∷ (codes "NEQL", names.Plain codes_of.Neql) ∷ (codes "CHSN", names.Plain codes_of.Chsn) ∷
-    (codes "LAND", names.Plain codes_of.Land) ∷ (codes "LOR", names.Plain codes_of.Lor) ∷ (codes "LNOT", names.Plain codes_of.Lnot) ∷
-    (codes "LEQV", names.Plain codes_of.Leqv) ∷ (codes "SAME", names.Plain codes_of.Same) ∷ (codes "BSET", names.Bset) ∷
-    (codes "BRST", names.Brst) ∷ (codes "ISOL", names.Isol) ∷ (codes "INSR", names.Insr) ∷
-    (codes "BRFL", names.Brfl) ∷ (codes "BRTR", names.Brtr) ∷ (codes "BRUN", names.Brun) ∷
-    (codes "EXIT", names.Plain codes_of.Exit) ∷ (codes "INDX", names.Plain codes_of.Indx) ∷ (codes "RETN", names.Plain codes_of.Retn) ∷
-    (codes "ENTR", names.Plain codes_of.Entr) ∷ (codes "NXLV", names.Plain codes_of.Nxlv) ∷ (codes "MKST", names.Plain codes_of.Mkst) ∷
-    (codes "STFF", names.Plain codes_of.Stff) ∷ (codes "ZERO", names.Plain codes_of.Zero) ∷ (codes "ONE", names.Plain codes_of.One) ∷
-    (codes "LT8", names.Lt8) ∷ (codes "LT16", names.Lt16) ∷ (codes "PUSH", names.Plain codes_of.Push) ∷
-    (codes "DLET", names.Plain codes_of.Dlet) ∷ (codes "EXCH", names.Plain codes_of.Exch) ∷ (codes "DUPL", names.Plain codes_of.Dupl) ∷
-    (codes "STOD", names.Plain codes_of.Stod) ∷ (codes "STON", names.Plain codes_of.Ston) ∷ (codes "LOAD", names.Plain codes_of.Load) ∷
-    (codes "LT48", names.Lt48) ∷ (codes "MPCW", names.Mpcw) ∷ (codes "NOOP", names.Plain codes_of.Noop) ∷ (codes "NVLD", names.Plain codes_of.Nvld) ∷ []
+mnemonics = map (λ row. (row.1.now, row.2)) OPERATORS
 
 abbrev pub segment : List (List ℕ) → Option statement.Statement
 segment (word ∷ level ∷ []) = option_and_then (λ name. option_map (statements.Segment name) (numeral_up_to 255 level)) (name_in word)

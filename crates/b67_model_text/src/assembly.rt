@@ -1,27 +1,8 @@
 //! Assembly: what its cards say.
 
 use crate::text::Name;
-use b67_model::{Code, Op};
+use b67_model::Op;
 use b67_word::{Couple, List};
-
-/// What an operator's name represents.
-#[derive(Clone, Copy, Debug)]
-pub enum Mnemonic {
-    Plain(Code),
-    Valc,
-    Namc,
-    Brun,
-    Brtr,
-    Brfl,
-    Lt8,
-    Lt16,
-    Lt48,
-    Mpcw,
-    Bset,
-    Brst,
-    Isol,
-    Insr,
-}
 
 /// The operators that name a cell.
 #[derive(Clone, Copy, Debug)]

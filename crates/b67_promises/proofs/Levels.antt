@@ -5,7 +5,7 @@ use Rattle.std.specs.Option.{option_map, option_and_then}
 use Rattle.std.specs.List.{AllByRecursion, cons_option}
 use Rattle.b67_word.specs.Tagged.{word}
 use Rattle.b67_model_text.specs.declared.card.Card.{Card}
-use Rattle.b67_model_text.specs.declared.assembly.Mnemonic.{Mnemonic}
+use Rattle.b67_model.specs.declared.operators.Mnemonic.{Mnemonic}
 use Rattle.b67_model_text.specs.declared.assembly.Sketch as sketch
 use Rattle.b67_model_text.specs.declared.assembly.Statement as statement
 use Rattle.b67_model_text.specs.declared.assembly.Statement.TheVariants as statements

@@ -2,7 +2,7 @@
 import {MEANINGS, TAKES} from '../reader/operators.js';
 import {heldBy, listed, operatorParts, recordsOf} from '../words/reading.js';
 
-const COMPUTES = /^(ADD|SUBT|MULT|IDIV|RDIV|CHSN|LESS|LSEQ|GREQ|GRTR|EQUL|NEQL|NXLV|ISOL|INSR|LAND|LOR)$/;
+const COMPUTES = /^(ADD|SUBT|MULT|IDIV|RDIV|LESS|GREQ|GRTR|LSEQ|EQUL|NEQL|CHSN|LAND|LOR|ISOL|INSR|NXLV)$/;
 const [MOST_CHOICES, RECORD] = [6, / record /];
 
 // Why this task is next: by a card of the deck, or since the one before can't go on or has had its turn.

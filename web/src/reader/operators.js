@@ -1,8 +1,8 @@
 // The operators: their bytes, what follows them, and what each one does in a line.
 
 const TABLE = '80 ADD 0 81 SUBT 0 82 MULT 0 84 IDIV 0 85 RDIV 0 88 LESS 0 89 GREQ 0 8a GRTR 0 8b LSEQ 0 8c EQUL 0 '
-  + '8d NEQL 0 8e CHSN 0 90 LAND 0 91 LOR 0 92 LNOT 0 93 LEQV 0 94 SAME 0 96 BSET 1 9e BRST 1 9a ISOL 2 '
-  + '9c INSR 2 a0 BRFL 2 a1 BRTR 2 a2 BRUN 2 a3 EXIT 0 a6 INDX 0 a7 RETN 0 ab ENTR 0 ad NXLV 0 ae MKST 0 '
+  + '8d NEQL 0 8e CHSN 0 90 LAND 0 91 LOR 0 92 LNOT 0 93 LEQV 0 94 SAME 0 96 BSET 1 9a ISOL 2 9c INSR 2 '
+  + '9e BRST 1 a0 BRFL 2 a1 BRTR 2 a2 BRUN 2 a3 EXIT 0 a6 INDX 0 a7 RETN 0 ab ENTR 0 ad NXLV 0 ae MKST 0 '
   + 'af STFF 0 b0 ZERO 0 b1 ONE 0 b2 LT8 1 b3 LT16 2 b4 PUSH 0 b5 DLET 0 b6 EXCH 0 b7 DUPL 0 b8 STOD 0 '
   + 'b9 STON 0 bd LOAD 0 be LT48 8 bf MPCW 8 fe NOOP 0 ff NVLD 0';
 
