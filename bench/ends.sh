@@ -7,6 +7,9 @@
 #   that can't be, this is left out, and said
 # - standard output takes one byte of each write
 # - the output is closed, and full
+# - a run halts with an image, and is resumed: over the file as it was left, which gives the other lines; over one of another
+#   length; and by scripts/keep.sh over one of which a byte was changed, which isn't run, since its sum differs. `resume` alone
+#   doesn't notice that: that the file holds what it was left with is believed
 #
 # It wants gcc. Devices that lie are in lies.sh.
 set -eu
@@ -108,4 +111,38 @@ for end in closed full; do
     echo "output $end: status $status"
     [ $status = 8 ] || failed=1
 done
+
+# ---- an image, and its file
+
+honest short
+sed '1i?HALT 3000' "$room/short" >"$room/halting"
+rm -f "$room/b"
+status=0
+"$program" image --core 1910 --backing "$room/b" <"$room/halting" >"$room/image" || status=$?
+[ $status = 3 ] || {
+    echo "image: status $status"
+    failed=1
+}
+cp "$room/b" "$room/left"
+status=0
+"$program" resume --backing "$room/b" <"$room/image" >"$room/rest" || status=$?
+sed '/^?IMAGE/,$d' "$room/image" | cat - "$room/rest" >"$room/lines"
+judge "resumed over the file as it was left" $status
+[ $status = 0 ] || failed=1
+head -c 15728400 "$room/left" >"$room/b"
+status=0
+"$program" resume --backing "$room/b" <"$room/image" >"$room/lines" || status=$?
+judge "resumed over a shorter file" $status
+[ $status = 6 ] || failed=1
+status=0
+B67=$program sh "$bench/../scripts/keep.sh" "$room/halting" 1910 "$room/kept" >/dev/null || status=$?
+[ $status = 0 ] || {
+    echo "kept: status $status"
+    failed=1
+}
+printf '\377' | dd of="$room/kept/backing" bs=1 seek=240000 conv=notrunc 2>/dev/null
+status=0
+B67=$program sh "$bench/../scripts/keep.sh" resume "$room/kept" >"$room/lines" 2>/dev/null || status=$?
+echo "resumed by keep.sh over a changed file: status $status, $(wc -c <"$room/lines") bytes of lines"
+[ $status = 1 ] && [ ! -s "$room/lines" ] || failed=1
 exit $failed

@@ -1,5 +1,5 @@
 -- What the program's call over ends that record prints and answers, as the machine of the model has it.
-use Rattle.std.proofs.Common.{◌≡◌, ◌≢◌, ◌≤◌, ◌+◌, ◌⊎◌, inl, inr, ℕ, List, [], ◌∷◌, ◌++◌, length, take, append-nil, arith, refl, sym, ap, subst, ◌∙◌, Option, Some, None, Ok, Bool, true, false}
+use Rattle.std.proofs.Common.{◌≡◌, ◌≢◌, ◌≤◌, ◌+◌, ◌⊎◌, inl, inr, ℕ, List, [], ◌∷◌, ◌++◌, length, take, append-nil, arith, refl, sym, ap, subst, ◌∙◌, Option, Some, None, Ok, Bool, false}
 use Rattle.std.specs.Prelude.{codes, decimal}
 use Rattle.std.proofs.lemmas.Bool.{false≢true}
 use Rattle.std.proofs.lemmas.List.{append_cancel_left}
@@ -48,7 +48,7 @@ abbrev RunTexts : ℕ → List ℕ → List (List ℕ) → Type 0
 RunTexts core path ts = (ts ≡ codes "run" ∷ codes "--core" ∷ decimal core ∷ codes "--backing" ∷ path ∷ []) ⊎ (ts ≡ codes "run" ∷ codes "--backing" ∷ path ∷ codes "--core" ∷ decimal core ∷ [])
 
 -- of the words only the texts matter
-same_command : (core : ℕ) (words words' : List (Bor (List ℕ))) → texts words' ≡ texts words → (w : IsRunCommand core words) → (w' : IsRunCommand core words') × (w'.path ≡ w.path)
+pub same_command : (core : ℕ) (words words' : List (Bor (List ℕ))) → texts words' ≡ texts words → (w : IsRunCommand core words) → (w' : IsRunCommand core words') × (w'.path ≡ w.path)
 same_command core words words' same w = (
   record {
     path = w.path;
@@ -61,11 +61,11 @@ same_command core words words' same w = (
 )
 
 -- the bytes that a printer took
-took_bytes : {W : Type 0} {h : write.Ghosts W} (old new : RecordedSink W h) (out : List ℕ) → Took sink_told old new out → new.noted.bytes ≡ old.noted.bytes ++ out
+pub took_bytes : {W : Type 0} {h : write.Ghosts W} (old new : RecordedSink W h) (out : List ℕ) → Took sink_told old new out → new.noted.bytes ≡ old.noted.bytes ++ out
 took_bytes old new out t = same_Some new.noted.bytes (old.noted.bytes ++ out) (t.told old.noted.bytes refl)
 
 -- a mirrored file tells what its sectors hold
-always_told : {F : Type 0} {g : Ghosts F} (file : Mirrored F g) → mirror_told file ≢ None
+pub always_told : {F : Type 0} {g : Ghosts F} (file : Mirrored F g) → mirror_told file ≢ None
 always_told file e = none-some (mirror_sectors file) (sym e)
 
 -- the text of a command that reads one was read to its end, or past the limit
@@ -127,12 +127,12 @@ module _ {D F R W : Type 0} {g : Ghosts F} {h : write.Ghosts W} (kept : D → Li
   text_served : (opens : D → Option (List (List ℕ))) (words : List (Bor (List ℕ))) (w : IsRunCommand core words) → FilesHave process sectors
       → IsTextServed g opens kept words process.inner process'.inner process.opened.texts process'.opened.texts input input' old new status → PrintsAsDescribed core sectors w.path process process' input input' old new status
   text_served opens words w have (over_text text given s) = served opens words w have text given s
-  text_served opens words w have (reading_failed part gave rose same ends) = stopped w.path 7 reading_text part (described.source_fails refl refl) (inl refl) gave same.notes ends
+  text_served opens words w have (reading_failed reads part gave rose same ends) = stopped w.path 7 reading_text part (described.source_fails refl refl) (inl refl) gave same.notes ends
   text_served opens words w have (memory_wanted part gave same ends) = stopped w.path 9 memory_text part (described.memory_is_refused refl refl) (inr refl) gave same.notes ends
 
   pub described_so : (told opens : D → Option (List (List ℕ))) (words : List (Bor (List ℕ))) (w : IsRunCommand core words) → process'.words.texts ≡ process.words.texts ++ texts words → FilesHave process sectors
       → IsRecordServed told opens kept process process' input input' old new status → PrintsAsDescribed core sectors w.path process process' input input' old new status
-  described_so told opens words w is have (on_words words' tells is' s) =
+  described_so told opens words w is have (on_words words' tells is' unread s) =
       let same : texts_of words' ≡ texts words = append_cancel_left process.words.texts (texts_of words') (texts words) (sym is' ∙ is) in
       let w' = same_command core words words' same w in
       subst (λ (path : List ℕ). PrintsAsDescribed core sectors path process process' input input' old new status) w'.1 (text_served opens words' w'.0 have s)
@@ -179,12 +179,12 @@ module _ {D F R W : Type 0} {g : Ghosts F} {h : write.Ghosts W} (kept : D → Li
   text_pages : (opens : D → Option (List (List ℕ))) (words : List (Bor (List ℕ))) (w : IsRunCommand core words) → IsWhole status
       → IsTextServed g opens kept words process.inner process'.inner process.opened.texts process'.opened.texts input input' old new status → Pages w.path
   text_pages opens words w whole (over_text text given s) = served_pages opens words w whole text given s
-  text_pages opens words w whole (reading_failed part gave rose same ends) = absurd (not_due 7 reading_text (inl refl) ends whole)
+  text_pages opens words w whole (reading_failed reads part gave rose same ends) = absurd (not_due 7 reading_text (inl refl) ends whole)
   text_pages opens words w whole (memory_wanted part gave same ends) = absurd (not_due 9 memory_text (inr refl) ends whole)
 
   pub paged_so : (told opens : D → Option (List (List ℕ))) (words : List (Bor (List ℕ))) (w : IsRunCommand core words) → process'.words.texts ≡ process.words.texts ++ texts words → IsWhole status
       → IsRecordServed told opens kept process process' input input' old new status → Pages w.path
-  paged_so told opens words w is whole (on_words words' tells is' s) =
+  paged_so told opens words w is whole (on_words words' tells is' unread s) =
       let same : texts_of words' ≡ texts words = append_cancel_left process.words.texts (texts_of words') (texts words) (sym is' ∙ is) in
       let w' = same_command core words words' same w in
       subst Pages w'.1 (text_pages opens words' w'.0 whole s)
@@ -233,11 +233,11 @@ module _ {D F R W : Type 0} {g : Ghosts F} {h : write.Ghosts W} (kept : D → Li
 
   pub call_prints : (told opens : D → Option (List (List ℕ))) (words : List (Bor (List ℕ))) → AsksForRun words → process'.words.texts ≡ process.words.texts ++ texts words → input'.given.bytes ≡ input.given.bytes ++ text
       → IsRecordServed told opens kept process process' input input' old new status → So
-  call_prints told opens words asks is gave (on_words words' tells is' (over_text read given s)) =
+  call_prints told opens words asks is gave (on_words words' tells is' unread (over_text read given s)) =
       let same : texts_of words' ≡ texts words = append_cancel_left process.words.texts (texts_of words') (texts words) (sym is' ∙ is) in
       served_prints opens words' (ap (λ (ts : List (List ℕ)). take 1 ts) same ∙ asks) gave read given s
-  call_prints told opens words asks is gave (on_words words' tells is' (reading_failed part given rose same ends)) = short_reading ends
-  call_prints told opens words asks is gave (on_words words' tells is' (memory_wanted part given same ends)) = short_memory ends
+  call_prints told opens words asks is gave (on_words words' tells is' unread (reading_failed reads part given rose same ends)) = short_reading ends
+  call_prints told opens words asks is gave (on_words words' tells is' unread (memory_wanted part given same ends)) = short_memory ends
   call_prints told opens words asks is gave (words_want_memory same unread ends) = short_memory ends
 
 pub took_same : {W X : Type 0} {h : write.Ghosts W} {i : write.Ghosts X} (old new : RecordedSink W h) (status : ℕ) (old' new' : RecordedSink X i) (status' : ℕ) (text : List ℕ)

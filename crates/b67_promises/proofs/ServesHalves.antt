@@ -69,7 +69,7 @@ found_as_left kept holds middle path file next tells l f = grind arith
 
 module _ {S B K : Type 0} (words : List (Bor (List ℕ))) (left : S → Option (List ℕ)) (source_faults : S → ℕ) (input input' : S) (d : Device B) (taken : K → Option (List ℕ)) (faults : K → ℕ) (old new : K) (answer : ℕ)
     (r : IsCarriedOut words left source_faults input input' d taken faults old new answer) (whole : IsWhole answer) where
-  the_command : (command : CommandLine) × (command_line_of words ≡ Some command)
+  pub the_command : (command : CommandLine) × (command_line_of words ≡ Some command)
   the_command = by_command (command_line_of words) refl
     where
       usage : (answer ≡ 1) ⊎ (answer ≡ 8) → IsWhole answer → ⊥

@@ -1,5 +1,5 @@
 -- How the program's call over ends that record ends.
-use Rattle.std.specs.Prelude.{◌≡◌, ◌++◌, ℕ, List, [], ◌∷◌, Option, Some, Ok, Bool, true, ◌≤◌}
+use Rattle.std.specs.Prelude.{◌≡◌, ◌++◌, ℕ, List, [], ◌∷◌, Option, Some, Ok, Bool, true, false, ◌≤◌}
 use denote.Ref.{Bor}
 use Rattle.b67_io.specs.Causes.{Rose}
 use Rattle.b67_io.specs.Line.{ended}
@@ -9,7 +9,7 @@ use Rattle.b67_session_lines.specs.Ends.{EndsPrinting}
 use Rattle.b67_job.specs.Command.{command_line_of, backing_path}
 use Rattle.b67_job.specs.Due.{reading_text}
 use Rattle.b67_job.specs.Device.{device_of}
-use Rattle.b67_job.specs.Judgement.{text_limit}
+use Rattle.b67_job.specs.Judgement.{reads_text, text_limit}
 use Rattle.b67_job.specs.Lines.{memory_text, backing_fault_line}
 use Rattle.b67_program.specs.Opening.{Leaves, paths_of}
 use Rattle.b67_program.specs.Served.{CarriesOut, IsServed}
@@ -47,22 +47,22 @@ pub data ServesText {D F W : Type 0} (g : Ghosts F) {w : write.Ghosts W} (opened
       → WasNotCopied kept g.holds g.size g.faults now later path → EndsPrinting sink_told sink_faults old new 6 (ended backing_fault_line) status
       → ServesText g opened kept words text now later noted noted' old new status
 
--- The text of the words' command was given, and the words were served over it; or a read failed, or memory was refused, after a part of it
+-- The text of the words' command was given, and the words were served over it; or a read failed of a command that reads a text, or memory was refused, after a part of it
 -- at most, and then no file was opened.
 pub data IsTextServed {D F R W : Type 0} (g : Ghosts F) {w : write.Ghosts W} (opened : D → Option (List (List ℕ))) (kept : D → List ℕ → Option (List (List ℕ))) (words : List (Bor (List ℕ)))
     (now later : D) (noted noted' : List (List ℕ)) (input input' : RecordedSource R) (old new : RecordedSink W w) (status : ℕ) : Type 0 where
   over_text : (text : List ℕ) → WasTextTaken (text_limit (command_line_of words)) input.given.bytes input'.given.bytes input.faults input'.faults input'.ended (Ok text)
       → ServesText g opened kept words text now later noted noted' old new status → IsTextServed g opened kept words now later noted noted' input input' old new status
-  reading_failed : (part : List ℕ) → input'.given.bytes ≡ input.given.bytes ++ part → Rose (λ (s : RecordedSource R). s.faults) input input' → FilesUnchanged now later noted noted' → EndsPrinting sink_told sink_faults old new 7 reading_text status
+  reading_failed : reads_text (command_line_of words) ≡ true → (part : List ℕ) → input'.given.bytes ≡ input.given.bytes ++ part → Rose (λ (s : RecordedSource R). s.faults) input input' → FilesUnchanged now later noted noted' → EndsPrinting sink_told sink_faults old new 7 reading_text status
       → IsTextServed g opened kept words now later noted noted' input input' old new status
   memory_wanted : (part : List ℕ) → input'.given.bytes ≡ input.given.bytes ++ part → FilesUnchanged now later noted noted' → EndsPrinting sink_told sink_faults old new 9 memory_text status
       → IsTextServed g opened kept words now later noted noted' input input' old new status
 
--- The process's words were noted, and their text was served; or memory was refused for them, and then nothing was read and no file was
+-- The process's words were noted, and their text was served: of words that ask for no text the input is left as it was. Or memory was refused for them, and then nothing was read and no file was
 -- opened.
 pub data IsRecordServed {D F R W : Type 0} {g : Ghosts F} {w : write.Ghosts W} (told opened : D → Option (List (List ℕ))) (kept : D → List ℕ → Option (List (List ℕ)))
     (process process' : RecordedProcess D F g) (input input' : RecordedSource R) (old new : RecordedSink W w) (status : ℕ) : Type 0 where
-  on_words : (words : List (Bor (List ℕ))) → TellsWords told process.inner (texts_of words) → process'.words.texts ≡ process.words.texts ++ texts_of words
+  on_words : (words : List (Bor (List ℕ))) → TellsWords told process.inner (texts_of words) → process'.words.texts ≡ process.words.texts ++ texts_of words → (reads_text (command_line_of words) ≡ false → input' ≡ input)
       → IsTextServed g opened kept words process.inner process'.inner process.opened.texts process'.opened.texts input input' old new status → IsRecordServed told opened kept process process' input input' old new status
   words_want_memory : FilesUnchanged process.inner process'.inner process.opened.texts process'.opened.texts → input' ≡ input → EndsPrinting sink_told sink_faults old new 9 memory_text status
       → IsRecordServed told opened kept process process' input input' old new status

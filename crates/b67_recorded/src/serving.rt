@@ -1,10 +1,10 @@
 //! The program's call over ends that record.
 
-ghost use Rattle.std.specs.Prelude.{◌≡◌, ◌≤◌, ◌<◌, ◌^◌, ◌++◌, ℕ, List, [], Ok, Some, IfOk, IfSome, map, string_bytes, vec_capacity};
+ghost use Rattle.std.specs.Prelude.{◌≡◌, ◌≤◌, ◌<◌, ◌^◌, ◌++◌, ℕ, List, [], Ok, Some, None, false, IfOk, IfSome, map, string_bytes, vec_capacity};
 ghost use Rattle.std.specs.Process.{exit_status};
 ghost use Rattle.b67_io.specs.Line.{ended};
 ghost use Rattle.b67_job.specs.Command.{command_line_of, backing_path};
-ghost use Rattle.b67_job.specs.Judgement.{text_limit};
+ghost use Rattle.b67_job.specs.Judgement.{reads_text, text_limit};
 ghost use Rattle.b67_job.specs.Lines.{backing_fault_line};
 ghost use Rattle.b67_session_lines.specs.Ends.{EndsPrinting};
 ghost use Rattle.b67_program.specs.Input.{IsTakenIn};
@@ -69,6 +69,7 @@ fn take_text<R: Read>(
     requires { IfSome limit (λ most. most < 2 ^ 31) }
     ensures answer { WasTextTaken limit input.old.given.bytes input.new.given.bytes input.old.faults input.new.faults input.new.ended result }
     ensures gave { (part : List ℕ) × (input.new.given.bytes ≡ input.old.given.bytes ++ part) }
+    ensures unread { limit ≡ None → input.new ≡ input.old }
     ensures faithful { GaveNoted R.remaining input.old input.new }
 {
     match limit {
@@ -189,6 +190,7 @@ fn serve_read<D: Devices + Drop, R: Read, W: Write>(
 ) -> ExitCode
     requires { 65536 ≤ vec_capacity room }
     ensures served { IsTextServedBy D.opened D.kept words.now process.old process.new input.old input.new printer.old printer.new (exit_status result) }
+    ensures unread { reads_text (command_line_of words.now) ≡ false → input.new ≡ input.old }
     ensures faithful { IsFaithful R.remaining input.old input.new printer.old printer.new }
     ensures noted { process.new.words.texts ≡ process.old.words.texts }
 {
@@ -208,6 +210,7 @@ fn serve_words<D: Devices + Drop, R: Read, W: Write>(
     printer: &mut RecordedSink<W>,
 ) -> ExitCode
     ensures served { IsTextServedBy D.opened D.kept words.now process.old process.new input.old input.new printer.old printer.new (exit_status result) }
+    ensures unread { reads_text (command_line_of words.now) ≡ false → input.new ≡ input.old }
     ensures faithful { IsFaithful R.remaining input.old input.new printer.old printer.new }
     ensures noted { process.new.words.texts ≡ process.old.words.texts }
 {

@@ -1,4 +1,5 @@
 use Rattle.std.specs.Process.{exit_status}
+use Rattle.b67_promises.proofs.CarriedCalls.{more_so}
 use Rattle.b67_promises.proofs.RecordedCalls.{call_prints, took_same}
 use Rattle.b67_promises.proofs.shipped.program_twice.Goals as goal
 
@@ -18,3 +19,10 @@ returns-clause-other_call g c = c.serve_recorded-other.ensures.served
 
 pub returns-clause-faithful : goal.returns-clause-faithful
 returns-clause-faithful g c = (c.serve_recorded-one.ensures.faithful, c.serve_recorded-other.ensures.faithful)
+
+pub returns-clause-more_core : goal.returns-clause-more_core
+returns-clause-more_core g c = λ core more words words' w w' text le is is' gave gave' calm whole.
+    more_so g.D.Devices.opened g.D.Devices.kept c.args.process.now c.serve_recorded-one.new.process c.args.input.now c.serve_recorded-one.new.input c.args.printer.now c.serve_recorded-one.new.printer (exit_status c.serve_recorded-one.result)
+    g.E.Devices.opened g.E.Devices.kept c.args.other_process.now c.serve_recorded-other.new.process c.args.other_input.now c.serve_recorded-other.new.input c.args.other_printer.now c.serve_recorded-other.new.printer (exit_status c.serve_recorded-other.result)
+    g.D.Words.given g.E.Words.given c.serve_recorded-one.ensures.served c.serve_recorded-other.ensures.served
+    core more words words' w w' text le is is' gave gave' calm whole

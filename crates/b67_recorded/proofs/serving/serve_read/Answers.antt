@@ -1,11 +1,11 @@
-use Rattle.std.proofs.Common.{ℕ, refl, subst, Option, Ok}
+use Rattle.std.proofs.Common.{ℕ, refl, subst, Option, Ok, ◌∙◌}
 use Rattle.b67_job.specs.Command.{command_line_of}
 use Rattle.b67_job.specs.Judgement.{text_limit}
 use Rattle.b67_recorded.specs.Given.{WasTextTaken}
 use Rattle.b67_recorded.specs.Recorded.{over_text, reading_failed, memory_wanted}
 use Rattle.b67_recorded.proofs.Passing.{took_noted}
 use Rattle.b67_recorded.proofs.OverFiles.{as_taken}
-use Rattle.b67_recorded.proofs.Taking.{failed_of}
+use Rattle.b67_recorded.proofs.Taking.{failed_of, reads, unlimited}
 use Rattle.b67_recorded.proofs.serving.serve_read.Goals as goal
 
 pub returns-in-Ok-clause-served : goal.returns-in-Ok-clause-served
@@ -15,7 +15,7 @@ returns-in-Ok-clause-served g c = over_text c.in-Ok.text
 
 pub returns-in-Err-SourceFault-clause-served : goal.returns-in-Err-SourceFault-clause-served
 returns-in-Err-SourceFault-clause-served g c =
-    reading_failed c.take_text.ensures.gave.0 c.take_text.ensures.gave.1
+    reading_failed (reads c.args.input.now.given.bytes c.take_text.new.input.given.bytes c.args.input.now.faults c.take_text.new.input.faults c.take_text.new.input.ended (command_line_of c.args.words.now) c.text_limit.result c.text_limit.ensures.limit _ c.in-Err-SourceFault.ensures.answer) c.take_text.ensures.gave.0 c.take_text.ensures.gave.1
     (failed_of c.args.input.now.given.bytes c.take_text.new.input.given.bytes c.args.input.now.faults c.take_text.new.input.faults c.take_text.new.input.ended c.text_limit.result _ c.in-Err-SourceFault.field-0-is c.in-Err-SourceFault.ensures.answer)
     (record { notes = refl; same = refl }) (rw c.from.ensures c.say_reading_fault.ensures)
 
@@ -31,6 +31,15 @@ returns-in-Err-SourceFault-clause-faithful g c = record { read = c.take_text.ens
 
 pub returns-clause-faithful : goal.returns-clause-faithful
 returns-clause-faithful g c = record { read = c.take_text.ensures.faithful; printed = took_noted c.args.printer.now _ }
+
+pub returns-in-Ok-clause-unread : goal.returns-in-Ok-clause-unread
+returns-in-Ok-clause-unread g c = λ none. c.in-Ok.ensures.unread (c.text_limit.ensures.limit ∙ unlimited (command_line_of c.args.words.now) none)
+
+pub returns-in-Err-SourceFault-clause-unread : goal.returns-in-Err-SourceFault-clause-unread
+returns-in-Err-SourceFault-clause-unread g c = λ none. c.take_text.ensures.unread (c.text_limit.ensures.limit ∙ unlimited (command_line_of c.args.words.now) none)
+
+pub returns-clause-unread : goal.returns-clause-unread
+returns-clause-unread g c = λ none. c.take_text.ensures.unread (c.text_limit.ensures.limit ∙ unlimited (command_line_of c.args.words.now) none)
 
 pub serve_text-requires-clause-taken : goal.serve_text-requires-clause-taken
 serve_text-requires-clause-taken g c =

@@ -21,4 +21,5 @@ returns-in-Ok-noted-clause-served g c =
       told = λ words e. ap texts_of c.as_slice-in-Ok-noted.ensures.value ∙ c.in-Ok-noted.ensures.same ∙ ap (λ texts. map string_bytes texts) c.as_slice.ensures.value ∙ c.in-Ok.ensures.given.told words e;
     })
     (c.serve_words.ensures.noted ∙ c.in-Ok-noted.ensures.noted ∙ ap (λ (ts : List (List ℕ)). c.args.process.now.words.texts ++ ts) (ap texts_of (sym c.as_slice-in-Ok-noted.ensures.value)))
+    c.serve_words.ensures.unread
     c.serve_words.ensures.served
