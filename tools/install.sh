@@ -34,7 +34,7 @@ table() {
         echo "644 $file libexec/b67/$file"
         echo "755 command bin/b67-${name%.sh}"
     done
-    echo "644 scripts/program libexec/b67/scripts/program"
+    for file in program named; do echo "644 scripts/$file libexec/b67/scripts/$file"; done
     echo "644 CITATION.cff libexec/b67/CITATION.cff"
     echo "644 docs/MESSAGES.md libexec/b67/docs/MESSAGES.md"
     echo "644 docs/b67-image.5 libexec/b67/docs/b67-image.5"

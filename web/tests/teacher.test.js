@@ -169,10 +169,12 @@ const NAMED = '?JOB A\n?ASM\n; the sum\nSEGMENT MAIN 2\nCELL total 2,2\nZERO\nL:
 test('names for cells become couples, and each card keeps its number', () => {
   assert.equal(withoutNames(NAMED), '?JOB A\n?ASM\n; the sum\nSEGMENT MAIN 2\n; CELL total 2,2\nZERO\nL: VALC 2,2  ; the sum\nNAMC 2,2\nSTOD\n; CELL total 2,3 ; another\nVALC 2,3\nEXIT\n?END\n');
   for (const {text} of PAGE.values()) assert.equal(withoutNames(text), text);
+  assert.equal(withoutNames('?JOB A\n?ASM\nSEGMENT MAIN 2\nCELL a\nZERO\nCELL b ; the second\nZERO\nCELL d 2,5\nCELL e\nVALC b\nSEGMENT P 3\nCELL x\nVALC x\nVALC e\n?END\n'),
+    '?JOB A\n?ASM\nSEGMENT MAIN 2\n; CELL a 2,2\nZERO\n; CELL b 2,3 ; the second\nZERO\n; CELL d 2,5\n; CELL e 2,6\nVALC 2,3\nSEGMENT P 3\n; CELL x 3,2\nVALC 3,2\nVALC 2,6\n?END\n');
   const long = `?ASM\nCELL a 2,2\nVALC a ${';'.padEnd(73, 'x')}\nCELL abcdefghijklmnop 2,2 ; ${'x'.repeat(51)}\n`;
   assert.ok(withoutNames(long).split('\n').every(card => card.length <= 80));
   for (const [cards, card, sentence] of [['VALC a', 3, /no CELL line before it says which cell a is/], ['CELL a 2,2\n?END\n?JOB B\n?ASM\nNAMC a', 7, /no CELL line/], ['CELL A 2,2', 3, /A is no name/],
-    ['CELL abcdefghijklmnopq 2,2', 3, /is no name/], ['CELL a 2', 3, /a CELL line is/], ['CELL', 3, /a CELL line is/], ['NAMC a-b', 3, /no CELL line/]]) {
+    ['CELL abcdefghijklmnopq 2,2', 3, /is no name/], ['CELL a 2', 3, /a CELL line is/], ['CELL', 3, /a CELL line is/], ['CELL a', 3, /stands in none/], ['NAMC a-b', 3, /no CELL line/]]) {
     assert.throws(() => withoutNames(`?JOB A\n?ASM\n${cards}\n`), error => error instanceof NamesRefused && error.card === card && sentence.test(error.message), cards);
   }
 });

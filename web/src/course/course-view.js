@@ -38,6 +38,10 @@ function nameOfTask(task) {
 function unparted(text) {
   return text.replace(/\?(?=[A-Z])/g, '?\u2060');
 }
+// Whether the deck that is stepped through is that of a task.
+function isDeckOf(task, {name, raw}) {
+  return task.deck ? raw === task.deck : name === deckOfTask(task);
+}
 function lessonOf({id}) {
   return id.split('.')[0];
 }
@@ -195,7 +199,7 @@ export class Course {
     if (kept) this.goesOn(kept);
     else await this.opens(task);
     editor.task = task.kind === 'write' ? task.id : '';
-    this.quiz.turn(task.kind === 'predict');
+    this.quiz.turn(task.kind === 'predict', true);
     if (task.kind === 'predict') setTimeout(() => page.steps.goBy(1)); // the question waits for its answer, the page doesn't
   }
   goesOn({name}) {
@@ -256,8 +260,15 @@ export class Course {
     if (!task) return;
     this.current = task;
     this.page.editor.task = task.kind === 'write' ? id : '';
+    if (task.kind === 'predict') this.quiz.turn(true, true);
     this.tell(task.text, wantedText(task));
     this.showMarks();
+  }
+  // Another deck is stepped through: the questions of a task end with its deck, and come back with it.
+  stepsThrough(session) {
+    const {current, quiz} = this, its = current?.kind === 'predict' && isDeckOf(current, session);
+    if (quiz.ofTask && !its) quiz.turn(false);
+    if (!quiz.on && its && !this.progress.isDone(current)) quiz.turn(true, true);
   }
   leaves() {
     this.current = null;
@@ -310,7 +321,7 @@ export class Course {
     const {current} = this, said = await this.quiz.asks(now, then, session.text), task = this.current;
     if (said !== null && current === task && task?.kind === 'predict') this.tries.set(task.id, (this.tries.get(task.id) ?? 0) + 1);
     if (!said || task?.kind !== 'predict') return;
-    const {name, core} = session, its = task.at === `${name},${core},${now.count}` || task.count === now.count && (task.deck ? session.raw === task.deck : name === deckOfTask(task));
+    const {name, core} = session, its = task.at ? task.at === `${name},${core},${now.count}` : task.count === now.count && isDeckOf(task, session);
     if (!its) return;
     this.done(task, {deck: session.raw, core, count: now.count, answer: said, tries: this.tries.get(task.id)}, `Right: ${said}.`);
     byId('task').querySelector('a')?.focus({preventScroll: true}); // the field that had the focus is gone
