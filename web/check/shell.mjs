@@ -36,10 +36,10 @@ function by_itself() {
 async function by_parts() {
   const folder = comparison.folder('parts'), long = (most, cards, times) => `?JOB LONG\n?LIMIT ${most}\n?ASM\nSEGMENT MAIN 2\nZERO\n${cards}TOP: MKST\nNAMC 0,9\nVALC 2,2\nENTR\nZERO\nIN: ${times}\nLESS\nBRTR IN\nDLET\nVALC 2,2\nONE\nADD\nNAMC 2,2\nSTON\nLT8 60\nLESS\nBRTR TOP\nEXIT\n?END\n`;
   const counts = at => `VALC 2,${at}\nONE\nADD\nNAMC 2,${at}\nSTON\nLT16 10000`, array = 'MKST\nNAMC 0,8\nLT8 200\nENTR\n', touches = cell => `VALC 2,2\nNAMC 2,${cell}\nLT8 5\nINDX\nSTOD\n`;
-  const paging = long(9000000, array + array, `${touches(3)}${touches(4)}${counts(5)}`.replaceAll('LT16 10000', 'LT8 200')).replace('LT8 60', 'LT8 240');
+  const paging = long(9000000, array + array, `${touches(3)}${touches(4)}${counts(5)}`.replaceAll('LT16 10000', 'LT16 1000')).replace('LT8 60', 'LT8 70');
   const texts = {plain: long(9000000, '', counts(3)), limited: long(2500000, '', counts(3)), paging, halted: `?HALT 300000\n${long(9000000, '', counts(3))}`, endless: long(100000000, '', counts(3)).replace('LESS\nBRTR TOP', 'DLET\nDLET\nBRUN TOP')};
   for (const [name, text] of Object.entries(texts)) fs.writeFileSync(path.join(folder, name), text);
-  for (const line of ['run --core 4096 --backing b < plain', 'run --core 4096 --backing b < limited', 'run --core 630 --backing b < paging', 'image --core 4096 --backing b < halted > i; B67 resume --backing b < i', 'run --core 4096 --backing b < plain > /dev/full', 'run --core 4096 --backing b < halted']) {
+  for (const line of ['run --core 4096 --backing b < plain', 'run --core 4096 --backing b < limited', 'run --core 890 --backing b < paging', 'image --core 4096 --backing b < halted > i; B67 resume --backing b < i', 'run --core 4096 --backing b < plain > /dev/full', 'run --core 4096 --backing b < halted']) {
     const [mine, native] = [command, program].map(name => {
       const {status, stdout} = spawnSync('sh', ['-c', `rm -f b; B67() { "$0" "$@"; }; B67 ${line}`, name], {cwd: folder, maxBuffer: 1 << 28});
       return `${status} ${stdout.toString('latin1')}`;

@@ -9,6 +9,7 @@ import {START} from '../src/page/decks.js';
 import {CONDITIONS, conditionOf} from '../src/course/conditions.js';
 import {TASKS} from '../src/course/course.js';
 import {csvOf, handsOf, keysOf, linesOf, marksOf, tasksFor} from '../src/course/class.js';
+import {drawn, drawOf, filled} from '../src/course/draw.js';
 import {doneAgain, handedIn, handsIn, packedHand, sameDecks} from '../src/course/handin.js';
 import {namesIn, NamesRefused, withoutNames} from '../src/names/names.js';
 import {isFound, isWritten} from '../src/course/progress.js';
@@ -22,6 +23,7 @@ import {Desk} from '../src/page/worker.js';
 
 const native = new Native(process.env.B67 ?? 'b67');
 after(() => native.close());
+const [OF_17, OF_BO] = [[8, 46, 193454], [6, -13, 717924]];
 const PAGE = new Map(decks().map(deck => [deck.name, deck]));
 
 function deskOf() {
@@ -153,6 +155,26 @@ test('a deck of constants, a forged sheet and a forged link fail by the key; oth
   assert.deepEqual(await textsIn(ZIP), ['#hand:abc', 'plain']);
   await assert.rejects(textsIn(ZIP.subarray(0, 90)), /has no end/);
   for (const text of [KEY.replace('id: twice-1\n', ''), KEY.replace('test: 5\n', ''), KEY.replace('test: 5', 'test: five'), KEY.replace(/gives.*\n/g, '')]) assert.throws(() => sheetOf(text, PAGE), /Line \d+ of the sheet/);
+});
+
+// The numbers below are drawn by the same rule in Python.
+test('numbers of one’s own: drawn by a pupil’s number, worked out in braces, and by them a copied deck is seen', async () => {
+  const draws = ['a 2 to 9', 'b -50 to 50', 'c 1 to 1000000'].map(drawOf);
+  for (const [seed, numbers] of [['17', OF_17], ['bo', OF_BO]]) assert.deepEqual([...drawn(draws, seed, 'sx/2').values()].map(Number), numbers);
+  assert.deepEqual(['a', 'a 9 to 2', 'A 2 to 9', 'a 2 9'].map(drawOf), [null, null, null, null]);
+  const numbers = new Map([['a', 7n], ['b', -3n]]);
+  assert.equal(filled('1.1 {a * (b + 10) - 2} {a / b} {-a % 4} {549755813887 * 549755813887} {a}{b}', numbers), '1.1 47 -2 -3 302231454902557782048769 7-3');
+  for (const [text, why] of [['{c}', /c isn’t drawn/], ['{a +}', /is missing/], ['{(a}', /isn’t closed/], ['{a b}', /to follow “b”/], ['{a / (b + 3)}', /divided by 0/], ['{a ? b}', /can’t be worked out/]]) assert.throws(() => filled(text, numbers), why);
+  await turn();
+  const text = 'id: own-1\nversion: 1\n\ntask: Twice\nask: Print twice {a}, by READ.\ndraw: a 100 to 999\nprints: 1.1 {a * 2}\nprints: 1.1 ENDED\ndeck:\n?JOB T\n?ASM\nSEGMENT MAIN 2\nEXIT\n?DATA\n{a}\n?END\n';
+  const [ada, bo] = ['17', 'bo'].map(seed => sheetOf(text, PAGE, seed).tasks[0]), solved = task => task.deck.replace('EXIT', 'MKST\nNAMC 0,9\nMKST\nNAMC 0,11\nENTR\nDUPL\nADD\nENTR\nEXIT');
+  assert.notEqual(ada.lines[0], bo.lines[0]);
+  assert.equal(ada.text.replace(/\D/g, '') * 2, Number(ada.lines[0].slice(4)));
+  const packed = await Promise.all([{name: 'Ada', number: '17', work: solved(ada)}, {name: 'Bo', work: solved(bo)}, {name: 'Cy', work: solved(ada)}].map(({work, ...it}) => packedHand({version: '1', sheets: [text], work: [[ada.id, {deck: work, core: 4096}]], ...it})));
+  const {hands} = await handsOf(packed.map(it => `#hand:${it}`).join(' ')), desk = deskOf(), seen = new Map(), marks = [];
+  for (const {hand} of hands) marks.push(...(await marksOf(asker(desk), hand, tasksFor(hands.map(it => it.hand), PAGE), PAGE, {seen})).values());
+  assert.deepEqual(marks, [true, true, false]);
+  assert.throws(() => sheetOf(text.replace('{a * 2}', '{d}'), PAGE), /Line 4 of the sheet: this task has braces: d isn’t drawn/);
 });
 
 test('equal decks of several pupils', () => {

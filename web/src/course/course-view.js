@@ -11,6 +11,7 @@ import {Quiz} from './quiz.js';
 import {printQuestions} from './paper.js';
 import {operatorParts} from '../words/reading.js';
 import {packedText} from '../editor/share.js';
+import {seedOf} from './draw.js';
 import {keyOfSheet, newestOf, sheetOf} from './sheet.js';
 
 const ANY_WAY = 'Step with →, click a card, which sets a breakpoint, and press Enter to go there, or search: the keys stand below the line of time.';
@@ -55,6 +56,7 @@ function showMemoryOf({core}) {
 export class Course {
   constructor(page) {
     Object.assign(this, {page, progress: new Progress(page.storage), quiz: new Quiz(), current: null, sheets: [], tries: new Map()});
+    this.pupil = {name: keptValue(page.storage, NAME) ?? '', number: keptValue(page.storage, NUMBER) ?? ''};
     for (const text of (keptValue(page.storage, SHEETS) ?? []).reverse()) this.takesKept(text);
   }
 
@@ -65,7 +67,7 @@ export class Course {
 
   // Takes in a sheet, the newest first; the same one stands once, in its newest version.
   takeSheet(text) {
-    const [sheet] = newestOf([this.sheets.find(it => it.key === keyOfSheet(text)), sheetOf(text, this.page.decks)].filter(Boolean));
+    const [sheet] = newestOf([this.sheets.find(it => it.key === keyOfSheet(text)), sheetOf(text, this.page.decks, seedOf(this.pupil))].filter(Boolean));
     this.sheets = [sheet, ...this.sheets.filter(it => it.key !== sheet.key)].slice(0, MOST_SHEETS);
     return sheet;
   }
@@ -86,8 +88,8 @@ export class Course {
 
   list() {
     const button = (text, act, title) => element('button', {type: 'button', onclick: act, title}, text);
-    const name = element('input', {id: 'pupil', size: 14, placeholder: 'your name', 'aria-label': 'your name, for your teacher', autocomplete: 'name', value: keptValue(this.page.storage, NAME) ?? ''});
-    const number = element('input', {id: 'pupil-number', size: 9, placeholder: 'number', 'aria-label': 'your number or address at school, if your teacher wants it', value: keptValue(this.page.storage, NUMBER) ?? ''});
+    const name = element('input', {id: 'pupil', size: 14, placeholder: 'your name', 'aria-label': 'your name, for your teacher', autocomplete: 'name', value: this.pupil.name, onchange: () => this.named(name.value.trim(), number.value.trim())});
+    const number = element('input', {id: 'pupil-number', size: 9, placeholder: 'number', 'aria-label': 'your number or address at school, if your teacher wants it', value: this.pupil.number, onchange: () => this.named(name.value.trim(), number.value.trim())});
     put(byId('lessons'), element('h2', {}, 'Lessons'), element('p', {id: 'progress-said', role: 'status'}),
       element('p', {class: 'group'}, name, number, button('Hand in', () => this.page.guard(() => this.handsIn(name.value.trim(), number.value.trim())), 'one link that shows your teacher what you have done')),
       element('div', {id: 'sheets'}), COURSE.map(lesson => this.lessonPart(lesson)),
@@ -191,6 +193,7 @@ export class Course {
   // Begins a task: with the deck that was written for it before, unless it is to begin anew; else with its deck at its moment, or with the
   // deck alone, or with a new one.
   async begin(task, anew = false) {
+    if (task.drawn && !seedOf(this.pupil)) this.wantsName();
     const {page} = this, {editor} = page, kept = task.kind === 'write' && !anew && editor.own.list().find(it => it.task === task.id);
     this.current = task;
     editor.task = ''; // what was open is no work of this task
@@ -201,6 +204,12 @@ export class Course {
     editor.task = task.kind === 'write' ? task.id : '';
     this.quiz.turn(task.kind === 'predict', true);
     if (task.kind === 'predict') setTimeout(() => page.steps.goBy(1)); // the question waits for its answer, the page doesn't
+  }
+  // Numbers of one's own want to know whose they are.
+  wantsName() {
+    this.page.showLessons(true);
+    byId('pupil').focus();
+    throw new Error('The numbers of this exercise are your own: type your name in the list of lessons, and the number that your teacher wants, and then open it again.');
   }
   goesOn({name}) {
     this.page.show('deck');
@@ -329,9 +338,17 @@ export class Course {
 
   // ------------------------------------------------------------ handing in
 
+  // Whose work it is; another pupil has other numbers of their own.
   named(name, number) {
-    keepValue(this.page.storage, NAME, name);
-    keepValue(this.page.storage, NUMBER, number);
+    const {page, sheets, pupil} = this;
+    keepValue(page.storage, NAME, name);
+    keepValue(page.storage, NUMBER, number);
+    this.pupil = {name, number};
+    if (seedOf(pupil) === seedOf(this.pupil) || !sheets.some(it => it.tasks.some(task => task.drawn))) return;
+    this.sheets = sheets.map(({text}) => sheetOf(text, page.decks, seedOf(this.pupil)));
+    this.listSheets();
+    const task = this.current?.drawn && this.sheets.flatMap(it => it.tasks).find(it => it.id === this.current.id);
+    if (task) page.guard(() => this.begin(task));
   }
   // Another tab has done a task, or forgotten all.
   looks() {
