@@ -37,6 +37,7 @@ async function finds(it, {id}, hash) {
   if (SEARCHED[id]) {
     await it.pressed(`task ${id}`, it.deck('two'), 'End');
     it.wants(!await isDone(it), `task ${id} is done in the core with which it opens`);
+    it.wants(/Not yet: at the end/.test(await it.shown('#task')), `task ${id} at the end: ${await it.shown('#task')}`);
     await it.types(undefined, SEARCHED[id]);
     await it.state();
     await it.browser.value('document.activeElement.blur(); 0');
@@ -134,7 +135,7 @@ async function comesBack(it) {
   await it.until("history.state?.task === '1.5'");
   await it.reloads();
   ({text} = await it.state());
-  it.wants(text === WRITTEN['1.5'][0] && /^Exercise 1\.5/.test(await it.shown('#task')), `a task after a reload: ${await it.shown('#task')}`);
+  it.wants(text === WRITTEN['1.5'][0] && /^✓ Exercise 1\.5/.test(await it.shown('#task')), `a task after a reload: ${await it.shown('#task')}`);
   await it.opens('task:1.2');
   await it.browser.value("[...document.querySelectorAll('#task button')].find(it => it.textContent === 'Begin anew').click(); 0");
   ({text} = await it.state());

@@ -120,6 +120,8 @@ test('a sheet with an id keeps its work when a letter of it changes', () => {
 
 test('what a deck must have isn’t met by a comment', () => {
   const {tasks: [task]} = sheetOf('task: A\nask: B\nprints: 1.1 4\nhas: RDIV\nlacks: LT8 4\n', PAGE), done = text => isWritten(task, {words: runWords(4096), text, status: 0, printed: '1.1 4\n', core: 4096});
+  const jensen = TASKS.find(it => it.id === '3.4'), passes = text => isWritten(jensen, {words: runWords(4096), text, status: 0, printed: '1.1 10\n1.1 ENDED\n', core: 4096});
+  assert.deepEqual([passes(WRITTEN['3.4'][0]), passes(PAGE.get('jensen').text.replace('VALC 2,2\nVALC 2,2\nMULT', 'ONE'))], [true, false]);
   assert.deepEqual([done('LT8 8\nRDIV\n'), done('LT8 8 ; RDIV\n'), done('RDIV\nLT8 4\n'), done('RDIV ; LT8 4\n')], [true, false, false, true]);
 });
 

@@ -270,7 +270,7 @@ export class Course {
     this.current = task;
     this.page.editor.task = task.kind === 'write' ? id : '';
     if (task.kind === 'predict') this.quiz.turn(true, true);
-    this.tell(task.text, wantedText(task));
+    this.tell(task.text, wantedText(task), this.progress.isDone(task));
     this.showMarks();
   }
   // Another deck is stepped through: the questions of a task end with its deck, and come back with it.
@@ -301,11 +301,16 @@ export class Course {
   // Looks whether the state that is shown is what the task that is being done wants to be found.
   async sees({name, text, raw, core}, state) {
     const task = this.current;
-    if (!task || !isFound(task, {name, text: raw}, state)) return;
+    if (!task || !isFound(task, {name, text: raw}, state)) return this.misses(task, name, state);
     const first = !task.first || await this.page.client.ask('isFirst', {deck: text, core, id: task.id, find: task.find, count: state.count}).catch(() => false);
     if (this.current !== task) return;
     if (first) this.done(task, {deck: raw, core, count: state.count}, `Found: operator ${state.count}${state.operator ? `, ${operatorParts(state.operator).join(' ')}` : ''}.`);
     else this.tell(task.text, 'Here it holds too, but not for the first time.');
+  }
+
+  // Says what a task wants that its own deck's end hasn't shown.
+  misses(task, name, {status}) {
+    if (task?.misses && status === 0 && name === deckOfTask(task) && !this.progress.isDone(task)) this.tell(task.text, `${wantedText(task)} ${task.misses}`);
   }
 
   // Looks whether a command has done the task of writing; lines are looked at in a second core, too.

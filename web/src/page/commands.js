@@ -14,9 +14,13 @@ const [LEAST_CORE, MANY_CORES] = [256, 12];
 const SOON_FOUND = 1000; // milliseconds of a run whose fault is looked for unasked
 export const NO_JOB = 'This deck has no job, so nothing runs: choose a deck, or write ?JOB and its cards.';
 
-// What `image` prints without the cards of the image.
+const FIRST_CARDS = 3; // of an image, which has thousands
+// What `image` prints, with the first cards of the image alone.
 function withoutImage(text) {
-  return text.replace(/\?IMAGE\n[^?]*\?END\n/, cards => `?IMAGE\n(${(cards.split('\n').length - 3).toLocaleString('en')} cards)\n?END\n`);
+  return text.replace(/\?IMAGE\n([^?]*)\?END\n/, (_, all) => {
+    const cards = all.trimEnd().split('\n');
+    return ['?IMAGE', ...cards.slice(0, FIRST_CARDS), `(and ${(cards.length - FIRST_CARDS).toLocaleString('en')} cards more)`, '?END\n'].join('\n');
+  });
 }
 
 export class Commands {
