@@ -70,7 +70,7 @@ function take(text, given,   word, count, first) {
     sub(/\r$/, "", line)
     deck[NR] = $0
 }
-line ~ /^\?JOB/ { split("", couple); split("", home_of); job++ }
+line ~ /^\?JOB/ { split("", couple); split("", home_of); split("", is_malformed); job++ }
 line ~ /^\?/ { is_assembly = line ~ /^\?ASM/ }
 !is_assembly { next }
 line ~ /^ *([A-Z0-9]+: *)?CELL( |;|$)/ {
@@ -86,7 +86,10 @@ line ~ /^ *([A-Z0-9]+: *)?CELL( |;|$)/ {
         next
     }
     if (!is_next && (count != first + 2 || word[first] != "CELL" || !is_name(word[first + 1])) || !is_couple(its)) {
-        wrong("CELL name level,displacement is wanted, or CELL name: a name of at most 16 small letters, digits or _, a letter first, and no space in the couple")
+        card_text = line
+        sub(/^ +/, "", card_text)
+        wrong(substr(card_text, 1, 60) ": CELL name level,displacement is wanted, or CELL name: a name of at most 16 small letters, digits or _, a letter first, and no space in the couple")
+        is_malformed[word[first + 1]] = 1 # its uses are no mistakes of their own
         next
     }
     couple[word[first + 1]] = its
@@ -109,7 +112,7 @@ match(line, /^ *([A-Z0-9]+: +)?(VALC|NAMC) +[a-z][^ ;]*/) {
     name = before
     sub(/.* /, "", name)
     if (!(name in couple)) {
-        wrong(substr(before, length(before) - length(name) - 4) ": no CELL line before it names " name)
+        if (!(name in is_malformed)) wrong(substr(before, length(before) - length(name) - 4) ": no CELL line before it names " name)
         next
     }
     line = substr(before, 1, length(before) - length(name)) couple[name] after
