@@ -4,13 +4,13 @@
 // Rows, lines of a shell, a locked file, images from one to the other and decks/run.sh, as command.mjs has them; the rows by calls of b67.mjs
 // in this process. Then what b67.mjs alone can: a run without a file, a long run in parts, marks, and the table of a class. Prints each difference, and at last
 // `N the same, M different`.
-import {spawn, spawnSync} from 'node:child_process';
+import {spawnSync} from 'node:child_process';
 import fs from 'node:fs';
 import path from 'node:path';
 import {pageOf, serve} from '../b67.mjs';
 import {packedHand} from '../src/course/handin.js';
 import {WRITTEN} from '../tests/answers.js';
-import {byDecks, byImages, byLines, byLock, byRows, Comparison} from './command.mjs';
+import {byDecks, byImages, byLines, byLock, byParts, byRows, Comparison} from './command.mjs';
 
 const [command, page, program, decks, rows] = process.argv.slice(2).map(it => path.resolve(it)), comparison = new Comparison(), {room} = comparison;
 const module = new WebAssembly.Module(pageOf(page).bytes), wants = (holds, what) => comparison.wants(holds, what);
@@ -29,26 +29,6 @@ function by_itself() {
   const many = over(['bind', '1=1', '2=2', '3=3', '4=4', '5=5'], two);
   wants(many.status === 10 && /four pairs/.test(many.stderr), `five pairs: ${many.status} ${many.stderr}`);
   wants(over(['run', '--core', '630'], two, {B67_PAGE: '/none'}).status === 10, 'without a page');
-}
-
-// A long run, which is made in parts: what it prints and its status, of a run, of one that is ended by its limit, that pages, that goes on from an
-// image, whose output is full; and its first lines come before its end.
-async function by_parts() {
-  const folder = comparison.folder('parts'), long = (most, cards, times) => `?JOB LONG\n?LIMIT ${most}\n?ASM\nSEGMENT MAIN 2\nZERO\n${cards}TOP: MKST\nNAMC 0,9\nVALC 2,2\nENTR\nZERO\nIN: ${times}\nLESS\nBRTR IN\nDLET\nVALC 2,2\nONE\nADD\nNAMC 2,2\nSTON\nLT8 60\nLESS\nBRTR TOP\nEXIT\n?END\n`;
-  const counts = at => `VALC 2,${at}\nONE\nADD\nNAMC 2,${at}\nSTON\nLT16 10000`, array = 'MKST\nNAMC 0,8\nLT8 200\nENTR\n', touches = cell => `VALC 2,2\nNAMC 2,${cell}\nLT8 5\nINDX\nSTOD\n`;
-  const paging = long(9000000, array + array, `${touches(3)}${touches(4)}${counts(5)}`.replaceAll('LT16 10000', 'LT16 1000')).replace('LT8 60', 'LT8 70');
-  const texts = {plain: long(9000000, '', counts(3)), limited: long(2500000, '', counts(3)), paging, halted: `?HALT 300000\n${long(9000000, '', counts(3))}`, endless: long(100000000, '', counts(3)).replace('LESS\nBRTR TOP', 'DLET\nDLET\nBRUN TOP')};
-  for (const [name, text] of Object.entries(texts)) fs.writeFileSync(path.join(folder, name), text);
-  for (const line of ['run --core 4096 --backing b < plain', 'run --core 4096 --backing b < limited', 'run --core 890 --backing b < paging', 'image --core 4096 --backing b < halted > i; B67 resume --backing b < i', 'run --core 4096 --backing b < plain > /dev/full', 'run --core 4096 --backing b < halted']) {
-    const [mine, native] = [command, program].map(name => {
-      const {status, stdout} = spawnSync('sh', ['-c', `rm -f b; B67() { "$0" "$@"; }; B67 ${line}`, name], {cwd: folder, maxBuffer: 1 << 28});
-      return `${status} ${stdout.toString('latin1')}`;
-    });
-    wants(mine === native, `in parts, ${line}: ${mine.slice(-200)}, natively ${native.slice(-200)}`);
-  }
-  const its = spawn(command, ['run', '--core', '4096'], {stdio: [fs.openSync(path.join(folder, 'endless')), 'pipe', 'inherit']});
-  its.stdout.once('data', () => its.kill());
-  wants(await new Promise(goes => { its.on('close', (_, signal) => goes(signal)); }) === 'SIGTERM', 'the first lines of a long run come at its end');
 }
 
 // Marks: a right deck, one of constants, which other numbers find out, one that loops, one that prints without end, and one that is none.
@@ -78,7 +58,7 @@ byLines(comparison, decks, program, command);
 byLock(comparison, program, command);
 byImages(comparison, decks, program, command);
 by_itself();
-await by_parts();
+await byParts(comparison, program, command);
 by_marks();
 await by_class();
 byDecks(comparison, decks, command);

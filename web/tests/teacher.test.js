@@ -171,6 +171,7 @@ test('numbers of one’s own: drawn by a pupil’s number, worked out in braces,
   const text = 'id: own-1\nversion: 1\n\ntask: Twice\nask: Print twice {a}, by READ.\ndraw: a 100 to 999\nprints: 1.1 {a * 2}\nprints: 1.1 ENDED\ndeck:\n?JOB T\n?ASM\nSEGMENT MAIN 2\nEXIT\n?DATA\n{a}\n?END\n';
   const [ada, bo] = ['17', 'bo'].map(seed => sheetOf(text, PAGE, seed).tasks[0]), solved = task => task.deck.replace('EXIT', 'MKST\nNAMC 0,9\nMKST\nNAMC 0,11\nENTR\nDUPL\nADD\nENTR\nEXIT');
   assert.notEqual(ada.lines[0], bo.lines[0]);
+  assert.equal(sheetOf(text, PAGE).tasks[0].text, 'Print twice {a}, by READ.');
   assert.equal(ada.text.replace(/\D/g, '') * 2, Number(ada.lines[0].slice(4)));
   const packed = await Promise.all([{name: 'Ada', number: '17', work: solved(ada)}, {name: 'Bo', work: solved(bo)}, {name: 'Cy', work: solved(ada)}].map(({work, ...it}) => packedHand({version: '1', sheets: [text], work: [[ada.id, {deck: work, core: 4096}]], ...it})));
   const {hands} = await handsOf(packed.map(it => `#hand:${it}`).join(' ')), desk = deskOf(), seen = new Map(), marks = [];

@@ -106,17 +106,18 @@ function kindOf({prints, refused, find, predict, line}) {
   throw new SheetRefused(line, kinds.length ? `this task is of several kinds: ${kinds.join(', ')}. Make a task of each.` : 'nothing says when this task is done: prints:, refused:, find: or predict:.');
 }
 
-// A task with the numbers of a pupil in the place of what stands in braces.
+// A task with the numbers of a pupil in the place of what stands in braces; without a seed as it is written, once it was tried.
 function withNumbers(written, seed, where) {
-  const numbers = drawn(written.draws, seed, where), fill = text => {
+  const numbers = drawn(written.draws, seed || 'nobody', where), fill = text => {
     try {
       return filled(text, numbers);
     } catch ({message}) {
       throw new SheetRefused(written.line, `this task has braces: ${message}`);
     }
   };
-  return {...written, ...Object.fromEntries(['ask', 'prints', 'has', 'lacks'].map(word => [word, written[word].map(fill)])), name: fill(written.name), cards: written.cards?.map(fill),
-    tests: written.tests.map(({numbers: its, lines}) => ({numbers: its, lines: lines.map(fill)}))};
+  const its = {...written, ...Object.fromEntries(['ask', 'prints', 'has', 'lacks'].map(word => [word, written[word].map(fill)])), name: fill(written.name), cards: written.cards?.map(fill),
+    tests: written.tests.map(test => ({...test, lines: test.lines.map(fill)}))};
+  return seed ? its : written;
 }
 
 // A task of a sheet as the course has tasks; `drawn` is the sheet's text, if the task has numbers of one's own.
