@@ -131,7 +131,7 @@ export async function byParts(comparison, program, command) {
     });
     comparison.wants(mine === native, `in parts, ${line}: ${mine.slice(-200)}, natively ${native.slice(-200)}`);
   }
-  const its = spawn(command, ['run', '--core', '4096'], {stdio: [fs.openSync(path.join(folder, 'endless')), 'pipe', 'inherit']});
+  const its = spawn(command, ['run', '--core', '4096', '--backing', 'endless.b'], {cwd: folder, stdio: [fs.openSync(path.join(folder, 'endless')), 'pipe', 'inherit']});
   its.stdout.once('data', () => its.kill());
   comparison.wants(await new Promise(goes => { its.on('close', (_, signal) => goes(signal)); }) === 'SIGTERM', 'the first lines of a long run come at its end');
 }
