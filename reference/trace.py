@@ -17,6 +17,7 @@ greatest core.
 from __future__ import annotations
 
 import re
+import subprocess
 import sys
 import time
 from collections import defaultdict, deque
@@ -54,6 +55,9 @@ SILENT_SECONDS = 2.0
 OPERATORS_A_LOOK = 250
 GREATEST_CORE = 1_048_575
 COUNT = re.compile(r"[0-9]{1,9}")
+CELLS = Path(__file__).resolve().parent.parent / "scripts" / "cells.sh"
+NAMED = re.compile(rb"^ *CELL[ ;]|(?:VALC|NAMC) +[a-z]", re.MULTILINE)
+NAME = re.compile(rb"(?:VALC|NAMC) +([a-z][a-z0-9_]*)")
 
 
 # --- Texts ------------------------------------------------------------------------
@@ -162,6 +166,21 @@ def places_of_cards(numbers: list[list[int]], operators: list) -> Cards:
     return [dict(zip(places, cards)) for places, cards in zip(operators, numbers)]
 
 
+Names = dict[int, str]
+
+
+def without_names(path: Path) -> tuple[bytes, Names]:
+    """A deck with couples in place of names, and the name that each card has."""
+    text = path.read_bytes()
+    if not NAMED.search(text):
+        return text, {}
+    made = subprocess.run(["sh", CELLS, path], stdout=subprocess.PIPE, check=False)
+    if made.returncode != 0:
+        sys.exit(made.returncode)
+    found = ((card, NAME.search(line.partition(b";")[0])) for card, line in enumerate(text.splitlines(), 1))
+    return made.stdout, {card: name[1].decode() for card, name in found if name}
+
+
 # --- The session ------------------------------------------------------------------
 
 
@@ -207,8 +226,9 @@ class Clock:
 class Traced(Session):
     """A session that shows each of its operators."""
 
-    def __init__(self, deck: Deck, show: Callable[[Made], None]) -> None:
+    def __init__(self, deck: Deck, show: Callable[[Made], None], names: Names) -> None:
         self.show = show
+        self.names = names
         self.clock = Clock()
         self.printed: list[str] = []
         programs = programs_of(deck)
@@ -225,6 +245,8 @@ class Traced(Session):
         text = operator_text(operator[0], task.running_frame().level) if operator else "past its end"
         cards = self.cards[task.job.number - 1]
         card = cards[segment].get(place, "-") if segment < len(cards) else "-"
+        if card in self.names:
+            text = f"{text} {self.names[card]}"
         super().step()
         where = f"{segment + 1}@{place}"
         made = self.machine.made
@@ -274,17 +296,17 @@ def drawing(machine: Machine) -> str:
 # --- The command ------------------------------------------------------------------
 
 
-def draw(deck: Deck, count: int) -> None:
+def draw(deck: Deck, names: Names, count: int) -> None:
     """Prints the drawing of the stacks after so many operators."""
-    session = Traced(deck, lambda made: None)
+    session = Traced(deck, lambda made: None, names)
     while session.lives() and session.machine.made < count and session.machine.made != session.halt:
         session.step()
     print(drawing(session.machine))
 
 
-def trace(deck: Deck, first: int, end: float) -> None:
+def trace(deck: Deck, names: Names, first: int, end: float) -> None:
     """Prints the operators from `first` to `end`, and makes none after them."""
-    session = Traced(deck, lambda made: show(made) if first <= made.count else None)
+    session = Traced(deck, lambda made: show(made) if first <= made.count else None, names)
 
     def show(made: Made) -> None:
         made.show()
@@ -296,7 +318,7 @@ def trace(deck: Deck, first: int, end: float) -> None:
         print(ending_of(session), end="")
 
 
-def trace_last(deck: Deck) -> None:
+def trace_last(deck: Deck, names: Names) -> None:
     """Prints the last operators of each task that faults, and the last ones of the run.
 
     Two dots stand where operators are left out between them.
@@ -311,7 +333,7 @@ def trace_last(deck: Deck) -> None:
         if made.faulted:
             kept.update((each.count, each) for each in of_task[made.task])
 
-    ending = ending_of(Traced(deck, keep))
+    ending = ending_of(Traced(deck, keep, names))
     kept.update((made.count, made) for made in latest)
     before = min(kept, default=0) - 1
     for count in sorted(kept):
@@ -347,7 +369,8 @@ def main() -> int:
     if not path.is_file():
         return usage(f"{path}: not a file that can be read")
     try:
-        deck = read_deck(path.read_bytes())
+        text, names = without_names(path)
+        deck = read_deck(text)
         programs_of(deck)
     except OSError:
         return usage(f"{path}: not a file that can be read")
@@ -356,11 +379,11 @@ def main() -> int:
         return 2
     try:
         if is_draw:
-            draw(deck, counts[0])
+            draw(deck, names, counts[0])
         elif words:
-            trace_last(deck) if words == ["last"] else trace(deck, counts[0], (*counts, float("inf"))[1])
+            trace_last(deck, names) if words == ["last"] else trace(deck, names, counts[0], (*counts, float("inf"))[1])
         else:
-            trace(deck, 0, float("inf"))
+            trace(deck, names, 0, float("inf"))
         sys.stdout.flush()
     except BrokenPipeError:
         sys.stderr.close()

@@ -29,13 +29,13 @@ sh "$here/cells.sh" "$deck" >"$room/deck" || exit 1
 status=$?
 line=$(tail -n 1 "$room/lines")
 if [ $status = 0 ]; then
-    cat "$room/lines" || exit 2
-    [ -n "$line" ] || echo "    The deck is empty, or has empty cards alone."
-    echo "    Nothing is refused. It may still fault: run it, and pipe its lines to sh $(dirname "$0")/explain.sh."
     named=
     cmp -s "$deck" "$room/deck" || named=1
     case $deck in *[!A-Za-z0-9_./-]*) deck="'$deck'" ;; esac
-    [ -z "$named" ] || echo "    It has names for cells, which b67 refuses: sh $(dirname "$0")/cells.sh $deck > plain, and run that."
+    [ -z "$named" ] || echo "    This deck has names for cells, which b67 refuses: sh $(dirname "$0")/cells.sh $deck > plain makes one without. Of that check says:" || exit 2
+    cat "$room/lines" || exit 2
+    [ -n "$line" ] || echo "    The deck is empty, or has empty cards alone."
+    echo "    Nothing is refused. It may still fault: run it, and pipe its lines to sh $(dirname "$0")/explain.sh."
     echo "    Where it goes wrong then: sh $(dirname "$0")/where.sh $deck"
     exit 0
 fi

@@ -122,7 +122,9 @@ while [ "$from" -le "$to" ]; do
         echo "no task lives"
         exit
     fi
-    sh "$here/plain.sh" "$room/dump" || exit 1
+    sh "$here/plain.sh" "$room/dump" >"$room/plain" || exit 1
+    # the shell says when the output is full, and not every awk does
+    plain=$(awk -f "$here/named" "$room/deck" "$room/plain") && printf '%s\n' "$plain" || exit 1
     cp "$room/lines" "$room/shown"
     cp "$room/dump" "$room/before"
     from=$((from + 1))

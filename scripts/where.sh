@@ -117,6 +117,8 @@ record() {
             { text = text (text == "" ? "" : "\n") $0 }
             END { print text }' | sed 's/^/  /'
 }
+# the names of cells, if the deck has some, to the cells of a record that runs segment $2 of job $1
+named() { awk -v job="$1" -v segment="$2" -f "$here/named" "$room/deck" -; }
 # what MESSAGES.md says of the ending
 causes() { sh "$here/explain.sh" "$fault" | sed '1s/.*/What it means, and the usual causes:/'; }
 echo "$fault, by operator $high:"
@@ -127,8 +129,9 @@ case $fault in
         echo "$line" | sh "$here/plain.sh" | sed 's/^/    /'
         before=${line% *}
         operator "${before##* }" "${line##* }" ''
+        segment=${before##* }
         # at a DEADLOCK the one that is still ready comes to wait by this operator: its record says for what
-        case $fault$line in *DEADLOCK*READY*) record "$(echo "$line" | cut -d' ' -f2)" running | sed 's/^/    /' ;; esac
+        case $fault$line in *DEADLOCK*READY*) record "$(echo "$line" | cut -d' ' -f2)" running | named "${task%%.*}" "$segment" | sed 's/^/    /' ;; esac
     done
     causes
     exit 0
@@ -140,7 +143,8 @@ set -- $(grep "^TASK $task " "$room/dump")
 operator "$4" "$5" 1
 echo "The record on top before it:"
 record "$task" >"$room/record"
-cat "$room/record" || exit 1
+shows=$(named "${task%%.*}" "$4" <"$room/record") || exit 1
+[ -z "$shows" ] || printf '%s\n' "$shows" || exit 1
 # the one cause of several that the record shows; nothing if it shows none. The card that faulted is the operator of the listing's line
 shown() {
     awk -v card="$1" '

@@ -30,7 +30,7 @@ trap 'exit 130' HUP INT TERM
 git -C "$top" rev-parse -q --verify HEAD >/dev/null 2>&1 || usage "$top: not a repository of git"
 git clone -q "$top" "$room/clone" || exit 2
 # as the scripts are now, committed or not
-cp "$top"/scripts/*.* "$room/clone/scripts/"
+cp "$top"/scripts/* "$room/clone/scripts/"
 cp "$top"/tools/*.* "$room/clone/tools/"
 cp "$top"/decks/run.sh "$room/clone/decks/run.sh"
 cp "$top"/reference/*.py "$room/clone/reference/"
@@ -392,6 +392,34 @@ for deck in "$decks"/*/stdin; do
     called="cells.sh $deck"
     sh "$room/clone/scripts/cells.sh" "$deck" | cmp -s - "$deck" || wrong 'a deck without names is changed'
 done
+# cells.sh numbers names, warns of what the cards show, and of no deck that is right
+for deck in "$decks"/exercises/example.deck "$decks"/answers/*.deck "$top"/teaching/answers/*.deck; do
+    called="cells.sh $deck"
+    sh "$room/clone/scripts/cells.sh" "$deck" 2>&1 >"$room/plain" | grep . && wrong 'it warns of a right deck'
+done
+called='cells.sh with CELL lines without a couple'
+sed 's/^CELL base 3,2 */CELL base /; s/^CELL n 3,3 */CELL n /; s/^CELL power 2,2/CELL power/; s/^CELL n 2,3/CELL n/' "$decks/exercises/example.deck" >"$room/planted"
+sh "$room/clone/scripts/cells.sh" "$room/planted" | grep -v '^;' >"$room/plain"
+sh "$room/clone/scripts/cells.sh" "$decks/exercises/example.deck" | grep -v '^;' | cmp -s - "$room/plain" || wrong 'other couples'
+while IFS='|' read -r edit sentence; do
+    called="cells.sh, example.deck with $edit"
+    sed "$edit" "$decks/exercises/example.deck" >"$room/planted"
+    cmp -s "$room/planted" "$decks/exercises/example.deck" && wrong 'nothing is planted'
+    sh "$room/clone/scripts/cells.sh" "$room/planted" 2>&1 >/dev/null | grep -q "warning: $sentence" || wrong "it doesn't warn: $sentence"
+done <<'EDITS'
+s/^LT8 3$/LT8 3\nONE/|POWER names 2 parameters before its first operator, and gets 3 arguments
+/^LT8 3$/d|POWER gets 2 arguments here, and 1 argument on card 15
+s/^NAMC print/NAMC print\nONE/|PRINT takes 1 argument, and gets 2 arguments
+s/^CELL n 2,3/CELL n 2,4/|n is cell 2,4, and the cells that are pushed here are those up to 2,3
+s/^SEGMENT POWER/SEGMENT P 3\nCELL x 3,2\nEXIT\n&/;s/^M: VALC base/M: VALC x/|x is a cell of P, and in POWER the couple 3,2 is another cell
+EDITS
+called='where.sh, step.sh and the tracer with names'
+sed 's/^VALC base$/NAMC base/' "$decks/exercises/example.deck" >"$room/planted"
+PATH=$path sh "$room/clone/scripts/where.sh" "$room/planted" | grep -q '3,2   base = couple 3,2' || wrong 'where.sh shows no name'
+PATH=$path sh "$room/clone/scripts/step.sh" "$decks/exercises/example.deck" 12 | grep -q '2,3   n = 0' || wrong 'step.sh shows no name'
+python3 "$room/clone/reference/trace.py" "$decks/exercises/example.deck" 8 8 | grep -q 'VALC 2,3 n ' || wrong 'trace.py shows no name'
+called='diagnose.sh with names'
+PATH=$path sh "$room/clone/scripts/diagnose.sh" "$decks/exercises/example.deck" | head -1 | grep -q 'which b67 refuses' || wrong 'it admits the deck'
 marks() { PATH=$path sh "$room/clone/scripts/mark.sh" "$1" "$decks/exercises/$2.lines"; }
 for answer in "$decks"/answers/*.deck; do
     called="mark.sh $answer"

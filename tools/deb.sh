@@ -35,7 +35,7 @@ Description: verified stack machine after the Burroughs B6700
  An emulator of a stack machine with tagged words, ALGOL procedures, several
  tasks, and arrays that move between memory and a file. Its program is proved:
  however small its memory is, it prints the same lines, or stops and says what
- it lacks.
+ it lacks. It wants a processor of the level x86-64-v2.
 TEXT
 find "$room/b67" -exec touch -hd "@$SOURCE_DATE_EPOCH" {} +
 dpkg-deb --root-owner-group -Zgzip --build "$room/b67" "$room/b67.deb" >/dev/null

@@ -34,7 +34,7 @@ table() {
         echo "644 $file libexec/b67/$file"
         echo "755 command bin/b67-${name%.sh}"
     done
-    echo "644 scripts/program libexec/b67/scripts/program"
+    for file in program named; do echo "644 scripts/$file libexec/b67/scripts/$file"; done
     echo "644 CITATION.cff libexec/b67/CITATION.cff"
     echo "644 docs/MESSAGES.md libexec/b67/docs/MESSAGES.md"
     echo "644 docs/b67-image.5 libexec/b67/docs/b67-image.5"
@@ -89,3 +89,5 @@ mkdir -p "$root/libexec/b67"
 { table | cut -d' ' -f3; echo $installed; } >"$root/$installed"
 table | while read -r mode file name; do put "$mode" "$file" "$name"; done
 echo "installed below $root: $(wc -l <"$root/$installed") files, the commands $(cd "$root/bin" && echo b67*)"
+# a program that is proved is built for x86-64-v2, and ends with 127 on an older processor
+[ -n "${DESTDIR-}" ] || "$root/bin/b67" check </dev/null >/dev/null 2>&1 || echo "install.sh: this machine can't run it, status $?; 127 is a processor below the level x86-64-v2: see b67(1)" >&2

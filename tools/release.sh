@@ -5,7 +5,7 @@
 # The paper is printed too (docs/PAPER.pdf), if pandoc and weasyprint are there; the same versions of both give the same bytes. So is b67.c,
 # the program as one file of C, if wasm2c is there (Debian: wabt). A link
 # of a document that leads to no file of the archive is an error. What teachers alone get, FILE-teachers.tar.gz, is unpacked beside it: keys,
-# solutions, exam, slides, the answers, and how to teach with it all.
+# solutions, exam, slides, the answers, and how to teach with it all. What pupils get has a README of its own, tools/release-readme.txt.
 #
 #     bash tools/release.sh PROGRAM FILE.tar.gz [PAGE]
 #
@@ -83,34 +83,15 @@ for file in $(git ls-files crates/b67_rows/data/decks); do
     esac
 done
 
-{
-    printf 'b67 %s, %s\n\n' "$version" "$date"
-    cat <<'TEXT'
-A stack machine after the Burroughs B6700, proved before it was built.
-
-    PATH=$PWD/bin:$PATH
-    b67 run --core 4096 --backing b < decks/sum/stdin
-
-prints 1.1 5 and 1.1 ENDED. The program needs Linux on x86-64 with the GNU C library 2.34 or later (Debian 12, Ubuntu 22.04,
-RHEL 9); it is built, so skip what the documents say of rt and make. From here: docs/TOUR.md, three lessons with commands;
-teaching/pupils, a sheet for each week of a term, and two projects; docs/ALGOL.md, programs in ALGOL 60 (node); docs/ASSEMBLER.md, how to write decks, and decks/exercises/README.md,
-tasks for it. man -l man/man1/b67.1 has the commands, man -l man/man5/b67-deck.5 the cards, man -l man/man5/b67-image.5 the
-image of a halted machine; docs/statement.html, in a browser, what is proved. The scripts need sh and an awk as POSIX has it, the tracer (reference/trace.py) Python 3.11.
-TEXT
-    [ ! -f "$out/b67.html" ] || cat <<'TEXT'
-
-b67.html is the machine in a page: open it in a browser of 2024 or later. It needs nothing of the above, so it runs on Windows, on
-a Mac, on an older Linux and on a phone; its button Lessons has the course. b67.mjs, beside it, is the same machine as a command,
-wherever there is node 18 or later: node b67.mjs run --core 4096 < decks/sum/stdin
-The folder server has the page in three files, for a server whose policy allows no script within a page.
-TEXT
-    [ ! -f "$out/b67.c" ] || cat <<'TEXT'
-
-b67.c is the same machine as one file of C, for a Mac, a Raspberry Pi and other POSIX systems: cc -O2 -o b67 b67.c makes the command.
-It takes a minute; on a machine of 512 MB compile it with clang, or by cc -O0.
-TEXT
-    printf '\nEach file has its sum in SHA256SUMS: sha256sum -c SHA256SUMS\n'
-} >"$out/START.txt"
+# its own README; the repository's becomes docs/ABOUT.md, and links lead there
+mv "$out/README.md" "$out/docs/ABOUT.md"
+sed -i -E 's:\]\(docs/:](@:g; s:\]\(([A-Za-z]):](../\1:g; s:\]\(@:](:g' "$out/docs/ABOUT.md"
+find "$out" -name '*.md' ! -path "$out/docs/ABOUT.md" -exec sed -i -E 's:\]\((\.\./\.\./\.\./|\.\./\.\./)README\.md:](\1docs/ABOUT.md:g' {} +
+sed -i -E 's:\]\(\.\./README\.md:](ABOUT.md:g' "$out"/docs/*.md
+kept=
+[ -f "$out/b67.html" ] || kept="$kept;/^\[page\]/d"
+[ -f "$out/b67.c" ] || kept="$kept;/^\[c\]/d"
+sed "s/VERSION/$version/; s/DATE/$date/$kept;s/^\[[a-z]*\] *//" tools/release-readme.txt >"$out/README.md"
 (cd "$out" && find . -type f ! -name SHA256SUMS | LC_ALL=C sort | sed 's:^\./::' | xargs -d '\n' sha256sum >SHA256SUMS)
 # each link of a document leads to a file of the archive
 broken=$(cd "$out" && find . -name '*.md' | while read -r document; do
@@ -140,7 +121,7 @@ for file in $(git ls-files teaching ':!teaching/pupils' ':!teaching/decks') $(gi
     to=$theirs/${file#crates/b67_rows/data/}
     mkdir -p "$(dirname "$to")"
     case $file in
-    *.md) sed "$moved; s:(\.\./\.\./\.\./\(\.\./\):(\1:g" "$file" >"$to" ;;
+    *.md) sed "$moved; s:(\.\./\.\./\.\./\(\.\./\):(\1:g; s:](\.\./README\.md:](../docs/ABOUT.md:g" "$file" >"$to" ;;
     *) cp "$file" "$to" ;;
     esac
 done

@@ -6,11 +6,13 @@
 // - `--backing FILE` may be left out of `run` and `image`: then the sectors are memory. A file has the program's form, so each goes on from
 //   the other's. It is read before the run and written after it. It is locked as the program locks it; on Linux by the command `flock`, and
 //   without that command give each run a file of its own.
-// - All lines are printed at the end; of more than 1 GiB the beginning, with status 8. `bind` takes four pairs at most. A closed input is an empty one.
-//   `resume` over a file that can't be used is BACKING FAULT at once.
+// - A run of more than 1,000,000 operators is made in parts of half a second, from image to image by the machine's own steps, and the lines of
+//   each are printed when it ends; so are those of `resume`. A deck with ?HALT, and `image`, print at the end. Arrays that are out of core may
+//   then stand in other sectors. Of more than 1 GiB of lines of a part the beginning is printed, with status 8.
+// - `bind` takes four pairs at most. A closed input is an empty one. `resume` over a file that can't be used is BACKING FAULT at once.
 // - Status 10 and a sentence on standard error: what was asked can't be done here.
 //
-// Two commands for teachers, over the same module and the page's own scripts, in one process:
+// Three commands for teachers, over the same module and the page's own scripts, in one process:
 //
 //     node web/b67.mjs mark DECK.. EXPECTED [--data FILE] [--in-order] [--csv]
 //     node web/b67.mjs class FILE.. [--key SHEET] > marks.csv
@@ -35,7 +37,8 @@ import zlib from 'node:zlib';
 const [SECTORS, SECTOR_BYTES, MOST_WORDS] = [65536, 240, 5];
 const SECTORS_OF = {run: [1024, SECTORS], image: [SECTORS], resume: [SECTORS], exercise: [4096]}; // they are copied, so a run begins with few; an image names all
 const ROOMS = [24, 27, 30].map(power => 2 ** power); // bytes of lines; a run that prints more is made again in the next one
-const [USAGE, BACKING_FULL, BACKING_FAULT, READING_FAULT, PRINTING, CANT] = [1, 5, 6, 7, 8, 10];
+const [PART, PART_MILLISECONDS] = [1000000, 500]; // operators of the first part of a long run, and how long one of the others is to take
+const [USAGE, HALTED, BACKING_FULL, BACKING_FAULT, READING_FAULT, PRINTING, CANT] = [1, 3, 5, 6, 7, 8, 10];
 const [ANOTHER_TASK, OPENED] = [1, 1]; // a kind of the machine's searches, and its status where nothing is found
 // How a file is locked as it is opened: by O_EXLOCK, or, on Windows, shared with nobody (libuv's UV_FS_O_EXLOCK). Elsewhere `flock` does it.
 const LOCKING = {darwin: 0x20, freebsd: 0x20, openbsd: 0x20, netbsd: 0x20, win32: 0x10000000}[process.platform] ?? 0;
@@ -67,15 +70,25 @@ function instanceOf(module) {
   return {x, view, roomFor, put};
 }
 
-// A call in an instance of its own: words, a text, and sectors as a file has them, or null for so many of zeros. Gives the status, what is
-// printed, and the sectors.
+// A call in an instance of its own: `calls` makes it over so many sectors, which are those that are held, or zeros, with so much room for lines.
+// Gives the status, what is printed, and the sectors as the machine has them.
+function printed(module, {held, many, room}, calls) {
+  const it = instanceOf(module), {view, roomFor} = it, sectors = roomFor(many * SECTOR_BYTES), lines = roomFor(room), count = roomFor(8);
+  if (held) view(sectors, many * SECTOR_BYTES).set(held);
+  const status = calls(it, sectors, BigInt(many), lines, BigInt(room), count) & 255, length = Number(new DataView(it.x.memory.buffer).getBigUint64(Number(count), true));
+  return {status, bytes: Buffer.from(view(lines, length)), held: () => Buffer.from(view(sectors, many * SECTOR_BYTES))};
+}
+// A command by its words, over a text, and sectors as a file has them, or null for so many of zeros.
 function called(module, words, text, {sectors, many, room}) {
-  const {x, view, roomFor, put} = instanceOf(module), given = Array.from({length: MOST_WORDS}, (_, k) => put(Buffer.from(words[k] ?? ''))).flat(), source = put(text);
-  const held = roomFor(many * SECTOR_BYTES), lines = roomFor(room), printed = roomFor(8), seen = view(held, many * SECTOR_BYTES);
-  if (sectors) seen.set(Buffer.from(sectors).swap64());
-  const status = x.b67_web_serve(...given, BigInt(words.length), ...source, held, BigInt(many), lines, BigInt(room), printed) & 255;
-  const length = Number(new DataView(x.memory.buffer).getBigUint64(Number(printed), true));
-  return {status, bytes: Buffer.from(view(lines, length)), sectors: () => Buffer.from(view(held, many * SECTOR_BYTES)).swap64()};
+  const {status, bytes, held} = printed(module, {held: sectors && Buffer.from(sectors).swap64(), many, room}, ({x, put}, ...lent) => {
+    const given = Array.from({length: MOST_WORDS}, (_, k) => put(Buffer.from(words[k] ?? ''))).flat();
+    return x.b67_web_serve(...given, BigInt(words.length), ...put(text), ...lent);
+  });
+  return {status, bytes, sectors: () => held().swap64()};
+}
+// So many operators from an image on, over the sectors that belong to it: their lines, and, with HALTED, the image after them.
+function stepped(module, {image, held, most}, room) {
+  return printed(module, {held, many: held.length / SECTOR_BYTES, room}, ({x, put}, ...lent) => x.b67_web_step(...put(image), BigInt(most), ...lent));
 }
 function fails(problem) {
   throw problem;
@@ -93,6 +106,46 @@ function firstOf(tries, again, calls) {
 // Carries out a command over the sectors of a file, or over zeros: with more room while it prints more, and over more sectors if they don't suffice.
 function over(module, words, text, sectors) {
   return firstOf(SECTORS_OF[words[0]] ?? [1], BACKING_FULL, many => firstOf(ROOMS, PRINTING, room => called(module, words, text, {sectors: sectors?.subarray(0, many * SECTOR_BYTES), many, room})));
+}
+
+// A long run in parts: `prints` is given the lines of each one when it has ended, and says whether it has printed them. Gives how many bytes it
+// has, and what the run gives, with the lines that are left; without that it is to be made as a whole.
+function inParts(module, words, text, sectors, prints) {
+  const resumes = words[0] === 'resume', told = {bytes: 0, made: null}, many = SECTORS_OF[words[0]][0], its = {sectors: sectors?.subarray(0, many * SECTOR_BYTES), many};
+  const first = resumes ? {image: text, held: asMachine(its), most: PART} : begunRun(module, words, text, its, told, prints);
+  for (let [part, least] = [first, 0]; part;) {
+    const begun = performance.now(), {status, bytes, held} = firstOf(ROOMS, PRINTING, room => stepped(module, part, room)), took = performance.now() - begun;
+    if (status !== HALTED) {
+      if (status === 0 || status === PRINTING || status === BACKING_FULL && many === SECTORS) told.made = {status, bytes, sectors: () => held().swap64()};
+      break;
+    }
+    // the first part of all tells how long an image and the sectors take
+    if (part.most === 1) least = took;
+    const most = part.most === 1 ? PART : least === 0 ? 1 : Math.max(1000, Math.round(part.most * Math.min(8, Math.max(PART_MILLISECONDS, 8 * least) / Math.max(1, took - least))));
+    part = passesOn({status, bytes, held}, most, told, prints);
+  }
+  return told;
+}
+// The sectors of a file, or zeros, as the machine has them.
+function asMachine({sectors, many}) {
+  return sectors ? Buffer.from(sectors).swap64() : Buffer.alloc(many * SECTOR_BYTES);
+}
+// The first part of a run, if the run is longer; its lines are printed then.
+function begunRun(module, words, text, its, told, prints) {
+  if (/^\?HALT/m.test(text.toString('latin1'))) return null;
+  const halting = Buffer.concat([Buffer.from(`?HALT ${PART}\n`), text]), calls = name => firstOf(ROOMS, PRINTING, room => called(module, [name, ...words.slice(1)], halting, {...its, room}));
+  const ran = calls('run');
+  if (ran.status === 0) told.made = ran;
+  const image = ran.status === HALTED ? calls('image') : null;
+  return image?.status === HALTED ? passesOn({...image, held: () => image.sectors().swap64()}, 1, told, prints) : null;
+}
+// Prints the lines of a part that has halted, and gives the next one, of so many operators; null if they can't be printed.
+function passesOn({bytes, held}, most, told, prints) {
+  const at = bytes.indexOf('?IMAGE\n');
+  told.bytes += at;
+  if (prints(bytes.subarray(0, at))) return {image: bytes.subarray(at), held: held(), most};
+  told.made = {status: PRINTING, bytes: Buffer.alloc(0), sectors: () => held().swap64()};
+  return null;
 }
 
 // The status of opening a deck in a core: OPENED, or that of a run.
@@ -163,14 +216,15 @@ function refused(module, passed) {
   return said.status === USAGE ? said : null;
 }
 
-// Carries out a command over a text: {status, bytes, said}, where `said` is for standard error.
-export function serve(module, words, text) {
+// Carries out a command over a text: {status, bytes, said}, where `said` is for standard error. With `prints` a long run gives it its lines as they
+// come, and `bytes` are those that are left.
+export function serve(module, words, text, prints = null) {
   const at = words.indexOf('--backing'), file = ['run', 'image', 'resume'].includes(words[0]) && at > 0 ? words[at + 1] : undefined;
   const passed = passedOf(words), device = file && !refused(module, passed) ? opened(file) : null;
   if (device?.why) return withoutBacking(module, passed, text, file, device.why);
-  const made = over(module, passed, text, device?.sectors);
+  const parts = prints && /^(run|resume)$/.test(passed[0]) ? inParts(module, passed, text, device?.sectors, prints) : {bytes: 0}, made = parts.made ?? over(module, passed, text, device?.sectors);
   if (device) writes(device, made.sectors());
-  return {...made, said: made.status === PRINTING ? 'more than 1 GiB is printed: this is the beginning' : ''};
+  return {...made, bytes: parts.made ? made.bytes : made.bytes.subarray(parts.bytes), said: made.status === PRINTING && made.bytes.length ? 'more than 1 GiB is printed: this is the beginning' : ''};
 }
 
 // What stands in the place of a command whose input can't be read: no file is opened.
@@ -348,7 +402,7 @@ async function carriesOut(words) {
   if (name === 'paging') return paging(page, rest);
   const module = new WebAssembly.Module(page.bytes);
   if (name === 'mark') return mark(module, page, rest);
-  const text = name === 'exercise' ? Buffer.alloc(0) : input(), {status, bytes, said} = text ? serve(module, words, text) : unread(module, words), whole = print(bytes);
+  const text = name === 'exercise' ? Buffer.alloc(0) : input(), {status, bytes, said} = text ? serve(module, words, text, print) : unread(module, words), whole = print(bytes);
   if (said) console.error(`b67.mjs: ${said}`);
   return whole ? status : PRINTING;
 }

@@ -10,11 +10,13 @@
 #include <signal.h>
 #include <sys/file.h>
 #include <sys/stat.h>
+#include <time.h>
 #include <unistd.h>
 
 enum { FEW_SECTORS = 1024, EXERCISE_SECTORS = 4096, SECTORS = 65536, SECTOR_BYTES = 240, FILE_BYTES = SECTORS * SECTOR_BYTES, MOST_ARGUMENTS = 5 };
 enum { DECK_BYTES = 4194304, IMAGE_BYTES = 67108864 }; // the machine refuses a longer text
-enum { USAGE = 1, BACKING_FULL = 5, BACKING_FAULT = 6, READING_FAULT = 7, NOT_PRINTED = 8, NO_MEMORY = 9, CANT = 10 };
+enum { PART = 1000000, LEAST_PART = 1000 }; // operators of the first part of a long run, and of the shortest one
+enum { USAGE = 1, HALTED = 3, BACKING_FULL = 5, BACKING_FAULT = 6, READING_FAULT = 7, NOT_PRINTED = 8, NO_MEMORY = 9, CANT = 10 };
 
 typedef struct {
     char *bytes;
@@ -81,6 +83,21 @@ static Made called(int count, char **arguments, Text text, u32 sectors, const u8
     for (u32 k = 0; held && k < sectors * SECTOR_BYTES; k += 8) i64_store(made.at + k, word_at(held + k));
     made.status = w2c_b67_web_serve(&machine, at[0], bytes[0], at[1], bytes[1], at[2], bytes[2], at[3], bytes[3], at[4], bytes[4],
                                     (u64)count, deck, text.count, made.at, sectors, made.lines, made.may_print, printed) & 255;
+    made.printed = i64_load(printed);
+    return made;
+}
+
+// Makes so many operators from an image on, over the sectors that belong to it, as the machine has them.
+static Made stepped(Text image, u64 most, u32 sectors, const u8 *held) {
+    Z_b67_instance_t machine;
+    Made made = {.sectors = sectors};
+    begin(&machine);
+    u64 at = lent(&machine, image), printed = room_for(&machine, 8);
+    made.may_print = (u64)(room_pages + 1) * PAGE / 4;
+    made.at = room_for(&machine, (u64)sectors * SECTOR_BYTES);
+    made.lines = room_for(&machine, made.may_print);
+    memcpy(memory + made.at, held, (size_t)sectors * SECTOR_BYTES);
+    made.status = w2c_b67_web_step(&machine, at, image.count, most, made.at, sectors, made.lines, made.may_print, printed) & 255;
     made.printed = i64_load(printed);
     return made;
 }
@@ -190,7 +207,7 @@ static int says(const char *line, int status) { return prints(line, strlen(line)
 
 static int answered(Made made) {
     if (made.status == NO_MEMORY && !made.printed) return says("NO MEMORY\n", NO_MEMORY);
-    if (made.status == NOT_PRINTED)
+    if (made.status == NOT_PRINTED && made.printed)
         fprintf(stderr, "b67: more than %llu bytes are printed: this is the beginning\n", (unsigned long long)made.may_print);
     return prints(memory + made.lines, made.printed) ? made.status : NOT_PRINTED;
 }
@@ -225,6 +242,102 @@ static Made over(int count, char **arguments, Text text, const u8 *held) {
     return called(count, arguments, text, SECTORS, held);
 }
 
+// A part of a run that has halted: its image, and its sectors as the machine has them. Both are kept outside of the memory, which the next call
+// clears.
+typedef struct {
+    Text image;
+    u8 *held;
+} Part;
+
+// Prints the lines of a part that has halted, and keeps the rest; 0 if they can't be printed.
+static int passes_on(Made made, u64 *told, Part *part) {
+    char *bytes = (char *)memory + made.lines;
+    u64 lines = 0; // an image begins with the first ? of all
+    while (lines < made.printed && bytes[lines] != '?') lines++;
+    *told += lines;
+    if (!prints(bytes, lines)) return 0;
+    free(part->image.bytes);
+    part->image = (Text){malloc((size_t)(made.printed - lines)), (size_t)(made.printed - lines)};
+    if (!part->held) part->held = malloc((size_t)made.sectors * SECTOR_BYTES);
+    if (!part->image.bytes || !part->held) ends(NO_MEMORY, "NO MEMORY\n", NULL);
+    memcpy(part->image.bytes, bytes + lines, part->image.count);
+    memcpy(part->held, memory + made.at, (size_t)made.sectors * SECTOR_BYTES);
+    return 1;
+}
+
+static int has_halt(Text text) {
+    for (size_t at = 0; at + 5 <= text.count; at++)
+        if (text.bytes[at] == '?' && (at == 0 || text.bytes[at - 1] == '\n') && !memcmp(text.bytes + at, "?HALT", 5)) return 1;
+    return 0;
+}
+
+enum { WHOLE, MADE, LONGER }; // what the first part of a run shows: it is to be made as a whole, it is made, or it is longer
+
+static Made unprinted(Made made) { return (Made){.status = NOT_PRINTED, .sectors = made.sectors, .at = made.at}; }
+
+// The first part of a run of a deck: its lines are printed if the run is longer.
+static int begun_run(int count, char **arguments, Text text, const u8 *held, u64 *told, Made *made, Part *part) {
+    char card[32], *image[MOST_ARGUMENTS] = {"image"};
+    size_t length = (size_t)snprintf(card, sizeof card, "?HALT %d\n", PART);
+    Text halting = {malloc(length + text.count), length + text.count};
+    if (has_halt(text) || !halting.bytes) return free(halting.bytes), WHOLE;
+    memcpy(halting.bytes, card, length);
+    memcpy(halting.bytes + length, text.bytes, text.count);
+    for (int k = 1; k < count; k++) image[k] = arguments[k];
+    *made = called(count, arguments, halting, FEW_SECTORS, held);
+    int ran = made->status;
+    if (ran == HALTED) *made = called(count, image, halting, FEW_SECTORS, held);
+    free(halting.bytes);
+    if (ran != HALTED || made->status != HALTED) return ran == 0 ? MADE : WHOLE;
+    if (passes_on(*made, told, part)) return LONGER;
+    *made = unprinted(*made);
+    return MADE;
+}
+
+// An image that is resumed, and its sectors as the machine has them.
+static Part resumed(Text text, const u8 *held) {
+    Part part = {{malloc(text.count + 1), text.count}, calloc(SECTORS, SECTOR_BYTES)};
+    if (!part.image.bytes || !part.held) ends(NO_MEMORY, "NO MEMORY\n", NULL);
+    memcpy(part.image.bytes, text.bytes, text.count);
+    for (u32 k = 0; held && k < FILE_BYTES; k += 8) {
+        u64 word = lowest_first(word_at(held + k), 8);
+        memcpy(part.held + k, &word, 8);
+    }
+    return part;
+}
+
+// How many operators the next part has: as many as take half a second, or eight times as long as an image and the sectors, which a part of one
+// operator tells.
+static u64 next_most(u64 most, clock_t took, clock_t *least) {
+    if (most == 1) *least = took ? took : 1;
+    if (most == 1) return PART;
+    if (!*least) return 1;
+    double wanted = CLOCKS_PER_SEC / 2.0 > 8.0 * *least ? CLOCKS_PER_SEC / 2.0 : 8.0 * *least, times = wanted / (took > *least ? took - *least : 1);
+    u64 next = (u64)((double)most * (times < 8 ? times : 8));
+    return next > LEAST_PART ? next : LEAST_PART;
+}
+
+// Whether a long run was made in parts, from image to image by the machine's own steps, so that its lines are printed as they come: then `made` is
+// its last part, whose lines are left. Otherwise it is to be made as a whole, without the first `told` bytes of its lines.
+static int in_parts(int count, char **arguments, Text text, const u8 *held, u64 *told, Made *made) {
+    int resumes = is(arguments[0], "resume"), shown = LONGER;
+    u64 most = resumes ? PART : 1;
+    clock_t least = 0;
+    Part part = {{NULL, 0}, NULL};
+    if (resumes) part = resumed(text, held);
+    else shown = begun_run(count, arguments, text, held, told, made, &part);
+    while (shown == LONGER) {
+        clock_t begun = clock();
+        *made = stepped(part.image, most, resumes ? SECTORS : FEW_SECTORS, part.held);
+        most = next_most(most, clock() - begun, &least);
+        if (made->status != HALTED) return made->status == 0 || made->status == NOT_PRINTED || (made->status == BACKING_FULL && resumes);
+        if (passes_on(*made, told, &part)) continue;
+        *made = unprinted(*made);
+        shown = MADE;
+    }
+    return shown == MADE;
+}
+
 // Carries out the command of the arguments, over the file at a path unless it is NULL.
 static int carries_out(int count, char **arguments, const char *path) {
     const char *name = count ? arguments[0] : "";
@@ -237,9 +350,15 @@ static int carries_out(int count, char **arguments, const char *path) {
     if (!input(resumes || is(name, "dump") ? IMAGE_BYTES : DECK_BYTES, &text)) return says("READING FAULT\n", READING_FAULT);
     if (path) device = opened(path);
     if (device.why) return judged(count, arguments, text, path, device.why);
-    made = runs ? over(count, arguments, text, device.held) : called(count, arguments, text, 1, NULL);
+    u64 told = 0;
+    if (!runs) made = called(count, arguments, text, 1, NULL);
+    else if (!is(name, "image") && in_parts(count, arguments, text, device.held, &told, &made)) told = 0;
+    else made = over(count, arguments, text, device.held);
     const char *why = path ? kept(device, made) : NULL;
-    return why ? without_backing(path, why) : answered(made);
+    if (why) return without_backing(path, why);
+    made.lines += told;
+    made.printed -= told;
+    return answered(made);
 }
 
 int main(int count, char **arguments) {

@@ -38,8 +38,8 @@ static u8 *memory;
 static u32 room_pages;
 static u64 size;
 
-// Ends the program with a line on standard output and a reason on standard error. Nothing else has been printed or written by then, since a
-// call leaves all that it makes in the memory.
+// Ends the program with a line on standard output and a reason on standard error. Nothing has been written by then, and of a long run alone
+// something was printed, since a call leaves all that it makes in the memory.
 NEVER_RETURNS static void ends(int status, const char *line, const char *why) {
     if (fputs(line, stdout) == EOF || fflush(stdout)) status = 8;
     if (why) fprintf(stderr, "b67: %s\n", why);

@@ -1,8 +1,8 @@
 // A program that does what b67 does, against the native one: node command.mjs COMMAND PROGRAM DECKS ROWS, called by scripts/check-web.sh for
 // b67.c. Each row of crates/b67_rows/data is carried out by both, and so are calls that a shell makes: status, all that is printed and the
-// backing file must be the same. decks/run.sh runs over COMMAND; and each goes on from the image and the file of the other. Prints each
-// difference, and at last `N the same, M different`.
-import {spawnSync} from 'node:child_process';
+// backing file must be the same. decks/run.sh runs over COMMAND; each goes on from the image and the file of the other; and a long run prints
+// its lines as they come. Prints each difference, and at last `N the same, M different`.
+import {spawn, spawnSync} from 'node:child_process';
 import fs from 'node:fs';
 import os from 'node:os';
 import path from 'node:path';
@@ -116,6 +116,26 @@ export function byLock(comparison, program, command) {
   comparison.wants(mine === native && native === '6 BACKING FAULT\n', `a file that is locked: ${mine}, natively ${native}`);
 }
 
+// A long run, which is made in parts: what it prints and its status, of a run, of one that is ended by its limit, that pages, that goes on from an
+// image, whose output is full; and its first lines come before its end.
+export async function byParts(comparison, program, command) {
+  const folder = comparison.folder('parts'), long = (most, cards, times) => `?JOB LONG\n?LIMIT ${most}\n?ASM\nSEGMENT MAIN 2\nZERO\n${cards}TOP: MKST\nNAMC 0,9\nVALC 2,2\nENTR\nZERO\nIN: ${times}\nLESS\nBRTR IN\nDLET\nVALC 2,2\nONE\nADD\nNAMC 2,2\nSTON\nLT8 60\nLESS\nBRTR TOP\nEXIT\n?END\n`;
+  const counts = at => `VALC 2,${at}\nONE\nADD\nNAMC 2,${at}\nSTON\nLT16 10000`, array = 'MKST\nNAMC 0,8\nLT8 200\nENTR\n', touches = cell => `VALC 2,2\nNAMC 2,${cell}\nLT8 5\nINDX\nSTOD\n`;
+  const paging = long(9000000, array + array, `${touches(3)}${touches(4)}${counts(5)}`.replaceAll('LT16 10000', 'LT16 1000')).replace('LT8 60', 'LT8 70');
+  const texts = {plain: long(9000000, '', counts(3)), limited: long(2500000, '', counts(3)), paging, halted: `?HALT 300000\n${long(9000000, '', counts(3))}`, endless: long(100000000, '', counts(3)).replace('LESS\nBRTR TOP', 'DLET\nDLET\nBRUN TOP')};
+  for (const [name, text] of Object.entries(texts)) fs.writeFileSync(path.join(folder, name), text);
+  for (const line of ['run --core 4096 --backing b < plain', 'run --core 4096 --backing b < limited', 'run --core 890 --backing b < paging', 'image --core 4096 --backing b < halted > i; B67 resume --backing b < i', 'run --core 4096 --backing b < plain > /dev/full', 'run --core 4096 --backing b < halted']) {
+    const [mine, native] = [command, program].map(name => {
+      const {status, stdout} = spawnSync('sh', ['-c', `rm -f b; B67() { "$0" "$@"; }; B67 ${line}`, name], {cwd: folder, maxBuffer: 1 << 28});
+      return `${status} ${stdout.toString('latin1')}`;
+    });
+    comparison.wants(mine === native, `in parts, ${line}: ${mine.slice(-200)}, natively ${native.slice(-200)}`);
+  }
+  const its = spawn(command, ['run', '--core', '4096', '--backing', 'endless.b'], {cwd: folder, stdio: [fs.openSync(path.join(folder, 'endless')), 'pipe', 'inherit']});
+  its.stdout.once('data', () => its.kill());
+  comparison.wants(await new Promise(goes => { its.on('close', (_, signal) => goes(signal)); }) === 'SIGTERM', 'the first lines of a long run come at its end');
+}
+
 export function byDecks(comparison, decks, command) {
   const {status, stdout} = spawnSync('sh', [path.join(decks, 'run.sh'), command], {maxBuffer: 1 << 28}), [, many] = /(\d+) passed, \d+ failed\n$/.exec(stdout) ?? [0, 0];
   comparison.same += Number(many);
@@ -141,6 +161,7 @@ if (process.argv[1] && fs.realpathSync(process.argv[1]) === fileURLToPath(import
   byLines(comparison, decks, program, command);
   byLock(comparison, program, command);
   byImages(comparison, decks, program, command);
+  await byParts(comparison, program, command);
   byDecks(comparison, decks, command);
   comparison.ends();
 }

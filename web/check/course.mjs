@@ -37,6 +37,7 @@ async function finds(it, {id}, hash) {
   if (SEARCHED[id]) {
     await it.pressed(`task ${id}`, it.deck('two'), 'End');
     it.wants(!await isDone(it), `task ${id} is done in the core with which it opens`);
+    it.wants(/Not yet: at the end/.test(await it.shown('#task')), `task ${id} at the end: ${await it.shown('#task')}`);
     await it.types(undefined, SEARCHED[id]);
     await it.state();
     await it.browser.value('document.activeElement.blur(); 0');
@@ -134,7 +135,7 @@ async function comesBack(it) {
   await it.until("history.state?.task === '1.5'");
   await it.reloads();
   ({text} = await it.state());
-  it.wants(text === WRITTEN['1.5'][0] && /^Exercise 1\.5/.test(await it.shown('#task')), `a task after a reload: ${await it.shown('#task')}`);
+  it.wants(text === WRITTEN['1.5'][0] && /^✓ Exercise 1\.5/.test(await it.shown('#task')), `a task after a reload: ${await it.shown('#task')}`);
   await it.opens('task:1.2');
   await it.browser.value("[...document.querySelectorAll('#task button')].find(it => it.textContent === 'Begin anew').click(); 0");
   ({text} = await it.state());
@@ -240,7 +241,48 @@ export async function sheets(it) {
     await answers(it, answer);
     it.wants(await isDone(it, right) === right, `a sheet’s question: ${answer}`);
   }
+  await endsQuestions(it, `sheet:${packed},3`);
   await writesSheet(it);
+  await ownNumbers(it);
+}
+
+// The questions of a task end where another deck is stepped through, and are back with the task; key q asks in any deck.
+async function endsQuestions(it, hash) {
+  const {browser} = it, quiz = () => it.shown('#quiz');
+  await begins(it, hash);
+  it.wants(await quiz() !== '', 'a task to predict asks nothing');
+  await it.writes(WRITTEN['1.5'][0], 4096);
+  await it.click('#step');
+  await browser.value('document.activeElement.blur(); 0');
+  await browser.press('ArrowRight');
+  const {count} = await it.state();
+  it.wants(await quiz() === '' && count === 1, `in another deck the questions of a task go on: ${await quiz()}, operator ${count}`);
+  await browser.press('q');
+  await it.writes(WRITTEN['1.5'][1], 4096);
+  await it.click('#step');
+  it.wants(/^Predict/.test(await quiz()), 'key q asks in one deck alone');
+  await browser.value('document.activeElement.blur(); 0');
+  await browser.press('q');
+}
+
+// Numbers of one's own want a name, and are others under another name. Those that are wanted here were drawn by the same rule in Python.
+async function ownNumbers(it) {
+  const {browser} = it, packed = await packedText('id: own-1\ntask: Own\nask: Print {a}.\ndraw: a 1000 to 999999\nprints: 1.1 {a}\nprints: 1.1 ENDED\n'), asked = async () => /Print (\d+)\./.exec(await it.shown('#task'))?.[1];
+  const named = name => browser.value(`for (const [id, value] of [['pupil-number', ''], ['pupil', '${name}']]) { const it = document.getElementById(id); it.value = value; it.dispatchEvent(new Event('change')); } 0`);
+  await named('');
+  it.wants(/type your name/.test((await it.opens(`sheet:${packed}`)).message), 'numbers of one’s own without a name');
+  await named('Ada');
+  await it.opens(`sheet:${packed}`);
+  it.wants(await asked() === '717537', `Ada’s number is ${await asked()}`);
+  await named('Bo');
+  await it.state();
+  it.wants(await asked() === '146484', `Bo’s number is ${await asked()}`);
+  await it.types(WRITTEN['1.5'][0].replace('LT8 42', 'LT48 717537'));
+  await it.click('#run');
+  it.wants(!await isDone(it), 'Ada’s number does for Bo');
+  await it.types(WRITTEN['1.5'][0].replace('LT8 42', 'LT48 146484'));
+  await it.click('#run');
+  it.wants(await isDone(it, true), `Bo’s number isn’t done: ${await it.shown('#task')}`);
 }
 
 // The editor of sheets: what is wrong is said with its line, and the link leads to the tasks.

@@ -2,7 +2,7 @@
 // tools/check-web.sh.
 //
 // Rows, lines of a shell, a locked file, images from one to the other and decks/run.sh, as command.mjs has them; the rows by calls of b67.mjs
-// in this process. Then what b67.mjs alone can: a run without a file, marks, and the table of a class. Prints each difference, and at last
+// in this process. Then what b67.mjs alone can: a run without a file, a long run in parts, marks, and the table of a class. Prints each difference, and at last
 // `N the same, M different`.
 import {spawnSync} from 'node:child_process';
 import fs from 'node:fs';
@@ -10,7 +10,7 @@ import path from 'node:path';
 import {pageOf, serve} from '../b67.mjs';
 import {packedHand} from '../src/course/handin.js';
 import {WRITTEN} from '../tests/answers.js';
-import {byDecks, byImages, byLines, byLock, byRows, Comparison} from './command.mjs';
+import {byDecks, byImages, byLines, byLock, byParts, byRows, Comparison} from './command.mjs';
 
 const [command, page, program, decks, rows] = process.argv.slice(2).map(it => path.resolve(it)), comparison = new Comparison(), {room} = comparison;
 const module = new WebAssembly.Module(pageOf(page).bytes), wants = (holds, what) => comparison.wants(holds, what);
@@ -58,6 +58,7 @@ byLines(comparison, decks, program, command);
 byLock(comparison, program, command);
 byImages(comparison, decks, program, command);
 by_itself();
+await byParts(comparison, program, command);
 by_marks();
 await by_class();
 byDecks(comparison, decks, command);

@@ -9,6 +9,7 @@ import {START} from '../src/page/decks.js';
 import {CONDITIONS, conditionOf} from '../src/course/conditions.js';
 import {TASKS} from '../src/course/course.js';
 import {csvOf, handsOf, keysOf, linesOf, marksOf, tasksFor} from '../src/course/class.js';
+import {drawn, drawOf, filled} from '../src/course/draw.js';
 import {doneAgain, handedIn, handsIn, packedHand, sameDecks} from '../src/course/handin.js';
 import {namesIn, NamesRefused, withoutNames} from '../src/names/names.js';
 import {isFound, isWritten} from '../src/course/progress.js';
@@ -22,6 +23,7 @@ import {Desk} from '../src/page/worker.js';
 
 const native = new Native(process.env.B67 ?? 'b67');
 after(() => native.close());
+const [OF_17, OF_BO] = [[8, 46, 193454], [6, -13, 717924]];
 const PAGE = new Map(decks().map(deck => [deck.name, deck]));
 
 function deskOf() {
@@ -118,6 +120,8 @@ test('a sheet with an id keeps its work when a letter of it changes', () => {
 
 test('what a deck must have isn’t met by a comment', () => {
   const {tasks: [task]} = sheetOf('task: A\nask: B\nprints: 1.1 4\nhas: RDIV\nlacks: LT8 4\n', PAGE), done = text => isWritten(task, {words: runWords(4096), text, status: 0, printed: '1.1 4\n', core: 4096});
+  const jensen = TASKS.find(it => it.id === '3.4'), passes = text => isWritten(jensen, {words: runWords(4096), text, status: 0, printed: '1.1 10\n1.1 ENDED\n', core: 4096});
+  assert.deepEqual([passes(WRITTEN['3.4'][0]), passes(PAGE.get('jensen').text.replace('VALC 2,2\nVALC 2,2\nMULT', 'ONE'))], [true, false]);
   assert.deepEqual([done('LT8 8\nRDIV\n'), done('LT8 8 ; RDIV\n'), done('RDIV\nLT8 4\n'), done('RDIV ; LT8 4\n')], [true, false, false, true]);
 });
 
@@ -155,6 +159,27 @@ test('a deck of constants, a forged sheet and a forged link fail by the key; oth
   for (const text of [KEY.replace('id: twice-1\n', ''), KEY.replace('test: 5\n', ''), KEY.replace('test: 5', 'test: five'), KEY.replace(/gives.*\n/g, '')]) assert.throws(() => sheetOf(text, PAGE), /Line \d+ of the sheet/);
 });
 
+// The numbers below are drawn by the same rule in Python.
+test('numbers of one’s own: drawn by a pupil’s number, worked out in braces, and by them a copied deck is seen', async () => {
+  const draws = ['a 2 to 9', 'b -50 to 50', 'c 1 to 1000000'].map(drawOf);
+  for (const [seed, numbers] of [['17', OF_17], ['bo', OF_BO]]) assert.deepEqual([...drawn(draws, seed, 'sx/2').values()].map(Number), numbers);
+  assert.deepEqual(['a', 'a 9 to 2', 'A 2 to 9', 'a 2 9'].map(drawOf), [null, null, null, null]);
+  const numbers = new Map([['a', 7n], ['b', -3n]]);
+  assert.equal(filled('1.1 {a * (b + 10) - 2} {a / b} {-a % 4} {549755813887 * 549755813887} {a}{b}', numbers), '1.1 47 -2 -3 302231454902557782048769 7-3');
+  for (const [text, why] of [['{c}', /c isn’t drawn/], ['{a +}', /is missing/], ['{(a}', /isn’t closed/], ['{a b}', /to follow “b”/], ['{a / (b + 3)}', /divided by 0/], ['{a ? b}', /can’t be worked out/]]) assert.throws(() => filled(text, numbers), why);
+  await turn();
+  const text = 'id: own-1\nversion: 1\n\ntask: Twice\nask: Print twice {a}, by READ.\ndraw: a 100 to 999\nprints: 1.1 {a * 2}\nprints: 1.1 ENDED\ndeck:\n?JOB T\n?ASM\nSEGMENT MAIN 2\nEXIT\n?DATA\n{a}\n?END\n';
+  const [ada, bo] = ['17', 'bo'].map(seed => sheetOf(text, PAGE, seed).tasks[0]), solved = task => task.deck.replace('EXIT', 'MKST\nNAMC 0,9\nMKST\nNAMC 0,11\nENTR\nDUPL\nADD\nENTR\nEXIT');
+  assert.notEqual(ada.lines[0], bo.lines[0]);
+  assert.equal(sheetOf(text, PAGE).tasks[0].text, 'Print twice {a}, by READ.');
+  assert.equal(ada.text.replace(/\D/g, '') * 2, Number(ada.lines[0].slice(4)));
+  const packed = await Promise.all([{name: 'Ada', number: '17', work: solved(ada)}, {name: 'Bo', work: solved(bo)}, {name: 'Cy', work: solved(ada)}].map(({work, ...it}) => packedHand({version: '1', sheets: [text], work: [[ada.id, {deck: work, core: 4096}]], ...it})));
+  const {hands} = await handsOf(packed.map(it => `#hand:${it}`).join(' ')), desk = deskOf(), seen = new Map(), marks = [];
+  for (const {hand} of hands) marks.push(...(await marksOf(asker(desk), hand, tasksFor(hands.map(it => it.hand), PAGE), PAGE, {seen})).values());
+  assert.deepEqual(marks, [true, true, false]);
+  assert.throws(() => sheetOf(text.replace('{a * 2}', '{d}'), PAGE), /Line 4 of the sheet: this task has braces: d isn’t drawn/);
+});
+
 test('equal decks of several pupils', () => {
   const [one, same, other] = ['?JOB A\nLT8 4 ; four\n', '?JOB A\n  LT8  4\n; mine\n', '?JOB A\nLT8 5\n'].map(deck => ({deck}));
   assert.deepEqual(sameDecks([one, other, same, null, {deck: 'two'}, {deck: 'two'}]), ['a', '', 'a', '', '', '']);
@@ -169,10 +194,12 @@ const NAMED = '?JOB A\n?ASM\n; the sum\nSEGMENT MAIN 2\nCELL total 2,2\nZERO\nL:
 test('names for cells become couples, and each card keeps its number', () => {
   assert.equal(withoutNames(NAMED), '?JOB A\n?ASM\n; the sum\nSEGMENT MAIN 2\n; CELL total 2,2\nZERO\nL: VALC 2,2  ; the sum\nNAMC 2,2\nSTOD\n; CELL total 2,3 ; another\nVALC 2,3\nEXIT\n?END\n');
   for (const {text} of PAGE.values()) assert.equal(withoutNames(text), text);
+  assert.equal(withoutNames('?JOB A\n?ASM\nSEGMENT MAIN 2\nCELL a\nZERO\nCELL b ; the second\nZERO\nCELL d 2,5\nCELL e\nVALC b\nSEGMENT P 3\nCELL x\nVALC x\nVALC e\n?END\n'),
+    '?JOB A\n?ASM\nSEGMENT MAIN 2\n; CELL a 2,2\nZERO\n; CELL b 2,3 ; the second\nZERO\n; CELL d 2,5\n; CELL e 2,6\nVALC 2,3\nSEGMENT P 3\n; CELL x 3,2\nVALC 3,2\nVALC 2,6\n?END\n');
   const long = `?ASM\nCELL a 2,2\nVALC a ${';'.padEnd(73, 'x')}\nCELL abcdefghijklmnop 2,2 ; ${'x'.repeat(51)}\n`;
   assert.ok(withoutNames(long).split('\n').every(card => card.length <= 80));
   for (const [cards, card, sentence] of [['VALC a', 3, /no CELL line before it says which cell a is/], ['CELL a 2,2\n?END\n?JOB B\n?ASM\nNAMC a', 7, /no CELL line/], ['CELL A 2,2', 3, /A is no name/],
-    ['CELL abcdefghijklmnopq 2,2', 3, /is no name/], ['CELL a 2', 3, /a CELL line is/], ['CELL', 3, /a CELL line is/], ['NAMC a-b', 3, /no CELL line/]]) {
+    ['CELL abcdefghijklmnopq 2,2', 3, /is no name/], ['CELL a 2', 3, /a CELL line is/], ['CELL', 3, /a CELL line is/], ['CELL a', 3, /stands in none/], ['NAMC a-b', 3, /no CELL line/]]) {
     assert.throws(() => withoutNames(`?JOB A\n?ASM\n${cards}\n`), error => error instanceof NamesRefused && error.card === card && sentence.test(error.message), cards);
   }
 });

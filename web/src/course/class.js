@@ -2,7 +2,8 @@
 // a table, and b67.mjs prints them.
 import {COURSE} from './course.js';
 import {doneAgain, handedIn, handsIn, sameDecks} from './handin.js';
-import {newestOf, sheetOf} from './sheet.js';
+import {seedOf} from './draw.js';
+import {newestOf, sheetOf, taskFor} from './sheet.js';
 import {unpacked} from '../editor/share.js';
 
 // The hands in a text of many messages: {part, hand}, and how many can't be read. Of one pupil, by number or else by name, all but the
@@ -21,10 +22,11 @@ export async function keysOf(text, decks) {
 }
 
 // The sheets of some hands, of each the newest version; one that can't be read is left out. A key stands in the place of the pupils' own sheet.
-export function sheetsOf(hands, decks, keys = []) {
+// Numbers of one's own are drawn by `seed`.
+export function sheetsOf(hands, decks, keys = [], seed = '') {
   const sheets = newestOf([...new Set(hands.flatMap(({sheets}) => sheets))].flatMap(text => {
     try {
-      return [sheetOf(text, decks)];
+      return [sheetOf(text, decks, seed)];
     } catch {
       return [];
     }
@@ -46,10 +48,10 @@ export function columnOf({id, number}, tasks) {
 // Does each work of a hand again: a map from its tasks' ids to true, false, or null where nothing can be said. `hears` is told after each.
 // `seen` has what came of the works of others, since many of a class are equal.
 export async function marksOf(ask, hand, tasks, decks, {seen = new Map(), hears = () => {}} = {}) {
-  const marks = new Map();
+  const marks = new Map(), seed = seedOf(hand);
   for (const task of tasks.filter(it => hand.work.has(it.id))) {
-    const work = hand.work.get(task.id), its = JSON.stringify([task.id, {...work, tries: 0}]);
-    if (!seen.has(its)) seen.set(its, await doneAgain(ask, task, work, decks));
+    const work = hand.work.get(task.id), its = JSON.stringify([task.id, task.drawn ? seed : '', {...work, tries: 0}]);
+    if (!seen.has(its)) seen.set(its, await doneAgain(ask, taskFor(task, seed, decks), work, decks));
     marks.set(task.id, seen.get(its));
     hears(marks);
   }

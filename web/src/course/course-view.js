@@ -11,6 +11,7 @@ import {Quiz} from './quiz.js';
 import {printQuestions} from './paper.js';
 import {operatorParts} from '../words/reading.js';
 import {packedText} from '../editor/share.js';
+import {seedOf} from './draw.js';
 import {keyOfSheet, newestOf, sheetOf} from './sheet.js';
 
 const ANY_WAY = 'Step with →, click a card, which sets a breakpoint, and press Enter to go there, or search: the keys stand below the line of time.';
@@ -38,6 +39,10 @@ function nameOfTask(task) {
 function unparted(text) {
   return text.replace(/\?(?=[A-Z])/g, '?\u2060');
 }
+// Whether the deck that is stepped through is that of a task.
+function isDeckOf(task, {name, raw}) {
+  return task.deck ? raw === task.deck : name === deckOfTask(task);
+}
 function lessonOf({id}) {
   return id.split('.')[0];
 }
@@ -51,6 +56,7 @@ function showMemoryOf({core}) {
 export class Course {
   constructor(page) {
     Object.assign(this, {page, progress: new Progress(page.storage), quiz: new Quiz(), current: null, sheets: [], tries: new Map()});
+    this.pupil = {name: keptValue(page.storage, NAME) ?? '', number: keptValue(page.storage, NUMBER) ?? ''};
     for (const text of (keptValue(page.storage, SHEETS) ?? []).reverse()) this.takesKept(text);
   }
 
@@ -61,7 +67,7 @@ export class Course {
 
   // Takes in a sheet, the newest first; the same one stands once, in its newest version.
   takeSheet(text) {
-    const [sheet] = newestOf([this.sheets.find(it => it.key === keyOfSheet(text)), sheetOf(text, this.page.decks)].filter(Boolean));
+    const [sheet] = newestOf([this.sheets.find(it => it.key === keyOfSheet(text)), sheetOf(text, this.page.decks, seedOf(this.pupil))].filter(Boolean));
     this.sheets = [sheet, ...this.sheets.filter(it => it.key !== sheet.key)].slice(0, MOST_SHEETS);
     return sheet;
   }
@@ -82,8 +88,8 @@ export class Course {
 
   list() {
     const button = (text, act, title) => element('button', {type: 'button', onclick: act, title}, text);
-    const name = element('input', {id: 'pupil', size: 14, placeholder: 'your name', 'aria-label': 'your name, for your teacher', autocomplete: 'name', value: keptValue(this.page.storage, NAME) ?? ''});
-    const number = element('input', {id: 'pupil-number', size: 9, placeholder: 'number', 'aria-label': 'your number or address at school, if your teacher wants it', value: keptValue(this.page.storage, NUMBER) ?? ''});
+    const name = element('input', {id: 'pupil', size: 14, placeholder: 'your name', 'aria-label': 'your name, for your teacher', autocomplete: 'name', value: this.pupil.name, onchange: () => this.named(name.value.trim(), number.value.trim())});
+    const number = element('input', {id: 'pupil-number', size: 9, placeholder: 'number', 'aria-label': 'your number or address at school, if your teacher wants it', value: this.pupil.number, onchange: () => this.named(name.value.trim(), number.value.trim())});
     put(byId('lessons'), element('h2', {}, 'Lessons'), element('p', {id: 'progress-said', role: 'status'}),
       element('p', {class: 'group'}, name, number, button('Hand in', () => this.page.guard(() => this.handsIn(name.value.trim(), number.value.trim())), 'one link that shows your teacher what you have done')),
       element('div', {id: 'sheets'}), COURSE.map(lesson => this.lessonPart(lesson)),
@@ -187,6 +193,7 @@ export class Course {
   // Begins a task: with the deck that was written for it before, unless it is to begin anew; else with its deck at its moment, or with the
   // deck alone, or with a new one.
   async begin(task, anew = false) {
+    if (task.drawn && !seedOf(this.pupil)) this.wantsName();
     const {page} = this, {editor} = page, kept = task.kind === 'write' && !anew && editor.own.list().find(it => it.task === task.id);
     this.current = task;
     editor.task = ''; // what was open is no work of this task
@@ -195,8 +202,14 @@ export class Course {
     if (kept) this.goesOn(kept);
     else await this.opens(task);
     editor.task = task.kind === 'write' ? task.id : '';
-    this.quiz.turn(task.kind === 'predict');
+    this.quiz.turn(task.kind === 'predict', true);
     if (task.kind === 'predict') setTimeout(() => page.steps.goBy(1)); // the question waits for its answer, the page doesn't
+  }
+  // Numbers of one's own want to know whose they are.
+  wantsName() {
+    this.page.showLessons(true);
+    byId('pupil').focus();
+    throw new Error('The numbers of this exercise are your own: type your name in the list of lessons, and the number that your teacher wants, and then open it again.');
   }
   goesOn({name}) {
     this.page.show('deck');
@@ -256,8 +269,15 @@ export class Course {
     if (!task) return;
     this.current = task;
     this.page.editor.task = task.kind === 'write' ? id : '';
-    this.tell(task.text, wantedText(task));
+    if (task.kind === 'predict') this.quiz.turn(true, true);
+    this.tell(task.text, wantedText(task), this.progress.isDone(task));
     this.showMarks();
+  }
+  // Another deck is stepped through: the questions of a task end with its deck, and come back with it.
+  stepsThrough(session) {
+    const {current, quiz} = this, its = current?.kind === 'predict' && isDeckOf(current, session);
+    if (quiz.ofTask && !its) quiz.turn(false);
+    if (!quiz.on && its && !this.progress.isDone(current)) quiz.turn(true, true);
   }
   leaves() {
     this.current = null;
@@ -281,11 +301,16 @@ export class Course {
   // Looks whether the state that is shown is what the task that is being done wants to be found.
   async sees({name, text, raw, core}, state) {
     const task = this.current;
-    if (!task || !isFound(task, {name, text: raw}, state)) return;
+    if (!task || !isFound(task, {name, text: raw}, state)) return this.misses(task, name, state);
     const first = !task.first || await this.page.client.ask('isFirst', {deck: text, core, id: task.id, find: task.find, count: state.count}).catch(() => false);
     if (this.current !== task) return;
     if (first) this.done(task, {deck: raw, core, count: state.count}, `Found: operator ${state.count}${state.operator ? `, ${operatorParts(state.operator).join(' ')}` : ''}.`);
     else this.tell(task.text, 'Here it holds too, but not for the first time.');
+  }
+
+  // Says what a task wants that its own deck's end hasn't shown.
+  misses(task, name, {status}) {
+    if (task?.misses && status === 0 && name === deckOfTask(task) && !this.progress.isDone(task)) this.tell(task.text, `${wantedText(task)} ${task.misses}`);
   }
 
   // Looks whether a command has done the task of writing; lines are looked at in a second core, too.
@@ -310,7 +335,7 @@ export class Course {
     const {current} = this, said = await this.quiz.asks(now, then, session.text), task = this.current;
     if (said !== null && current === task && task?.kind === 'predict') this.tries.set(task.id, (this.tries.get(task.id) ?? 0) + 1);
     if (!said || task?.kind !== 'predict') return;
-    const {name, core} = session, its = task.at === `${name},${core},${now.count}` || task.count === now.count && (task.deck ? session.raw === task.deck : name === deckOfTask(task));
+    const {name, core} = session, its = task.at ? task.at === `${name},${core},${now.count}` : task.count === now.count && isDeckOf(task, session);
     if (!its) return;
     this.done(task, {deck: session.raw, core, count: now.count, answer: said, tries: this.tries.get(task.id)}, `Right: ${said}.`);
     byId('task').querySelector('a')?.focus({preventScroll: true}); // the field that had the focus is gone
@@ -318,9 +343,17 @@ export class Course {
 
   // ------------------------------------------------------------ handing in
 
+  // Whose work it is; another pupil has other numbers of their own.
   named(name, number) {
-    keepValue(this.page.storage, NAME, name);
-    keepValue(this.page.storage, NUMBER, number);
+    const {page, sheets, pupil} = this;
+    keepValue(page.storage, NAME, name);
+    keepValue(page.storage, NUMBER, number);
+    this.pupil = {name, number};
+    if (seedOf(pupil) === seedOf(this.pupil) || !sheets.some(it => it.tasks.some(task => task.drawn))) return;
+    this.sheets = sheets.map(({text}) => sheetOf(text, page.decks, seedOf(this.pupil)));
+    this.listSheets();
+    const task = this.current?.drawn && this.sheets.flatMap(it => it.tasks).find(it => it.id === this.current.id);
+    if (task) page.guard(() => this.begin(task));
   }
   // Another tab has done a task, or forgotten all.
   looks() {

@@ -2,13 +2,14 @@
 import {byId, element, put} from '../page/elements.js';
 import {COURSE} from './course.js';
 import {columnOf, csvOf, handsOf, keysOf, lettersOf, linesOf, marksOf, sheetsOf, sumsOf, tasksFor, wrongAnswersOf} from './class.js';
+import {seedOf} from './draw.js';
 import {textsIn} from './zip.js';
 import {saveFile} from '../editor/keep.js';
 import {packed} from '../editor/share.js';
 
 // The tasks that a work can be about, in parts: its sheets, and the lessons.
 function partsFor(hand, decks) {
-  return [...sheetsOf([hand], decks), ...COURSE.map(({id, title, tasks}) => ({title: `${id} ${title}`, tasks}))];
+  return [...sheetsOf([hand], decks, [], seedOf(hand)), ...COURSE.map(({id, title, tasks}) => ({title: `${id} ${title}`, tasks}))];
 }
 
 function nameOfWork({kind, number, id}) {

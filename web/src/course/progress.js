@@ -58,13 +58,13 @@ function isOfTask({has = [], lacks = []}, text) {
 }
 
 // Why a run hasn't done a task of writing: the first line that differs, or what the deck lacks or may not have.
-export function whyNot({lines = [], has = [], lacks = [], hasSaid = ''}, text, printed) {
+export function whyNot({lines = [], has = [], lacks = [], hasSaid = '', lacksSaid = ''}, text, printed) {
   const is = printed.split('\n').slice(0, -1), at = lines.findIndex((line, k) => is[k] !== line), holds = holding(text);
   if (at >= 0) return `Line ${at + 1} ${is[at] === undefined ? 'is missing' : `is ${is[at]}`}, and must be ${lines[at]}.`;
   if (lines.length && is.length > lines.length) return `${lines.length} lines must be printed, and there are ${is.length}.`;
   const missing = [has].flat().find(it => !holds(it)), kept = [lacks].flat().find(holds);
   if (missing !== undefined) return typeof missing === 'string' || hasSaid ? `The lines are right, but the deck lacks ${hasSaid || missing}.` : 'The lines are right, but it isn’t the deck of this exercise any more.';
-  return kept === undefined ? '' : `The lines are right, but the deck has ${kept}.`;
+  return kept === undefined ? '' : `The lines are right, but the deck has ${lacksSaid || kept}.`;
 }
 
 // Whether a command does a task of writing by itself; `least` is the least core in which its deck runs.

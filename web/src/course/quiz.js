@@ -5,11 +5,12 @@ import {operatorParts} from '../words/reading.js';
 
 export class Quiz {
   constructor() {
-    Object.assign(this, {on: false, right: 0, asked: 0, resolve: () => {}});
+    Object.assign(this, {on: false, ofTask: false, right: 0, asked: 0, resolve: () => {}});
   }
 
-  turn(on = !this.on) {
-    this.on = on;
+  // Turns it on or off: by hand, or for a task (`ofTask`), with whose deck it ends.
+  turn(on = !this.on, ofTask = false) {
+    Object.assign(this, {on, ofTask: on && ofTask});
     byId('quiz').hidden = !on;
     if (on) put(byId('quiz'), 'Predict: step with →, and say first what the operator will do. Key q ends it.');
   }

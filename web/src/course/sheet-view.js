@@ -9,6 +9,7 @@ const DRAFT = 'b67-draft';
 const HELP = [
   'An exercise begins with task: and a name, and asks with ask:. Its deck stands below deck:, or on: names one of the page. core: says how many words of core it opens with, at: at which operator.',
   'What must hold. To write: prints:, a line for each line, in order; or refused:, as in refused: LOAD 1 REASON 8. has: and lacks: say what the deck must and may not hold.',
+  'Numbers of one’s own: draw: a 2 to 9 draws a number for each pupil, by the pupil’s number or name; {a}, or {a * a + 1}, in other lines and cards is worked out of it. So a copied deck prints another pupil’s lines.',
   'Tests that pupils don’t see: test: other numbers for READ, and below it gives:, a line for each line that a right deck prints then. The sheet wants an id:. The link for the class leaves them out: keep this text, and put it beside the links of the class.',
   `To find a moment: find:, a line for each condition, and first: yes for the first such moment. Conditions: ${CONDITIONS.join('; ')}.`,
   'To predict: predict:, the operator before the question, which the page makes of what comes next. Several exercises make a sheet. Nobody needs anything but the link: the exercises are in it.',

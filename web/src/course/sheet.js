@@ -7,9 +7,11 @@
 //     prints: a line (all of them, in order)    refused: ASM 6 REASON 1      has: a text of the deck       lacks: another
 //     find: a condition (all must hold)         first: yes                   predict: the operator before the question
 //     test: other numbers for READ              gives: a line that a right deck prints then (all of them, in order)
+//     draw: a 2 to 9, a number of one's own for each pupil; {a * a} in other lines is worked out of it (draw.js)
 //
 // With its tests, which `sharedSheet` leaves out, a sheet is the teacher's key: the tests are made when work is done again.
 import {allOf, conditionOf, CONDITIONS} from './conditions.js';
+import {drawOf, drawn, filled} from './draw.js';
 
 const MANY = ['ask', 'prints', 'has', 'lacks', 'find'];
 const OF_TESTS = ['test', 'gives'];
@@ -53,7 +55,7 @@ class SheetRefused extends Error {
 
 // The lines of a task: a list of texts for each word that may stand more than once, else a text; the deck's cards; and where it begins.
 function newTask(name, line) {
-  return {name, line, ask: [], prints: [], has: [], lacks: [], find: [], tests: [], cards: null};
+  return {name, line, ask: [], prints: [], has: [], lacks: [], find: [], tests: [], draws: [], cards: null};
 }
 
 // A line of a test: its numbers, or a line that is printed then.
@@ -63,11 +65,18 @@ function takeTest({tests}, word, text, line) {
   else throw new SheetRefused(line, word === 'test' ? 'test: wants numbers, separated by spaces.' : 'gives: stands below a test:.');
 }
 
+function takeDraw({draws}, text, line) {
+  const its = drawOf(text);
+  if (!its) throw new SheetRefused(line, 'draw: is a name, a number, to, and a greater number, as in draw: a 2 to 9.');
+  draws.push(its);
+}
+
 function takeLine(task, word, text, line) {
   if (OF_TESTS.includes(word)) return takeTest(task, word, text, line);
+  if (word === 'draw') return takeDraw(task, text, line);
   if (MANY.includes(word)) task[word].push(text);
   else if (ONE.includes(word) && task[word] === undefined) task[word] = text;
-  else throw new SheetRefused(line, ONE.includes(word) ? `${word}: stands twice in one task.` : `${word}: is no word of a sheet: they are task, ask, deck, on, core, at, prints, refused, has, lacks, find, first, predict, test, gives.`);
+  else throw new SheetRefused(line, ONE.includes(word) ? `${word}: stands twice in one task.` : `${word}: is no word of a sheet: they are task, ask, deck, on, core, at, prints, refused, has, lacks, find, first, predict, test, gives, draw.`);
   if (word === 'find' && !conditionOf(text)) throw new SheetRefused(line, `“${text}” is no condition. Some are: ${CONDITIONS.join('; ')}.`);
   if (['core', 'at', 'predict'].includes(word) && !/^\d+$/.test(text)) throw new SheetRefused(line, `${word}: wants a number.`);
 }
@@ -97,15 +106,29 @@ function kindOf({prints, refused, find, predict, line}) {
   throw new SheetRefused(line, kinds.length ? `this task is of several kinds: ${kinds.join(', ')}. Make a task of each.` : 'nothing says when this task is done: prints:, refused:, find: or predict:.');
 }
 
-// A task of a sheet as the course has tasks.
-function taskOf(written, number, key, decks) {
-  const {name, ask, prints, refused, has, lacks, find, first, predict, on, at, core, line, tests} = written, kind = kindOf(written);
+// A task with the numbers of a pupil in the place of what stands in braces; without a seed as it is written, once it was tried.
+function withNumbers(written, seed, where) {
+  const numbers = drawn(written.draws, seed || 'nobody', where), fill = text => {
+    try {
+      return filled(text, numbers);
+    } catch ({message}) {
+      throw new SheetRefused(written.line, `this task has braces: ${message}`);
+    }
+  };
+  const its = {...written, ...Object.fromEntries(['ask', 'prints', 'has', 'lacks'].map(word => [word, written[word].map(fill)])), name: fill(written.name), cards: written.cards?.map(fill),
+    tests: written.tests.map(test => ({...test, lines: test.lines.map(fill)}))};
+  return seed ? its : written;
+}
+
+// A task of a sheet as the course has tasks; `drawn` is the sheet's text, if the task has numbers of one's own.
+function taskOf(task, number, key, decks, {text: sheet, seed}) {
+  const written = task.draws.length ? withNumbers(task, seed, `${key}/${number}`) : task, {name, ask, prints, refused, has, lacks, find, first, predict, on, at, core, line, tests} = written, kind = kindOf(written);
   if (tests.length && (!prints.length || tests.some(it => !it.lines.length))) throw new SheetRefused(line, 'a test: stands in a task with prints:, and below each are its lines, gives:.');
   if (!ask.length) throw new SheetRefused(line, 'this task asks nothing: write ask: and a question.');
   if (on && !decks.has(on)) throw new SheetRefused(line, `the page has no deck ${on}.`);
   const text = written.cards && `${written.cards.join('\n').trim()}\n`;
   if (kind !== 'write' && !text && !on) throw new SheetRefused(line, 'this task wants a deck: deck: with cards below it, or on: and a name.');
-  return {id: `${key}/${number}`, sheet: key, number, kind, name, text: ask.join(' '), has, lacks, deck: text, on,
+  return {id: `${key}/${number}`, sheet: key, number, kind, ...(task.draws.length && {drawn: sheet}), name, text: ask.join(' '), has, lacks, deck: text, on,
     core: Number(core ?? (on ? decks.get(on).core : 4096)), count: at === undefined && kind === 'write' ? null : Number(predict ?? at ?? 0),
     ...(kind === 'find' && {find, holds: allOf(find), first: /^y/.test(first ?? '')}), ...(prints.length && {lines: prints, tests}), ...(refused && {refused: new RegExp(`^${refused.replace(/[^A-Z0-9 ]/g, '')}\\b`), refusal: refused})};
 }
@@ -127,6 +150,11 @@ export function keyOfSheet(text) {
   }
 }
 
+// A task as a pupil has it, with the pupil's own numbers.
+export function taskFor(task, seed, decks) {
+  return task.drawn ? sheetOf(task.drawn, decks, seed).tasks[task.number - 1] : task;
+}
+
 // Of sheets the newest one of each key, in their order.
 export function newestOf(sheets) {
   const best = new Map();
@@ -143,9 +171,10 @@ export function sharedSheet(text) {
   }).join('\n');
 }
 
-// The sheet that a text is: {key, title, id, version, text, tasks}; fails with the line and a sentence. `decks` are those of the page.
-export function sheetOf(text, decks) {
+// The sheet that a text is: {key, title, id, version, text, tasks}; fails with the line and a sentence. `decks` are those of the page, `seed` is
+// what a pupil's own numbers are drawn by.
+export function sheetOf(text, decks, seed = '') {
   const {title, id, version, tasks} = partsOf(text), key = keyOfSheet(text), tested = tasks.find(it => it.tests.length);
   if (tested && !id) throw new SheetRefused(tested.line, 'a sheet with test: wants an id: of its own before its tasks, by which work finds its tests.');
-  return {key, title: title || 'Exercises of your teacher', id, version: Number(version), text, tasks: tasks.map((task, k) => taskOf(task, k + 1, key, decks))};
+  return {key, title: title || 'Exercises of your teacher', id, version: Number(version), text, tasks: tasks.map((task, k) => taskOf(task, k + 1, key, decks, {text, seed}))};
 }

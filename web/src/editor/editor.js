@@ -101,6 +101,7 @@ export class Editor {
       this.list();
       this.tell();
     }
+    byId('old').hidden = !byId('outcome').childElementCount;
     this.area.changed();
     this.algol.soon();
     this.keepSoon();

@@ -1,8 +1,10 @@
 // Names for cells. A line `CELL name level,displacement` in a program of ?ASM names a cell, and `VALC name` and `NAMC name` mean its
-// couple, up to the next CELL line of that name or the next ?JOB. The machine knows no names: a deck is given to it with couples, and
-// with each CELL line as a comment, so that each card keeps its number. From these comments the page knows the names of a picture.
+// couple, up to the next CELL line of that name or the next ?JOB. `CELL name` alone names the next cell of its segment: behind that of the
+// CELL line before it, or the first one. The machine knows no names: a deck is given to it with couples, and with each CELL line as a
+// comment, so that each card keeps its number. From these comments the page knows the names of a picture.
 const [LINE, USE, COMMENT] = [/^\s*CELL(?=\s|$)/, /^(\s*(?:[A-Z][A-Z0-9]*:\s*)?(?:VALC|NAMC)\s+)([a-z][^\s;]*)(.*)$/, /^; CELL (\S{1,24}) (\d+),(\d+)\s*(?:;.*)?$/];
-const GIVEN = /^\s*CELL\s+(\S+)\s+(\d{1,2},\d{1,5})\s*(?:;.*)?$/;
+const GIVEN = /^\s*CELL\s+([^\s;]+)(?:\s+(\d{1,2},\d{1,5}))?\s*(;.*)?$/;
+const [SEGMENT, FIRST_CELL] = [/^\s*SEGMENT\s+\S+\s+(\d+)/, 2];
 const [NAME, MOST_OF_CARD] = [/^[a-z][a-z0-9_]{0,15}$/, 80];
 
 // A deck that can't be given to the machine: the card, and a sentence.
@@ -13,11 +15,13 @@ export class NamesRefused extends Error {
   }
 }
 
-function refuses(line, card) {
-  const found = GIVEN.exec(line);
-  if (!found) throw new NamesRefused(card, 'a CELL line is CELL, a name, and a couple, as in CELL total 2,3.');
-  if (!NAME.test(found[1])) throw new NamesRefused(card, `${found[1]} is no name for a cell: a small letter, and then small letters, digits or _, 16 signs at most.`);
-  return found;
+// What a CELL line says: its name, its couple, and the comment behind it. `segment` is the one in which it stands, null outside.
+function given(line, card, segment) {
+  const found = GIVEN.exec(line), [, name, couple = segment && `${segment.level},${segment.next}`, comment = ''] = found ?? [];
+  if (!found) throw new NamesRefused(card, 'a CELL line is CELL, a name, and a couple, as in CELL total 2,3; or without the couple, for the next cell of its segment.');
+  if (!NAME.test(name)) throw new NamesRefused(card, `${name} is no name for a cell: a small letter, and then small letters, digits or _, 16 signs at most.`);
+  if (!couple) throw new NamesRefused(card, `CELL ${name} names the next cell of a segment, and stands in none: write a couple behind it, as in CELL ${name} 2,3.`);
+  return {name, couple, card: found[2] ? line.trim() : `CELL ${name} ${couple}${comment && ` ${comment}`}`};
 }
 
 // A card that is too long by its couple loses the end of its comment.
@@ -28,16 +32,21 @@ function fitting(card) {
 // The deck as the machine gets it. A deck without CELL lines and without names is the same, byte for byte.
 export function withoutNames(deck) {
   if (!/^\s*CELL(?=\s|$)/m.test(deck) && !/(?:VALC|NAMC)\s+[a-z]/.test(deck)) return deck;
-  let [names, inside] = [new Map(), false];
+  let [names, inside, segment] = [new Map(), false, null];
   return deck.split('\n').map((line, k) => {
     if (line.startsWith('?')) {
-      if (line.startsWith('?JOB')) names = new Map();
+      if (line.startsWith('?JOB')) [names, segment] = [new Map(), null];
       inside = line.startsWith('?ASM');
     } else if (inside && LINE.test(line)) {
-      const [, name, couple] = refuses(line, k + 1);
+      const {name, couple, card} = given(line, k + 1, segment), [level, at] = couple.split(',').map(Number);
       names.set(name, couple);
-      return fitting(`; ${line.trim()}`);
-    } else if (inside) return withCouple(line, k + 1, names);
+      if (level === segment?.level) segment.next = at + 1;
+      return fitting(`; ${card.trimEnd()}`);
+    } else if (inside) {
+      const found = SEGMENT.exec(line);
+      if (found) segment = {level: Number(found[1]), next: FIRST_CELL};
+      return withCouple(line, k + 1, names);
+    }
     return line;
   }).join('\n');
 }

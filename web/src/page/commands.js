@@ -2,7 +2,7 @@
 import {byId} from './elements.js';
 import {endingOf} from '../state/changes.js';
 import {hasJob} from '../reader/cards.js';
-import {offer, showFault, showResult} from './deck-view.js';
+import {offer, showFault, showRefusal, showResult} from './deck-view.js';
 import {USUAL_CORE} from '../editor/editor.js';
 import {runWords} from '../machine/program.js';
 import {refusedWord} from '../words/refusals.js';
@@ -14,9 +14,13 @@ const [LEAST_CORE, MANY_CORES] = [256, 12];
 const SOON_FOUND = 1000; // milliseconds of a run whose fault is looked for unasked
 export const NO_JOB = 'This deck has no job, so nothing runs: choose a deck, or write ?JOB and its cards.';
 
-// What `image` prints without the cards of the image.
+const FIRST_CARDS = 3; // of an image, which has thousands
+// What `image` prints, with the first cards of the image alone.
 function withoutImage(text) {
-  return text.replace(/\?IMAGE\n[^?]*\?END\n/, cards => `?IMAGE\n(${(cards.split('\n').length - 3).toLocaleString('en')} cards)\n?END\n`);
+  return text.replace(/\?IMAGE\n([^?]*)\?END\n/, (_, all) => {
+    const cards = all.trimEnd().split('\n');
+    return ['?IMAGE', ...cards.slice(0, FIRST_CARDS), `(and ${(cards.length - FIRST_CARDS).toLocaleString('en')} cards more)`, '?END\n'].join('\n');
+  });
 }
 
 export class Commands {
@@ -31,7 +35,10 @@ export class Commands {
     if (result.status === 2 && !refusedOf) result.place = await this.placeOf(text, result.text);
     const refused = showResult(page.rows, {words, ...result, byHand: /^\?HEX/m.test(text), word: refusedWord(result.text, text), text: name === 'image' ? withoutImage(result.text) : result.text}, refusedOf);
     page.marks(refused, true);
-    if (result.status === 0 && /run|check/.test(name) && !hasJob(text)) page.say(NO_JOB);
+    if (result.status === 0 && /run|check/.test(name) && !hasJob(text)) {
+      showRefusal(NO_JOB); // and no green line that all tasks have ended
+      page.say(NO_JOB);
+    }
     if (/^(run|resume|check)$/.test(name) && result.status < 4) await page.course.ran({words, text: resumes ? this.halted.text : text, result, core, halt: resumes ? this.halted.halt : null});
     return result;
   }

@@ -82,6 +82,7 @@ export function showRefusal(sentence) {
 }
 // The lines; the key Tab comes to them if there are some, since they may have to be scrolled.
 export function showRan(rows) {
+  byId('old').hidden = true;
   put(byId('ran'), rows);
   byId('ran').tabIndex = rows.length ? 0 : -1;
 }

@@ -71,6 +71,7 @@ export class Steps {
     this.session = {text, core, raw: page.deck(), name: editor.name, algol: isAlgol(editor.text) ? algolBeside(editor.text) : algolOf(editor.name), code: await editor.addressed(), stops: new Set(), briefs: new Map(),
       states: new Map(), faults: new Map(), end: null, other: null, wanted: null, way: 1};
     Object.assign(this.view, {followed: '', walked: ''});
+    page.course.stepsThrough(this.session);
     const begun = await page.client.ask('operators', {deck: text, core});
     Object.assign(this.session, begun);
     if (begun.refused) await this.notBegun(begun.refused);
