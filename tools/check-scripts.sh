@@ -298,7 +298,7 @@ tmp=$room/none/such refused sh $tools/check-trace.sh sum
 if [ -n "${mounted:-}" ]; then tmp=$room/full refused sh $tools/check-trace.sh sum; else skipped=$((skipped + 1)); fi
 signals sh $tools/check-trace.sh
 done_with check-trace.sh
-for words in '' nothere folder binary --nonsense '../bin/b67 0' '../bin/b67 x' '../bin/b67 -1' '../bin/b67 1 2'; do refused sh $tools/check-algol.sh $words; done
+for words in '' nothere folder binary --nonsense '../bin/b67 0' '../bin/b67 x' '../bin/b67 -1' '../bin/b67 1 0' '../bin/b67 1 2 3' --jobs '--jobs 0 ../bin/b67'; do refused sh $tools/check-algol.sh $words; done
 done_with check-algol.sh
 for name in check-docs check-scripts before-landing release; do
     words=
