@@ -11,6 +11,8 @@ const BUILTINS = {
   nomore: {args: ['integer'], type: 'boolean'}, abs: {args: ['integer'], type: 'integer'}, sign: {args: ['integer'], type: 'integer'},
   await: {args: ['integer'], type: null}, status: {args: ['integer'], type: 'integer'}, wait: {args: ['cell'], type: null}, cause: {args: ['cell'], type: null}};
 const NOT_HERE = ['sqrt', 'sin', 'cos', 'arctan', 'ln', 'exp', 'entier'];
+// What other systems call the statements that print and read, and what is written here.
+const ELSEWHERE = [[/^(out(real|integer|put|symbol|char|string)?|writ\w*|put\w*)$/i, 'A number is printed by `print(e)`.'], [/^(in(real|integer|put|symbol|char)?|readln|get\w*)$/i, 'The next number is `read`.']];
 // How a parameter of a kind is passed, if it isn't by value.
 const MODES = {var: 'name', array: 'array', proc: 'proc', label: 'label', switch: 'switch'};
 
@@ -42,9 +44,16 @@ export class Checker {
     for (let s = scope; s; s = s.parent) { if (s.names.has(name)) return s.names.get(name); top = s; }
     if (Object.hasOwn(BUILTINS, name)) return {kind: 'builtin', name, ...BUILTINS[name]};
     if (NOT_HERE.includes(name)) this.fail(at, `\`${name}\` is refused: the machine has whole numbers only.`);
-    else if (!this.partial) this.fail(at, /^\d/.test(name) ? `There is no label ${name}.` : `\`${name}\` is not declared.`);
+    else if (!this.partial) this.fail(at, /^\d/.test(name) ? `There is no label ${name}.` : `\`${name}\` is not declared.${this.nearBy(scope, name)}`);
     top.names.set(name, {kind: 'unknown', name});
     return top.names.get(name);
+  }
+
+  // What may be meant by a name that is not declared: one that differs in capital letters, or what other systems call so.
+  nearBy(scope, name) {
+    for (let s = scope; s; s = s.parent) for (const [other, {kind}] of s.names) if (kind !== 'unknown' && other.toLowerCase() === name.toLowerCase()) return ` Is \`${other}\` meant?`;
+    const meant = ELSEWHERE.find(([like]) => like.test(name))?.[1] ?? (Object.hasOwn(BUILTINS, name.toLowerCase()) ? `Is \`${name.toLowerCase()}\` meant?` : '');
+    return meant && ` ${meant}`;
   }
 
   // A block: its declarations, its labels, its statements. One with arrays inside a segment gets a segment of its own.

@@ -11,8 +11,8 @@
 # changed. Of a part that failed the last thirty lines are shown.
 [ -n "${BASH_VERSION:-}" ] || { echo "usage: bash tools/before-landing.sh --list, or PROGRAM" >&2; exit 2; }
 set -u
-parts='gate rows decks algol tracer modules scripts documents python shell manual house signatures premises claims links names made page browser release edits mends'
-with_program=' decks algol modules scripts documents page browser release '
+parts='gate rows decks algol teaching tracer modules scripts documents python shell manual house signatures premises links names made page browser release edits mends'
+with_program=' decks algol teaching modules scripts documents page browser release '
 usage() {
     printf '%s\nusage: bash tools/before-landing.sh [--skip PART].. [--only PART].. [--since COMMIT] [PROGRAM]\nparts: %s\n' "$1" "$parts" >&2
     exit 2
@@ -23,6 +23,7 @@ means() {
     rows) echo 'the rows of b67_rows by the reference' ;;
     decks) echo 'the decks over the built program' ;;
     algol) echo 'the translator from ALGOL 60: its programs and exercises over the built program' ;;
+    teaching) echo 'the decks, answers and harnesses of a term over the built program, and mistakes planted in them' ;;
     tracer) echo "the tracer's lines over the decks" ;;
     modules) echo "the page's modules, by node's test runner" ;;
     house) echo 'tools/house.py: no count above its bound' ;;
@@ -100,6 +101,7 @@ gate() { .ci/run; }
 rows() { python3 reference/compare_rows.py reference crates/b67_rows/data; }
 decks() { sh decks/run.sh "$program"; }
 algol() { sh tools/check-algol.sh "$program"; }
+teaching() { bash tools/check-teaching.sh "$program"; }
 tracer() { sh tools/check-trace.sh; }
 house() { python3 tools/house.py; }
 signatures() { python3 tools/signatures.py; }
@@ -108,9 +110,9 @@ claims() { python3 tools/claims.py --planted; }
 links() { python3 tools/links.py; }
 names() { python3 tools/names.py; }
 modules() { B67=$program node --test --test-reporter=tap web/tests/*.test.js >"$room/tests" || { cat "$room/tests" && return 1; } && sed -n 's/^# pass /modules: tests passed: /p' "$room/tests"; }
-python() { found pyflakes3 && pyflakes3 tools/*.py bench/*.py reference/*.py web/build/*.py && echo 'nothing found'; }
+python() { found pyflakes3 && pyflakes3 tools/*.py bench/*.py reference/*.py web/build/*.py teaching/*.py teaching/pupils/*.py teaching/pupils/*/*.py && echo 'nothing found'; }
 # (decks/run.sh lies in a crate: what is mended there waits for a gate)
-shell() { found shellcheck && shellcheck -S warning scripts/*.sh scripts/b67.bash tools/*.sh bench/*.sh web/build/*.sh web/c/*.sh && echo 'nothing found'; }
+shell() { found shellcheck && shellcheck -S warning scripts/*.sh scripts/b67.bash tools/*.sh bench/*.sh web/build/*.sh web/c/*.sh teaching/decks/*.sh && echo 'nothing found'; }
 manual() { found mandoc && mandoc -Tlint -W warning docs/*.[15] && echo 'nothing found'; }
 found() {
     command -v "$1" >/dev/null && return

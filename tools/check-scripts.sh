@@ -298,8 +298,16 @@ tmp=$room/none/such refused sh $tools/check-trace.sh sum
 if [ -n "${mounted:-}" ]; then tmp=$room/full refused sh $tools/check-trace.sh sum; else skipped=$((skipped + 1)); fi
 signals sh $tools/check-trace.sh
 done_with check-trace.sh
-for words in '' nothere folder binary --nonsense '../bin/b67 0' '../bin/b67 x' '../bin/b67 -1' '../bin/b67 1 2'; do refused sh $tools/check-algol.sh $words; done
+for words in '' nothere folder binary --nonsense '../bin/b67 0' '../bin/b67 x' '../bin/b67 -1' '../bin/b67 1 0' '../bin/b67 1 2 3' --jobs '--jobs 0 ../bin/b67'; do refused sh $tools/check-algol.sh $words; done
 done_with check-algol.sh
+for words in '' nothere folder binary --nonsense '../bin/b67 more' /bin/true; do refused bash $tools/check-teaching.sh $words; done
+refused sh $tools/check-teaching.sh
+done_with check-teaching.sh
+for words in 'mark.py' 'mark.py --nonsense' 'mark.py nothing hidden deck' 'mark.py collatz hidden nothere' 'mark.py collatz hidden folder' 'slides.py --nonsense' 'slides.py more words'; do refused python3 ../clone/teaching/$words; done
+for words in 'numbers.py --nonsense' 'numbers.py nothing 1' 'numbers.py collatz' 'wrong.py --nonsense' 'wrong.py 11' 'wrong.py 0' 'wrong.py'; do refused python3 ../clone/teaching/pupils/$words; done
+for words in '' '--stage 0 cat' '--stage 9 cat' '--stage' nothere --nonsense '--seeds x cat' '--seeds 9..1 cat'; do refused python3 ../clone/teaching/pupils/emulator/grade.py $words; done
+for words in '' '--stage 0 cat' '--stage' nothere --nonsense folder '--programs nothere cat'; do refused python3 ../clone/teaching/pupils/translator/grade.py $words; done
+done_with teaching
 for name in check-docs check-scripts before-landing release; do
     words=
     [ $name != release ] || words=../files/out.tar.gz

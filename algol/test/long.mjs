@@ -1,12 +1,15 @@
-// The long tests of the translator: node algol/test/long.mjs [COUNT [FIRST [PART]]]; B67 is the built program. PART is one of `programs`,
-// `texts` and `limits`; all three are tried if it isn't said.
+// The long tests of the translator: node algol/test/long.mjs [--jobs N] [COUNT [FIRST [PART]]]; B67 is the built program. PART is one of
+// `programs`, `texts` and `limits`; all three are tried if it isn't said. N processes work, one if it isn't said.
 // COUNT random programs (10,000 if nothing is said), numbered from FIRST (1), print the same by the machine as by the reference, in ample
-// core and in the least one; COUNT mutated texts neither break the translator nor give a deck that b67 refuses; and each limit of the
-// machine is reached, and one more is a mistake with a line. What differs is kept in a folder, which is told. The status is 1 if something does.
+// core and each in its least one; COUNT mutated texts neither break the translator nor give a deck that b67 refuses; and each limit of the
+// machine is reached, and one more is a mistake with a line. It goes by pieces of the numbers, and tells each that is done, so a run that
+// was cut off goes on by FIRST. What differs is kept in a folder, which is told. The status is 1 if something does.
 
+import {fork} from 'node:child_process';
 import {mkdtempSync, readFileSync, readdirSync, writeFileSync} from 'node:fs';
 import {tmpdir} from 'node:os';
 import {join} from 'node:path';
+import {fileURLToPath} from 'node:url';
 import {compile} from '../compile.mjs';
 import {interpret} from './report.mjs';
 import {Programs} from './random.mjs';
@@ -14,7 +17,7 @@ import {mutated, Random} from './mutate.mjs';
 import {SHAPES} from './limits.mjs';
 import {command, run, runInLeast} from './machine.mjs';
 
-const [JOBS, EVERY] = [8, 1000]; // jobs of a deck; after how many the count is told
+const [JOBS, PIECE, MOST_WORKERS] = [8, 250, 64]; // jobs of a deck; numbers of a piece; processes
 const CORE = 1048575;
 // What ends a run by the machine's own limits, of which the reference knows nothing.
 const LIMITS = /LIMIT|STACK OVERFLOW|LOOP/;
@@ -37,9 +40,9 @@ function linesOf(decks, go) {
   return found;
 }
 
+// Random programs of these numbers; those that the reference would carry out for too long are left out.
 class Comparison {
   constructor() { Object.assign(this, {waiting: [], same: 0, long: 0, machine: 0, wrong: 0, lines: 0, ends: {}}); }
-  // Takes a random program; those that the reference would carry out for too long are left out.
   add(number) {
     const text = new Programs(number).program(), {deck, errors} = compile(text);
     if (!deck) { this.wrong++; keep(`${number}.alg`, text, `refused: ${errors[0].line}:${errors[0].col}: ${errors[0].text}`); return; }
@@ -48,11 +51,11 @@ class Comparison {
     this.waiting.push({number, text, deck, wanted});
     if (this.waiting.length === JOBS) this.all();
   }
-  // Runs the programs that wait, in ample core and in the least one.
+  // Runs the programs that wait: in ample core together, in the least one each by itself, for a core that all need leaves room for one.
   all() {
     if (!this.waiting.length) return;
-    const decks = this.waiting.map(it => it.deck), ample = linesOf(decks, deck => run(deck, CORE)), least = linesOf(decks, deck => runInLeast(deck).lines);
-    this.waiting.forEach((it, n) => this.look(it, ample[n], least[n]));
+    const ample = linesOf(this.waiting.map(it => it.deck), deck => run(deck, CORE));
+    this.waiting.forEach((it, n) => this.look(it, ample[n], runInLeast(it.deck).lines.trimEnd().split('\n')));
     this.waiting = [];
   }
   look({number, text, wanted}, ample, least) {
@@ -62,37 +65,31 @@ class Comparison {
     this.wrong++;
     keep(`${number}.alg`, text, `line ${wanted.findIndex((line, n) => line !== ample[n]) + 1} differs`);
   }
-  // What was found, in a line.
-  get told() { return `${this.same} the same (${this.lines} lines; ${Object.entries(this.ends).map(([end, n]) => `${n} ${end}`).join(', ')}), ${this.long} too long for the reference, ${this.machine} ended by a limit of the machine, ${this.wrong} wrong`; }
 }
 
-// Draws programs until so many agree.
-function compare(count, first) {
+function programs(from, to) {
   const comparison = new Comparison();
-  for (let number = first; comparison.same + comparison.machine + comparison.wrong < count; number++) {
-    comparison.add(number);
-    if (number % EVERY === 0) console.log(`programs up to ${number}: ${comparison.told}`);
-  }
+  for (let number = from; number < to; number++) comparison.add(number);
   comparison.all();
-  console.log(`random programs: ${comparison.told}`);
-  return comparison.wrong;
+  const {same, long, machine, wrong, lines, ends} = comparison;
+  return {same, long, machine, wrong, lines, ends};
 }
 
 // Whether a translation is as it must be: a deck, or mistakes that all have a place and a sentence.
 const isSound = ({deck, errors}) => deck !== null || (errors.length > 0 && errors.every(e => e.line > 0 && e.col > 0 && !/undefined|NaN|null|\[object/.test(e.text)));
 
 // Mutates programs, and looks whether the translator throws, tells nothing, or makes a deck that is refused.
-function mutate(count, first) {
-  const folder = new URL('../programs/', import.meta.url), random = new Random(first), tally = {decks: 0, refused: 0, mistakes: 0, wrong: 0};
-  const texts = readdirSync(folder).filter(name => name.endsWith('.alg')).map(name => readFileSync(new URL(name, folder), 'utf8'));
+function texts(from, to) {
+  const folder = new URL('../programs/', import.meta.url), random = new Random(from), tally = {decks: 0, refused: 0, mistakes: 0, wrong: 0};
+  const all = readdirSync(folder).filter(name => name.endsWith('.alg')).map(name => readFileSync(new URL(name, folder), 'utf8'));
   let waiting = [];
   const check = () => {
     const lines = waiting.length ? command(waiting.map(it => it.deck.slice(it.deck.indexOf('?JOB'))).join(''), 'check').trimEnd().split('\n') : [];
-    if (lines.length !== waiting.length || lines.some(line => !/ ADMITTED /.test(line))) { tally.wrong++; keep(`mutated-${tally.decks}.alg`, waiting.map(it => it.text).join('\n%%%\n'), lines.join('; ')); }
+    if (lines.length !== waiting.length || lines.some(line => !/ ADMITTED /.test(line))) { tally.wrong++; keep(`mutated-${from}-${tally.decks}.alg`, waiting.map(it => it.text).join('\n%%%\n'), lines.join('; ')); }
     waiting = [];
   };
-  for (let k = 0; k < count; k++) {
-    const text = mutated(random.n(4) ? random.of(texts) : new Programs(random.n(1e9)).program(), random);
+  for (let k = from; k < to; k++) {
+    const text = mutated(random.n(4) ? random.of(all) : new Programs(random.n(1e9)).program(), random);
     let made;
     try { made = compile(text); } catch (e) { tally.wrong++; keep(`threw-${k}.alg`, text, e.stack.split('\n').slice(0, 3).join(' ')); continue; }
     if (!isSound(made)) { tally.wrong++; keep(`unsound-${k}.alg`, text, JSON.stringify(made.errors)); continue; }
@@ -103,8 +100,7 @@ function mutate(count, first) {
     if (waiting.length === JOBS) check();
   }
   check();
-  console.log(`mutated texts: ${tally.refused} refused with ${tally.mistakes} mistakes, ${tally.decks} translated and admitted, ${tally.wrong} wrong`);
-  return tally.wrong;
+  return tally;
 }
 
 // For each limit: the largest program that is translated is admitted, and the next one is a mistake with a line.
@@ -117,15 +113,55 @@ function limits() {
     if (!/ ADMITTED /.test(admitted)) wrong++;
     console.log(`${what}: ${low}, ${admitted}; ${low + 1}: ${mistake ? `${mistake.line}:${mistake.col}: ${mistake.text}` : 'no mistake'}`);
   }
-  return wrong;
+  return {wrong};
 }
 
-const [count, first] = [process.argv[2] ?? '10000', process.argv[3] ?? '1'].map(Number), PARTS = {programs: compare, texts: mutate, limits}, [, , , , part] = process.argv;
-if (process.argv.length > 5 || !(count > 0) || !(first > 0) || (part !== undefined && !Object.hasOwn(PARTS, part))) {
-  console.error('usage: node algol/test/long.mjs [COUNT [FIRST [programs, texts or limits]]]');
+// What is tried by pieces: what makes the tally of a piece, how a tally is told, and how much of what is wanted it has.
+const PIECES = {
+  programs: {make: programs, done: it => it.same ?? 0,
+    told: it => `${it.same} the same (${it.lines} lines; ${Object.entries(it.ends).map(([end, n]) => `${n} ${end}`).join(', ')}), ${it.long} too long for the reference, ${it.machine} ended by a limit of the machine, ${it.wrong} wrong`},
+  texts: {make: texts, done: (it, given) => given, told: it => `${it.refused} refused with ${it.mistakes} mistakes, ${it.decks} translated and admitted, ${it.wrong} wrong`},
+};
+
+// Adds the counts of one tally to those of another.
+function addTo(sum, tally) {
+  for (const [key, n] of Object.entries(tally)) if (typeof n === 'number') sum[key] = (sum[key] ?? 0) + n; else addTo(sum[key] ??= {}, n);
+}
+
+// Gives pieces to so many processes until enough is done; tells each piece, and the sum; how many were wrong.
+async function tried(part, {count, first, workers}) {
+  const {done, told} = PIECES[part], size = Math.min(PIECE, Math.ceil(count / workers)), sum = {};
+  let next = first;
+  const worker = () => new Promise((ends, fails) => {
+    const child = fork(fileURLToPath(import.meta.url), ['--piece']);
+    const more = () => { if (done(sum, next - first) >= count) child.disconnect(); else { child.send({part, from: next, to: next + size}); next += size; } };
+    child.on('message', ({from, to, tally}) => {
+      addTo(sum, tally);
+      console.log(`${part} ${from} to ${to - 1}: ${told(tally)}`);
+      more();
+    });
+    child.on('exit', (status, signal) => status === 0 ? ends() : fails(new Error(`a process ended with ${signal ?? `status ${status}`}`)));
+    more();
+  });
+  await Promise.all(Array.from({length: workers}, worker));
+  console.log(`all ${part}: ${told(sum)}`);
+  return sum.wrong;
+}
+
+function usage() {
+  console.error('usage: node algol/test/long.mjs [--jobs N] [COUNT [FIRST [programs, texts or limits]]]');
   process.exitCode = 2;
-} else {
-  const wrong = Object.entries(PARTS).filter(([name]) => !part || name === part).reduce((sum, [, tries]) => sum + tries(count, first), 0);
+}
+
+async function main(words) {
+  const [, jobs] = words[0] === '--jobs' ? words.splice(0, 2) : [null, '1'], workers = Number(jobs), [count, first] = [words[0] ?? '10000', words[1] ?? '1'].map(Number), part = words[2];
+  const isNumber = (n, most) => Number.isInteger(n) && n > 0 && n <= most;
+  if (words.length > 3 || !isNumber(workers, MOST_WORKERS) || !isNumber(count, 1e7) || !isNumber(first, 1e9) || (part !== undefined && part !== 'limits' && !Object.hasOwn(PIECES, part))) return usage();
+  let wrong = 0;
+  for (const name of ['programs', 'texts', 'limits']) if (!part || name === part) wrong += name === 'limits' ? limits().wrong : await tried(name, {count, first, workers});
   console.log(wrong ? `${wrong} wrong` : 'all the same');
   process.exitCode = wrong ? 1 : 0;
 }
+
+if (process.argv[2] === '--piece') process.on('message', ({part, from, to}) => process.send({from, to, tally: PIECES[part].make(from, to)}));
+else await main(process.argv.slice(2));

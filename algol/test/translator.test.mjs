@@ -26,6 +26,7 @@ const REFUSED = [
   ['begin procedure p(A); integer array A; A[1, 2] := 3; integer array B[0:1]; p(B) end', [[1, 78, '`B` has 1 dimension']]],
   ['begin integer array A[2:1]; end', [[1, 21, 'below its lower bound']]],
   ['begin go to L end', [[1, 13, '`L` is not declared']]],
+  ['begin integer x; X := 1; outreal(1, x); Print(x) end', [[1, 18, '`X` is not declared. Is `x` meant?'], [1, 26, 'A number is printed by `print(e)`'], [1, 41, 'Is `print` meant?']]],
   ['begin go to 7; 8: end', [[1, 13, 'There is no label 7']]],
   ['begin integer x; go to x; L: end', [[1, 24, 'Here a label is wanted']]],
   ['begin integer to; end', [[1, 15, 'which is a word of the language']]],

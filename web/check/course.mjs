@@ -206,7 +206,7 @@ ask: Let it print 30.
 prints: 1.1 30
 prints: 1.1 ENDED
 deck:
-${WRITTEN['1.5'][0].trim()}
+${WRITTEN['1.2'][0].trim()}
 
 task: The store
 ask: Go to the first store into 2,2.
@@ -227,7 +227,7 @@ export async function sheets(it) {
   await begins(it, `sheet:${packed}`);
   await it.click('#run');
   it.wants(!await isDone(it) && /Line 1 is 1\.1 42, and must be 1\.1 30\./.test(await it.shown('#task')), `a sheet’s task with the deck with which it opens: ${await it.shown('#task')}`);
-  await it.types(WRITTEN['1.5'][0].replace('42', '30'));
+  await it.types(WRITTEN['1.2'][0].replace('42', '30'));
   await it.click('#run');
   it.wants(await isDone(it, true), `a sheet’s task isn’t done: ${await it.shown('#task')}`);
   it.wants(await it.shown('#task a') === 'next: find 2', `after the first task of a sheet comes ${await it.shown('#task a')}`);

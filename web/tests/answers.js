@@ -36,10 +36,10 @@ const unstuffed = asm('MPCW P / MPCW Q / MKST / NAMC 2,2 / LT8 5 / ENTR / EXIT /
 
 // A deck that does each task, and one that does almost the same.
 export const WRITTEN = {
-  '1.2': [asm('NAMC 2,2 / ONE / ADD / EXIT'), asm('ONE / ONE / ADD / EXIT')],
-  '1.3': [print('LT48 549755813887 / ONE / ADD'), print('LT48 549755813886 / ONE / ADD')],
-  '1.4': [print('LT8 5 / LNOT'), print('LT8 5')],
-  '1.5': [print('LT8 42'), print('LT8 43')],
+  '1.2': [print('LT8 42'), print('LT8 43')],
+  '1.3': [asm('NAMC 2,2 / ONE / ADD / EXIT'), asm('ONE / ONE / ADD / EXIT')],
+  '1.4': [print('LT48 549755813887 / ONE / ADD'), print('LT48 549755813886 / ONE / ADD')],
+  '1.5': [print('LT8 5 / LNOT'), print('LT8 5')],
   '2.4': [deck('factorial').replace('SEGMENT FACT 3', 'SEGMENT FACT 4'), deck('factorial').replace('SEGMENT FACT 3', 'SEGMENT FAC 3')],
   '2.5': [asm('ONE / MKST / DLET / EXIT'), asm('ONE / DLET / MKST / EXIT')],
   '3.4': [deck('jensen').replace('NAMC 2,4\nSTFF', 'ONE'), print('LT8 10')],

@@ -11,6 +11,7 @@ import {COURSE, TASKS} from '../src/course/course.js';
 import {START} from '../src/page/decks.js';
 import {deckOfTask, isFound, isWritten, Progress, whyNot} from '../src/course/progress.js';
 import {findsMistake} from '../src/course/handin.js';
+import {coreFor, deckOf, translationOf} from '../src/algol/translation.js';
 import {isRight, questionOf} from '../src/course/predict.js';
 import {runWords, textOf} from '../src/machine/program.js';
 
@@ -133,4 +134,22 @@ test('each operator of a deck with a text in ALGOL has its line', () => {
     for (const line of cards.values()) assert.ok(lines[line]);
   }
   assert.equal(algolOf('sum'), null);
+});
+
+for (const name of ALGOL_DECKS) test(`${name} in ALGOL, translated, prints what its deck prints`, () => {
+  const text = algolOf(name).lines.join('\n'), core = coreFor(translationOf(text)), [made, hand] = [deckOf(text), texts.get(name)].map(deck => native.call(runWords(core), deck));
+  assert.deepEqual([made.status, textOf(made.bytes)], [hand.status, textOf(hand.bytes)]);
+});
+
+// What a line must have for an operator of its cards. For a number it must have this, or bounds of so many elements.
+const SIGNS = {MULT: /×/, IDIV: /div/, SUBT: /-/, CHSN: /-/, ADD: /\+|step/, EQUL: /=/, GRTR: /[<>≤≥]|until/, LSEQ: /[<>≤≥]|until/, INDX: /\[/, NXLV: /\[/};
+
+test('a card of a deck with a text in ALGOL has its sign or its number in its line', () => {
+  for (const name of ALGOL_DECKS) {
+    const {lines, cards} = algolOf(name), deck = texts.get(name).split('\n');
+    for (const [card, line] of cards) {
+      const [, operator, operand] = /^(?:\w+: *)?([A-Z]+\d*) ?([\w,]*)/.exec(deck[card - 1]), wanted = /^LT/.test(operator) ? new RegExp(`\\b${operand}\\b|\\[0:${operand - 1}\\]`) : SIGNS[operator];
+      if (wanted) assert.match(lines[line], wanted, `${name}, card ${card}`);
+    }
+  }
 });

@@ -103,7 +103,7 @@ test('an answer to a question is done again, where it was handed in', async () =
 
 test('the run of a pupil’s deck is bounded, and Stop isn’t taken for a wrong work', async () => {
   await turn();
-  const desk = deskOf(), task = TASKS.find(it => it.id === '1.5'), loop = '?JOB A\n?LIMIT 100000000\n?ASM\nSEGMENT MAIN 2\nTOP: MKST\nNAMC 0,9\nLT8 42\nENTR\nBRUN TOP\n?END\n';
+  const desk = deskOf(), task = TASKS.find(it => it.id === '1.2'), loop = '?JOB A\n?LIMIT 100000000\n?ASM\nSEGMENT MAIN 2\nTOP: MKST\nNAMC 0,9\nLT8 42\nENTR\nBRUN TOP\n?END\n';
   let limit = '';
   const ask = async (name, data) => { limit = /\?LIMIT \d+/.exec(data.text)[0]; return desk[name](data); };
   assert.deepEqual([await doneAgain(ask, task, {deck: loop, core: 4096}, PAGE), limit], [false, '?LIMIT 1000000']);

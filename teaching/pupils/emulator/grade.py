@@ -116,10 +116,8 @@ def random_trials(text):
     program = os.environ.get("B67", "b67")
     if not shutil.which(program):
         raise Careless(f"{program}: no program that can be run: --seeds asks b67 what is right")
-    found = re.fullmatch(r"(\d+)\.\.(\d+)", text)
-    if not found or int(found[1]) > int(found[2]):
-        raise Careless(f"{text}: --seeds wants two numbers, as 0..99")
-    for seed in range(int(found[1]), int(found[2]) + 1):
+    first, last = map(int, text.split(".."))
+    for seed in range(first, last + 1):
         deck = deck_of_seed(seed, Features(seed % 2 == 0, seed % 3 == 0, seed % 6 == 0))
         with tempfile.TemporaryDirectory() as room:
             done = subprocess.run([program, "run", "--core", str(CORE), "--backing", "b"], input=deck, capture_output=True, cwd=room, check=False)
@@ -162,8 +160,13 @@ def words_of_call(words):
     for name in ("--stage", "--seconds"):
         if options[name] is not None and not re.fullmatch(r"[1-9]\d{0,3}", options[name]):
             raise Careless(f"{options[name]}: {name} wants a number")
+    found = re.fullmatch(r"(\d+)\.\.(\d+)", options["--seeds"] or "0..0")
+    if not found or int(found[1]) > int(found[2]):
+        raise Careless(f"{options['--seeds']}: --seeds wants two numbers, as 0..99")
     if not words:
         raise Careless("a command that runs an emulator is missing")
+    if not shutil.which(words[0]):
+        raise Careless(f"{words[0]}: no program that can be run")
     return options, words
 
 

@@ -1,4 +1,5 @@
-// What some decks are in ALGOL 60: each line, and the cards that stand for it. Written by hand beside the decks; nothing is compiled.
+// What some decks are in ALGOL 60: each line, and the cards that stand for it. The cards are by hand, and not what the translator makes, so
+// their lines are by hand too. Tests translate each text, which must print what its deck does, and compare numbers and signs with the cards.
 const TEXTS = {
   factorial: [['begin integer n;', ''], ['  integer procedure FACT(n); value n; integer n;', '6'], ['    FACT := if n = 0', '22-25'], ['      then 1', '26-27'],
     ['      else n × FACT(n - 1);', '28-36'], ['  n := 0;', '7'], ['L: n := n + 1;', '8-12'], ['  print(FACT(n));', '13-19'], ['  go to L', '20'], ['end', '']],
