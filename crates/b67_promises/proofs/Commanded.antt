@@ -39,7 +39,7 @@ use Rattle.b67_program.specs.Served.{CarriesOut}
 use Rattle.b67_recorded.specs.Ends.{sink_told, sink_faults}
 use Rattle.b67_recorded.specs.declared.sink.RecordedSink.{RecordedSink}
 use Rattle.b67_promises.specs.Commands as commanded
-use Rattle.b67_promises.specs.Commands.{Takes, PrintsText, is_printed, is_cut, PrintsFailure, reading_fails, memory_is_wanted, PrintsRun, PrintsVerdict, is_made, isnt_made, PrintsDump, is_dumped, isnt_dumped, PrintsImage, doesnt_halt, is_cut_in_lines, halts, PrintsSteps, steps_are_due, steps_are_cut, PrintsRest, doesnt_go_on}
+use Rattle.b67_promises.specs.Commands.{TakesText, PrintsText, is_printed, is_cut, PrintsFailure, reading_fails, memory_is_wanted, PrintsRun, PrintsVerdict, is_made, isnt_made, PrintsDump, dump_is_printed, isnt_dumped, PrintsImage, doesnt_halt, is_cut_in_lines, halts, PrintsSteps, steps_are_due, steps_are_cut, PrintsRest, doesnt_go_on}
 use Rattle.b67_promises.specs.Described as described
 use Rattle.b67_promises.specs.Described.{IsDueOf}
 use Rattle.b67_promises.specs.Halts.{text_of_halt}
@@ -72,7 +72,7 @@ all_given text read (x ∷ rest) most is exactly few = absurd (omega (arith, exa
 
 module _ {B W : Type 0} {h : write.Ghosts W} (words : List (Bor (List ℕ))) (text : List ℕ) (d : Device B) (old new : RecordedSink W h) (status : ℕ) (r : CarriesOut words text d sink_told sink_faults old new status) where
   abbrev takes : List ℕ → Type 0
-  takes out = Takes old new out
+  takes out = TakesText old new out
 
   -- ---- what was printed
 
@@ -194,7 +194,7 @@ module _ {B W : Type 0} {h : write.Ghosts W} (words : List (Bor (List ℕ))) (te
         by_dump (answered due t (print_due other read made c was same said m s e) p) = absurd (prints_no other read made c said)
         by_dump (answered due t (image_due other sectors card reason c wanted was same m s e) p) =
             inl (isnt_dumped card reason (refused_image sectors None card reason (any_sectors d.sectors other sectors c wanted) was) (text_printed due 2 t (ended (refused_image_line card reason)) s (ap whole_of e) p))
-        by_dump (answered due t (dump_due m dump o same none s e) p) = inl (is_dumped m dump (meant_image None m o.read) o.dumps (text_printed due 0 t dump s (ap whole_of e) p))
+        by_dump (answered due t (dump_due m dump o same none s e) p) = inl (dump_is_printed m dump (meant_image None m o.read) o.dumps (text_printed due 0 t dump s (ap whole_of e) p))
         by_dump (answered due t (run_due core q run stops) p) = absurd (no_core opens_none core q run)
         by_dump (answered due t (reading_due c rose same m s e) p) = inr (reading_fails (text_printed due 7 t reading_text s (ap whole_of e) p))
         by_dump (answered due t (memory_due c same m s e) p) = inr (memory_is_wanted (text_printed due 9 t memory_text s (ap whole_of e) p))

@@ -34,7 +34,7 @@ use Rattle.b67_recorded.specs.declared.mirror.Mirrored.{Mirrored}
 use Rattle.b67_recorded.specs.declared.process.RecordedProcess.{RecordedProcess}
 use Rattle.b67_recorded.specs.declared.sink.RecordedSink.{RecordedSink}
 use Rattle.b67_recorded.specs.declared.source.RecordedSource.{RecordedSource}
-use Rattle.b67_promises.specs.Commands.{Takes, PrintsText, is_printed, is_cut, PrintsFailure, reading_fails, memory_is_wanted, PrintsRun, AnswersAlone, AnswersOver, IsTextOf, PrintsAlone, answers_alone, fails_alone, PrintsOver, answers_over, isnt_copied, fails_over, FileFailed, call_failed, copy_failed, HasCauses}
+use Rattle.b67_promises.specs.Commands.{TakesText, PrintsText, is_printed, is_cut, PrintsFailure, reading_fails, memory_is_wanted, PrintsRun, AnswersAlone, AnswersOver, IsTextOf, PrintsAlone, answers_alone, fails_alone, PrintsOver, answers_over, copy_isnt_made, fails_over, FileFailed, call_failed, copy_failed, HasCauses}
 use Rattle.b67_promises.specs.Paging.{texts}
 use Rattle.b67_promises.proofs.CallsDescribed.{longer}
 use Rattle.b67_promises.proofs.Commanded.{usage_printed, verdict_printed, dump_printed, rest_printed, run_printed, exercise_printed, image_printed}
@@ -60,7 +60,7 @@ read_whole None text read t = same_Ok read [] t.1 ∙ t.0
 
 module _ {W : Type 0} {h : write.Ghosts W} (old new : RecordedSink W h) (status : ℕ) where
   abbrev takes : List ℕ → Type 0
-  takes out = Takes old new out
+  takes out = TakesText old new out
 
   ended_so : (due : ℕ) (line : List ℕ) → EndsPrinting sink_told sink_faults old new due line status → PrintsText due line status takes
   ended_so due line (all_printed a took) = is_printed a (took_bytes old new line took)
@@ -172,7 +172,7 @@ module _ {D F R W : Type 0} {g : Ghosts F} {h : write.Ghosts W} (opens : D → O
       by_result t.0 t.1 (noted.notes ∙ ap (λ (o : Option (List ℕ)). process.opened.texts ++ paths_of o) none ∙ append-nil process.opened.texts) x
     where
       by_result : input'.given.bytes ≡ input.given.bytes ++ text → IsTextOf (text_limit (command_line_of words)) text input'.ended → process'.opened.texts ≡ process.opened.texts
-          → AnswersAlone (command_line_of words) text status (Takes old new) ⊎ PrintsFailure status (Takes old new) → Alone (command_line_of words)
+          → AnswersAlone (command_line_of words) text status (TakesText old new) ⊎ PrintsFailure status (TakesText old new) → Alone (command_line_of words)
       by_result gave t same (inl x) = answers_alone text gave t same x
       by_result gave t same (inr f) = fails_alone text gave same f
 
@@ -195,7 +195,7 @@ module _ {D F R W : Type 0} {g : Ghosts F} {h : write.Ghosts W} (opens : D → O
   served_over words path named text given (recorded.isnt_copied other is first noted uncopied ends) =
       let t = text_of input input' (text_limit (command_line_of words)) text given in
       let same : other ≡ path = same_Some other path (sym is ∙ named) in
-      isnt_copied text t.0 t.1 (noted.notes ∙ ap (λ (x : List ℕ). process.opened.texts ++ x ∷ []) same) first
+      copy_isnt_made text t.0 t.1 (noted.notes ∙ ap (λ (x : List ℕ). process.opened.texts ++ x ∷ []) same) first
       (subst (λ (x : List ℕ). WasNotCopied kept g.holds g.size g.faults process.inner process'.inner x) same uncopied) (ended_so old new status 6 (ended backing_fault_line) ends)
   served_over words path named text given (is_served noted (over_memory held held' none zeros reads writes calm a)) = absurd (none-some path (sym none ∙ named))
   served_over words path named text given (is_served noted (sectors_want_memory none ends)) = absurd (none-some path (sym none ∙ named))
@@ -208,7 +208,7 @@ module _ {D F R W : Type 0} {g : Ghosts F} {h : write.Ghosts W} (opens : D → O
     where
       by_result : input'.given.bytes ≡ input.given.bytes ++ text → IsTextOf (text_limit (command_line_of words)) text input'.ended → process'.opened.texts ≡ process.opened.texts ++ path ∷ []
           → FindsMirrored kept process.inner (reads_sectors (command_line_of words)) path file → LeavesMirrored kept process'.inner path file'
-          → AnswersOver (command_line_of words) (mirror_size file) (mirror_sectors file) (mirror_sectors file') text status (Takes old new) ⊎ PrintsFailure status (Takes old new) → Over (command_line_of words) path
+          → AnswersOver (command_line_of words) (mirror_size file) (mirror_sectors file) (mirror_sectors file') text status (TakesText old new) ⊎ PrintsFailure status (TakesText old new) → Over (command_line_of words) path
       by_result gave t notes found left_so (inl x) = answers_over text gave t notes file file' found left_so x
       by_result gave t notes found left_so (inr f) = fails_over text gave (inr notes) f
 

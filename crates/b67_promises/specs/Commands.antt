@@ -33,8 +33,8 @@ use Rattle.b67_promises.specs.Described.{BeginsLonger, IsAnsweredSo, IsDueOf, Ma
 use Rattle.b67_promises.specs.Halts.{text_of_halt, PrintsTheRest}
 
 -- in a call the writer took these bytes
-abbrev pub Takes : {W : Type 0} {w : write.Ghosts W} → RecordedSink W w → RecordedSink W w → List ℕ → Type 0
-Takes old new out = new.noted.bytes ≡ old.noted.bytes ++ out
+abbrev pub TakesText : {W : Type 0} {w : write.Ghosts W} → RecordedSink W w → RecordedSink W w → List ℕ → Type 0
+TakesText old new out = new.noted.bytes ≡ old.noted.bytes ++ out
 
 -- This text is due, and this status: it is printed; or the printer fails in it.
 pub data PrintsText (due : ℕ) (whole : List ℕ) (status : ℕ) (takes : List ℕ → Type 0) : Type 0 where
@@ -60,7 +60,7 @@ pub data PrintsVerdict (v : Verdict) (status : ℕ) (takes : List ℕ → Type 0
 -- The text is an image of some machine, with any number of sectors, and the dump of each session that this represents is due; or its
 -- first refusal is.
 pub data PrintsDump (text : List ℕ) (status : ℕ) (takes : List ℕ → Type 0) : Type 0 where
-  is_dumped : (m : Machine) (dump : List ℕ) → IsMeant (Ok m) (told_in None text) → ForEachShown m (λ s. dump ≡ dump_text s) → PrintsText 0 dump status takes → PrintsDump text status takes
+  dump_is_printed : (m : Machine) (dump : List ℕ) → IsMeant (Ok m) (told_in None text) → ForEachShown m (λ s. dump ≡ dump_text s) → PrintsText 0 dump status takes → PrintsDump text status takes
   isnt_dumped : (card reason : ℕ) → IsMeant (Err (images.Card card reason)) (told_in None text) → PrintsText 2 (ended (refused_image_line card reason)) status takes → PrintsDump text status takes
 
 -- What the machine of the model gives of a deck is due; where the halt comes, an image stands before its line. Its machine represents
@@ -116,8 +116,8 @@ IsTextOf None text ended = text ≡ []
 -- this text. Or the call failed, after a part of it at most.
 pub data PrintsAlone {D F R W : Type 0} {g : Ghosts F} {w : write.Ghosts W} (command : Option CommandLine) (process process' : RecordedProcess D F g) (input input' : RecordedSource R) (old new : RecordedSink W w) (status : ℕ) : Type 0 where
   answers_alone : (text : List ℕ) → input'.given.bytes ≡ input.given.bytes ++ text → IsTextOf (text_limit command) text input'.ended → process'.opened.texts ≡ process.opened.texts
-      → AnswersAlone command text status (Takes old new) → PrintsAlone command process process' input input' old new status
-  fails_alone : (part : List ℕ) → input'.given.bytes ≡ input.given.bytes ++ part → process'.opened.texts ≡ process.opened.texts → PrintsFailure status (Takes old new) → PrintsAlone command process process' input input' old new status
+      → AnswersAlone command text status (TakesText old new) → PrintsAlone command process process' input input' old new status
+  fails_alone : (part : List ℕ) → input'.given.bytes ≡ input.given.bytes ++ part → process'.opened.texts ≡ process.opened.texts → PrintsFailure status (TakesText old new) → PrintsAlone command process process' input input' old new status
 
 -- Of words that name a path: the reader gave a text, the file of the path was opened and no other, and what the writer took and the
 -- status are the command's for this text, and for what the mirror of the file was found to hold and is left to hold. Or not all of the file
@@ -126,11 +126,11 @@ pub data PrintsOver {D F R W : Type 0} {g : Ghosts F} {w : write.Ghosts W} (kept
     (old new : RecordedSink W w) (status : ℕ) : Type 0 where
   answers_over : (text : List ℕ) → input'.given.bytes ≡ input.given.bytes ++ text → IsTextOf (text_limit command) text input'.ended → process'.opened.texts ≡ process.opened.texts ++ path ∷ []
       → (file file' : Mirrored F g) → FindsMirrored kept process.inner (reads_sectors command) path file → LeavesMirrored kept process'.inner path file'
-      → AnswersOver command (mirror_size file) (mirror_sectors file) (mirror_sectors file') text status (Takes old new) → PrintsOver kept command path process process' input input' old new status
-  isnt_copied : (text : List ℕ) → input'.given.bytes ≡ input.given.bytes ++ text → IsTextOf (text_limit command) text input'.ended → process'.opened.texts ≡ process.opened.texts ++ path ∷ []
-      → reads_sectors command ≡ true → WasNotCopied kept g.holds g.size g.faults process.inner process'.inner path → PrintsText 6 (ended backing_fault_line) status (Takes old new)
+      → AnswersOver command (mirror_size file) (mirror_sectors file) (mirror_sectors file') text status (TakesText old new) → PrintsOver kept command path process process' input input' old new status
+  copy_isnt_made : (text : List ℕ) → input'.given.bytes ≡ input.given.bytes ++ text → IsTextOf (text_limit command) text input'.ended → process'.opened.texts ≡ process.opened.texts ++ path ∷ []
+      → reads_sectors command ≡ true → WasNotCopied kept g.holds g.size g.faults process.inner process'.inner path → PrintsText 6 (ended backing_fault_line) status (TakesText old new)
       → PrintsOver kept command path process process' input input' old new status
-  fails_over : (part : List ℕ) → input'.given.bytes ≡ input.given.bytes ++ part → (process'.opened.texts ≡ process.opened.texts) ⊎ (process'.opened.texts ≡ process.opened.texts ++ path ∷ []) → PrintsFailure status (Takes old new)
+  fails_over : (part : List ℕ) → input'.given.bytes ≡ input.given.bytes ++ part → (process'.opened.texts ≡ process.opened.texts) ⊎ (process'.opened.texts ≡ process.opened.texts ++ path ∷ []) → PrintsFailure status (TakesText old new)
       → PrintsOver kept command path process process' input input' old new status
 
 -- ---- causes
