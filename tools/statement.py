@@ -412,6 +412,9 @@ class Page:
         lost = [name for name in re.findall(r'href="#([^"]+)"', template) if name not in self.by_name and f'id="{name}"' not in template]
         if lost:
             raise Wrong("page.html: no definition " + ", ".join(lost))
+        lost = [block.name for _, block in self.functions if not re.search(rf"^  {block.name}: \"", template, re.M)]
+        if lost:
+            raise Wrong("page.html: INTRODUCTIONS lacks " + ", ".join(lost))
         if re.search(r"\{\{[A-Z_]+\}\}", template.replace("{{DATA}}", "")):
             raise Wrong("page.html asks for what isn't known")
         return template.replace("{{DATA}}", shown)
