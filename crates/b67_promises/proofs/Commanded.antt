@@ -331,7 +331,7 @@ module _ {B W : Type 0} {h : write.Ghosts W} (words : List (Bor (List ℕ))) (te
             (text_printed due due t (whole_of t) refl refl ends)
         by_stop (inr x) =
             let stop = x.1.stop in
-            halts p k.tasks.made k e opens.room (record { within = at_halt (run_of p).halt k.tasks.made x.1.halt; fit = opens.fitted tells }) x.1.halt
+            halts p k.tasks.made k e opens.room (record { within = at_halt (run_of p).halt k.tasks.made x.1.halt; fit = opens.fitted tells }) x.1.halt opens.core_size
             (subst (λ (o : Option (List (List ℕ))). StandsAt o k (after k.tasks.made (run_of p).session)) now (subst (λ (s : Session). StandsAt (known_now d) k s) (stop.comes.session tells) stop.stands))
             (text_printed due 3 t (text_of_halt (lines k.tasks.made (run_of p).session) k k.tasks.made) x.0
             (ap whole_of x.1.text_is ∙ ap (λ ls. text_of_halt ls k k.tasks.made) (stop.comes.lines_are tells)) ends)

@@ -63,13 +63,13 @@ pub data PrintsDump (text : List ℕ) (status : ℕ) (takes : List ℕ → Type 
   dump_is_printed : (m : Machine) (dump : List ℕ) → IsMeant (Ok m) (told_in None text) → ForEachShown m (λ s. dump ≡ dump_text s) → PrintsText 0 dump status takes → PrintsDump text status takes
   isnt_dumped : (card reason : ℕ) → IsMeant (Err (images.Card card reason)) (told_in None text) → PrintsText 2 (ended (refused_image_line card reason)) status takes → PrintsDump text status takes
 
--- What the machine of the model gives of a deck is due; where the halt comes, an image stands before its line. Its machine represents
--- the session at the halt over what the sectors are left to hold.
+-- What the machine of the model gives of a deck is due; where the halt comes, an image stands before its line. Its machine has that core, and
+-- represents the session at the halt over what the sectors are left to hold.
 pub data PrintsImage (core sectors : ℕ) (left : List (List ℕ)) (bytes : List ℕ) (status : ℕ) (takes : List ℕ → Type 0) : Type 0 where
   doesnt_halt : (due : ℕ) (whole : List ℕ) → (due ≡ 3 → ⊥) → IsDueOf None core sectors bytes due whole → PrintsText due whole status takes → PrintsImage core sectors left bytes status takes
   is_cut_in_lines : (out : List ℕ) (p : Prepared) (steps : ℕ) → status ≡ 8 → takes out → deck_prepared bytes ≡ Ok p → OpensWithin core sectors p → MakesSteps core (run_of p) steps
       → BeginsLonger out (run_text (lines steps (run_of p).session)) → PrintsImage core sectors left bytes status takes
-  halts : (p : Prepared) (steps : ℕ) (m : Machine) → deck_prepared bytes ≡ Ok p → OpensWithin core sectors p → MakesSteps core (run_of p) steps → (run_of p).halt ≡ Some steps → StandsAt (Some left) m (after steps (run_of p).session)
+  halts : (p : Prepared) (steps : ℕ) (m : Machine) → deck_prepared bytes ≡ Ok p → OpensWithin core sectors p → MakesSteps core (run_of p) steps → (run_of p).halt ≡ Some steps → length m.cpu.core ≡ core → StandsAt (Some left) m (after steps (run_of p).session)
       → PrintsText 3 (text_of_halt (lines steps (run_of p).session) m steps) status takes → PrintsImage core sectors left bytes status takes
 
 -- The lines of a run's steps and of its stop are due; or the printer fails in those of steps that are made.

@@ -96,7 +96,8 @@ impl<B: Backing + Drop> Mirrored<B> {
         *numbers == BLANK
     }
 
-    /// Changes the copy of sector n, and says whether there was memory for it.
+    /// Changes the copy of sector n, and says whether there was memory for it. Inlined, it would take the numbers through registers that the write wants.
+    #[inline(never)]
     fn keep(&mut self, n: u32, from: &[u64; 30]) -> bool
         requires low { 1 ≤ n }
         requires high { n ≤ B.size self.old.inner }
