@@ -1,26 +1,19 @@
 -- A call of the program over ends that record, as a command carried out over a text and the mirrored file of a path.
-use Rattle.std.proofs.Common.{◌≡◌, ◌≤◌, ◌<◌, ◌+◌, ◌⊎◌, inl, inr, ℕ, List, [], ◌++◌, take, arith, refl, sym, ap, subst, ◌∙◌, Option, Some, None, Ok, Bool, true}
+use Rattle.std.proofs.Common.{◌≡◌, ◌≤◌, ◌<◌, ◌+◌, ◌⊎◌, inl, inr, ℕ, List, [], ◌++◌, arith, refl, sym, ap, subst, ◌∙◌, Option, Some, None, Ok, true}
 use Rattle.std.proofs.lemmas.Bool.{cases_lt}
 use Rattle.std.proofs.lemmas.List.{append_cancel_left}
 use Rattle.std.proofs.lemmas.Option.{same_Some, none-some}
 use Rattle.std.specs.declared.io.Write as write
 use denote.Ref.{Bor}
-use Rattle.b67_io.specs.Free.{free_told, free_faults}
+use Rattle.b67_io.specs.Free.{free_told}
 use Rattle.b67_backing.specs.declared.device.Backing.{Ghosts}
-use Rattle.b67_model.specs.Common.{Session, lines, after, live_tasks, run_text}
 use Rattle.b67_session_lines.specs.Ends.{EndsPrinting, all_printed, cut_off}
-use Rattle.b67_session_lines.specs.Stops.{live_after}
-use Rattle.b67_session_lines.proofs.Statuses.{after-add}
-use Rattle.b67_image.specs.Laws.{PartsTellSessions}
-use Rattle.b67_image.specs.Meaning.{told_in}
-use Rattle.b67_job.specs.Admitting.{Prepared, deck_prepared, run_of}
+use Rattle.b67_job.specs.Admitting.{Prepared, deck_prepared}
 use Rattle.b67_job.specs.Command.{command_line_of, backing_path}
-use Rattle.b67_job.specs.Device.{Device, DeviceTells, device_of}
+use Rattle.b67_job.specs.Device.{Device, device_of}
 use Rattle.b67_job.specs.Due.{reading_text}
 use Rattle.b67_job.specs.Judgement.{judgement, text_limit}
 use Rattle.b67_job.specs.Lines.{memory_text}
-use Rattle.b67_job.specs.Runs.{StandsAt}
-use Rattle.b67_job.specs.Statuses.{StatusMeans}
 use Rattle.b67_program.specs.Served.{IsCarriedOut, IsAnswered, carried_out, reading_failed, text_wants_memory, over_file, over_memory, sectors_want_memory}
 use Rattle.b67_program.specs.Words.{texts_of}
 use Rattle.b67_recorded.specs.Ends.{mirror_told, mirror_size, mirror_faults, text_told, text_faults, sink_told, sink_faults}
@@ -31,9 +24,9 @@ use Rattle.b67_recorded.specs.declared.mirror.Mirrored.{Mirrored}
 use Rattle.b67_recorded.specs.declared.process.RecordedProcess.{RecordedProcess}
 use Rattle.b67_recorded.specs.declared.sink.RecordedSink.{RecordedSink}
 use Rattle.b67_recorded.specs.declared.source.RecordedSource.{RecordedSource}
-use Rattle.b67_promises.specs.Commands.{NeitherFailed, GoesOnThere}
+use Rattle.b67_promises.specs.Commands.{NeitherFailed}
 use Rattle.b67_promises.specs.Described.{IsRunCommand, IsAnsweredSo, IsAmpleFor}
-use Rattle.b67_promises.specs.Halts.{AsksForImage, AsksForResume}
+use Rattle.b67_promises.specs.Halts.{AsksForResume}
 use Rattle.b67_promises.specs.Paging.{texts, IsWhole, EndsToo, memory_wanted}
 use Rattle.b67_promises.specs.Shipped.{FilesHave}
 use Rattle.b67_promises.proofs.Calls.{short_at}
@@ -42,11 +35,10 @@ use Rattle.b67_promises.proofs.CommandedCalls.{has_causes, read_whole, text_of}
 use Rattle.b67_promises.proofs.Halves as halves
 use Rattle.b67_promises.proofs.NotedWords.{same_path}
 use Rattle.b67_promises.proofs.OneDescribed.{answer_ends}
-use Rattle.b67_promises.proofs.OneImage.{parts_are}
 use Rattle.b67_promises.proofs.Pairs.{more_core_but}
 use Rattle.b67_promises.proofs.RecordedCalls.{always_told, described_so, same_command}
 use Rattle.b67_promises.proofs.RunWords.{run_path}
-use Rattle.b67_promises.proofs.ServesHalves.{image_typed, the_command}
+use Rattle.b67_promises.proofs.ServesHalves.{the_command}
 
 -- one of these four
 abbrev FallsShort : ℕ → Type 0
@@ -201,52 +193,3 @@ module _ {D F R W E G S X : Type 0} {g : Ghosts F} {h : write.Ghosts W} {g' : Gh
       by_six seven eight words_a same x y (inl less) any = inl (by_case seven eight words_a same x y (λ e. omega (arith, e, less)))
       by_six seven eight words_a same x y (inr high) (inl more) = inl (by_case seven eight words_a same x y (λ e. omega (arith, e, more)))
       by_six seven eight words_a same x y (inr high) (inr low) = inr (omega (arith, high, low))
-
-  -- ---- halted, and resumed
-
-  pub together_so : PartsTellSessions → (path other_path bytes text : List ℕ) (words other_words : List (Bor (List ℕ))) → AsksForImage words → AsksForResume other_words → backing_path words ≡ Some path → backing_path other_words ≡ Some other_path
-      → process'.words.texts ≡ process.words.texts ++ texts words → other'.words.texts ≡ other.words.texts ++ texts other_words → input'.given.bytes ≡ input.given.bytes ++ bytes → new.noted.bytes ≡ old.noted.bytes ++ text
-      → other_input'.given.bytes ≡ other_input.given.bytes ++ text → status ≡ 3 → other_status ≡ 0 → GoesOnThere kept kept' bytes text process' path other other_path other_old other_new
-  together_so law path other_path bytes text words other_words w w' named named' is is' gave took gave' three zero =
-      let one = whole_so kept process process' input input' old new status opens told words path is named (inr three) served in
-      let two = whole_so kept' other other' other_input other_input' other_old other_new other_status opens' told' other_words other_path is' named' (inl zero) other_served in
-      by_both one.0 two.0 (ap (λ (ts : List (List ℕ)). take 1 ts) one.1 ∙ w) (ap (λ (ts : List (List ℕ)). take 1 ts) two.1 ∙ w') one.2 two.2
-    where
-      by_both : (words_a words_b : List (Bor (List ℕ))) → AsksForImage words_a → AsksForResume words_b → WasCarried kept words_a path process process' input input' old new status
-          → WasCarried kept' words_b other_path other other' other_input other_input' other_old other_new other_status → GoesOnThere kept kept' bytes text process' path other other_path other_old other_new
-      by_both words_a words_b a b x y = record {
-        left = x.file_after;
-        left_so = x.left_so;
-        found = y.file;
-        found_so = subst (λ (copies : Bool). FindsMirrored kept' other.inner copies other_path y.file) (reads_first words_b b y.call (inl zero)) y.found;
-        rest = λ same.
-            let d = device_of mirror_told mirror_size mirror_faults x.file x.file_after in
-            let e = device_of mirror_told mirror_size mirror_faults y.file y.file_after in
-            let r = x.call in
-            let r' = y.call in
-            let tells : DeviceTells d = always_told x.file in
-            let deck_told = ap Some (r.over.holds ∙ x.bytes ∙ append_cancel_left input.given.bytes x.text bytes (sym x.gave ∙ gave)) in
-            let means = subst (λ (n : ℕ). StatusMeans words_a free_told free_faults r.over.deck r.over.deck_after d r.over.machine sink_told sink_faults old new n) three r.over.means in
-            let h = halves.halted_run words_a free_told free_faults r.over.deck r.over.deck_after d r.over.machine sink_told sink_faults old new bytes old.noted.bytes text a deck_told tells refl (ap Some took) means in
-            let names = halves.names_of words_a free_told free_faults r.over.deck r.over.deck_after d r.over.machine sink_told sink_faults old new bytes old.noted.bytes text a deck_told tells refl (ap Some took) h (r.over.opened h.k h.is) in
-            let typed = image_typed words_a text_told text_faults x.text [] d sink_told sink_faults old new status r (inr three) a h.k h.is in
-            let s0 : Session = (run_of h.p).session in
-            let made : ℕ = h.k.tasks.made in
-            let s : Session = after made s0 in
-            let stands = subst (λ (t : Option (List (List ℕ))). StandsAt t h.k s) (ap Some (sym same)) h.stands in
-            let image_told = ap Some (r'.over.holds ∙ y.bytes ∙ append_cancel_left other_input.given.bytes y.text text (sym y.gave ∙ gave')) in
-            let means' = subst (λ (n : ℕ). StatusMeans words_b free_told free_faults r'.over.deck r'.over.deck_after e r'.over.machine sink_told sink_faults other_old other_new n) zero r'.over.means in
-            let rest = halves.rest_of_run words_b free_told free_faults r'.over.deck r'.over.deck_after e r'.over.machine sink_told sink_faults other_old other_new
-            b (always_told y.file) s h.k stands text image_told law
-            (λ card p small told. parts_are (lines made s0) made h.k _ card p (subst (λ (t : List ℕ). halves.IsShort t) h.printed small) typed names (ap (told_in _) (sym h.printed) ∙ told)) means' in
-            let over : live_after (made + rest.2.steps) s0 ≡ 0 = ap (λ (t : Session). live_tasks t.jobs) (after-add made rest.2.steps s0) ∙ rest.2.over in
-            record {
-              p = h.p;
-              deck = h.deck;
-              steps = made + rest.2.steps;
-              over = over;
-              resumed = rest.0;
-              printed = rest.1;
-              parts = halves.printed_together made rest.2.steps (made + rest.2.steps) s0 h.k text rest.0 (run_text (lines (made + rest.2.steps) s0)) rest.2.over over h.printed rest.2.printed refl;
-            };
-      }

@@ -34,7 +34,7 @@ use Rattle.b67_recorded.specs.declared.mirror.Mirrored.{Mirrored}
 use Rattle.b67_recorded.specs.declared.process.RecordedProcess.{RecordedProcess}
 use Rattle.b67_recorded.specs.declared.sink.RecordedSink.{RecordedSink}
 use Rattle.b67_recorded.specs.declared.source.RecordedSource.{RecordedSource}
-use Rattle.b67_promises.specs.Commands.{TakesText, PrintsText, is_printed, is_cut, PrintsFailure, reading_fails, memory_is_wanted, PrintsRun, AnswersAlone, AnswersOver, IsTextOf, PrintsAlone, answers_alone, fails_alone, PrintsOver, answers_over, copy_isnt_made, fails_over, FileFailed, call_failed, copy_failed, HasCauses}
+use Rattle.b67_promises.specs.Commands.{TakesText, PrintsText, is_printed, is_cut, PrintsFailure, reading_fails, memory_is_wanted, PrintsRun, AnswersAlone, AnswersOver, IsTextOf, PrintsAlone, answers_alone, fails_alone, PrintsOver, answers_over, copy_isnt_made, fails_over, HasCauses}
 use Rattle.b67_promises.specs.Paging.{texts}
 use Rattle.b67_promises.proofs.CallsDescribed.{longer}
 use Rattle.b67_promises.proofs.Commanded.{usage_printed, verdict_printed, dump_printed, rest_printed, run_printed, exercise_printed, image_printed}
@@ -242,18 +242,6 @@ module _ {D F R W : Type 0} {g : Ghosts F} {h : write.Ghosts W} (opens : D → O
   served_eight words text (is_served noted (sectors_want_memory none ends)) e = ended_by old new status 9 memory_text ends (λ z. omega (arith, z)) e
   served_eight words text (is_served noted (over_file other file file' is found left_so a)) e = eight_by old new status words text (device_of mirror_told mirror_size mirror_faults file file') a e
 
-  abbrev Fails : Option CommandLine → List ℕ → Type 0
-  Fails command path = FileFailed kept command path process process'
-
-  served_six : (words : List (Bor (List ℕ))) (path text : List ℕ) → backing_path words ≡ Some path → Served words text → status ≡ 6 → Fails (command_line_of words) path
-  served_six words path text named (recorded.isnt_copied other is first noted uncopied ends) e = copy_failed first (subst (λ (x : List ℕ). WasNotCopied kept g.holds g.size g.faults process.inner process'.inner x) (same_Some other path (sym is ∙ named)) uncopied)
-  served_six words path text named (is_served noted (over_memory held held' none zeros reads writes calm a)) e = absurd (none-some path (sym none ∙ named))
-  served_six words path text named (is_served noted (sectors_want_memory none ends)) e = absurd (none-some path (sym none ∙ named))
-  served_six words path text named (is_served noted (over_file other file file' is found left_so a)) e =
-      let same : other ≡ path = same_Some other path (sym is ∙ named) in
-      call_failed file file' (subst (λ (q : List ℕ). FindsMirrored kept process.inner (reads_sectors (command_line_of words)) q file) same found) (subst (λ (q : List ℕ). LeavesMirrored kept process'.inner q file') same left_so)
-      (six_by old new status words text (device_of mirror_told mirror_size mirror_faults file file') a e)
-
   seven_so : (words : List (Bor (List ℕ))) → TextServed words → status ≡ 7 → Reads (command_line_of words)
   seven_so words (over_text text given s) e = absurd (served_seven words text s e)
   seven_so words (recorded.reading_failed reads part gave rose same ends) e = (reads, rose)
@@ -264,22 +252,15 @@ module _ {D F R W : Type 0} {g : Ghosts F} {h : write.Ghosts W} (opens : D → O
   eight_so words (recorded.reading_failed reads part gave rose same ends) e = ended_by old new status 7 reading_text ends (λ z. omega (arith, z)) e
   eight_so words (recorded.memory_wanted part gave same ends) e = ended_by old new status 9 memory_text ends (λ z. omega (arith, z)) e
 
-  six_so : (words : List (Bor (List ℕ))) (path : List ℕ) → backing_path words ≡ Some path → TextServed words → status ≡ 6 → Fails (command_line_of words) path
-  six_so words path named (over_text text given s) e = served_six words path text named s e
-  six_so words path named (recorded.reading_failed reads part gave rose same ends) e = let n = ended_at old new status 7 6 reading_text ends e (λ z. omega (arith, z)) in absurd (omega (arith, n))
-  six_so words path named (recorded.memory_wanted part gave same ends) e = let n = ended_at old new status 9 6 memory_text ends e (λ z. omega (arith, z)) in absurd (omega (arith, n))
-
   pub has_causes : (told : D → Option (List (List ℕ))) (words : List (Bor (List ℕ))) → process'.words.texts ≡ process.words.texts ++ texts words → IsRecordServed told opens kept process process' input input' old new status
-      → HasCauses kept (command_line_of words) (backing_path words) process process' input input' old new status
+      → HasCauses (command_line_of words) input input' old new status
   has_causes told words is (on_words words' tells is' unread s) =
       let same : texts_of words' ≡ texts words = append_cancel_left process.words.texts (texts_of words') (texts words) (sym is' ∙ is) in
       record {
         reading = λ e. subst Reads (same_line words words' same) (seven_so words' s e);
         printing = λ e. eight_so words' s e;
-        backing = λ path named e. subst (λ (o : Option CommandLine). Fails o path) (same_line words words' same) (six_so words' path (same_path words words' same ∙ named) s e);
       }
   has_causes told words is (words_want_memory same unread ends) = record {
     reading = λ e. let n = ended_at old new status 9 7 memory_text ends e (λ z. omega (arith, z)) in absurd (omega (arith, n));
     printing = λ e. ended_by old new status 9 memory_text ends (λ z. omega (arith, z)) e;
-    backing = λ path named e. let n = ended_at old new status 9 6 memory_text ends e (λ z. omega (arith, z)) in absurd (omega (arith, n));
   }

@@ -23,14 +23,14 @@ use Rattle.b67_job.specs.Lines.{refused_image_line}
 use Rattle.b67_job.specs.Runs.{StandsAt}
 use Rattle.b67_job.specs.Told.{backing_fault_line, memory_text, reading_text, refusal_text}
 use Rattle.b67_job.specs.Verdicts.{Verdict, check_verdict, asm_verdict, convert_verdict, bind_verdict}
-use Rattle.b67_recorded.specs.Ends.{mirror_sectors, mirror_size, mirror_faults, sink_told}
+use Rattle.b67_recorded.specs.Ends.{mirror_sectors, mirror_size}
 use Rattle.b67_recorded.specs.Files.{reads_sectors, FindsMirrored, LeavesMirrored, WasNotCopied}
 use Rattle.b67_recorded.specs.declared.mirror.Mirrored.{Mirrored}
 use Rattle.b67_recorded.specs.declared.process.RecordedProcess.{RecordedProcess}
 use Rattle.b67_recorded.specs.declared.sink.RecordedSink.{RecordedSink}
 use Rattle.b67_recorded.specs.declared.source.RecordedSource.{RecordedSource}
 use Rattle.b67_promises.specs.Described.{BeginsLonger, IsAnsweredSo, IsDueOf, MakesSteps, OpensWithin, StopsAfter}
-use Rattle.b67_promises.specs.Halts.{text_of_halt, PrintsTheRest}
+use Rattle.b67_promises.specs.Halts.{text_of_halt}
 
 -- in a call the writer took these bytes
 abbrev pub TakesText : {W : Type 0} {w : write.Ghosts W} → RecordedSink W w → RecordedSink W w → List ℕ → Type 0
@@ -135,30 +135,11 @@ pub data PrintsOver {D F R W : Type 0} {g : Ghosts F} {w : write.Ghosts W} (kept
 
 -- ---- causes
 
--- A call of the mirrored file of a path failed; or, where that is copied first, a read of the file.
-pub data FileFailed {D F : Type 0} {g : Ghosts F} (kept : D → List ℕ → Option (List (List ℕ))) (command : Option CommandLine) (path : List ℕ) (process process' : RecordedProcess D F g) : Type 0 where
-  call_failed : (file file' : Mirrored F g) → FindsMirrored kept process.inner (reads_sectors command) path file → LeavesMirrored kept process'.inner path file' → Rose mirror_faults file file' → FileFailed kept command path process process'
-  copy_failed : reads_sectors command ≡ true → WasNotCopied kept g.holds g.size g.faults process.inner process'.inner path → FileFailed kept command path process process'
-
--- A status that names an end comes only where that failed: the reader of a command that reads a text, the writer, or the file of the path.
-pub record HasCauses {D F R W : Type 0} {g : Ghosts F} {w : write.Ghosts W} (kept : D → List ℕ → Option (List (List ℕ))) (command : Option CommandLine) (named : Option (List ℕ)) (process process' : RecordedProcess D F g)
-    (input input' : RecordedSource R) (old new : RecordedSink W w) (status : ℕ) : Type 0 where
+-- A status that names the reader or the writer comes only where that failed: the reader of a command that reads a text.
+pub record HasCauses {R W : Type 0} {w : write.Ghosts W} (command : Option CommandLine) (input input' : RecordedSource R) (old new : RecordedSink W w) (status : ℕ) : Type 0 where
   pub reading : status ≡ 7 → (reads_text command ≡ true) × Rose (λ (s : RecordedSource R). s.faults) input input'
   pub printing : status ≡ 8 → Rose (λ (s : RecordedSink W w). s.faults) old new
-  pub backing : (path : List ℕ) → named ≡ Some path → status ≡ 6 → FileFailed kept command path process process'
 
 -- neither the reader nor the writer failed
 abbrev pub NeitherFailed : {R W : Type 0} {w : write.Ghosts W} → RecordedSource R → RecordedSource R → RecordedSink W w → RecordedSink W w → Type 0
 NeitherFailed {R = R} {W = W} {w = w} input input' old new = Stayed (λ (s : RecordedSource R). s.faults) input input' × Stayed (λ (s : RecordedSink W w). s.faults) old new
-
--- ---- halted by one process, and resumed by another
-
--- A process left these sectors at a path, and another one found those at its own, all of them copied. If they are the same, what the
--- second one's writer took is the rest of what a halted run of this deck printed.
-pub record GoesOnThere {D F E G X : Type 0} {g : Ghosts F} {g' : Ghosts G} {x : write.Ghosts X} (kept : D → List ℕ → Option (List (List ℕ))) (kept' : E → List ℕ → Option (List (List ℕ))) (bytes halted : List ℕ)
-    (process' : RecordedProcess D F g) (path : List ℕ) (other : RecordedProcess E G g') (other_path : List ℕ) (old new : RecordedSink X x) : Type 0 where
-  pub left : Mirrored F g
-  pub left_so : LeavesMirrored kept process'.inner path left
-  pub found : Mirrored G g'
-  pub found_so : FindsMirrored kept' other.inner true other_path found
-  pub rest : mirror_sectors found ≡ mirror_sectors left → PrintsTheRest bytes halted sink_told old new

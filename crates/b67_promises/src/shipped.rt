@@ -7,14 +7,12 @@ ghost use Rattle.b67_job.specs.Admitting.{Prepared, deck_prepared};
 ghost use Rattle.b67_job.specs.Command.{command_line_of, backing_path};
 ghost use Rattle.b67_recorded.specs.Faithful.{IsFaithful};
 ghost use Rattle.b67_recorded.specs.Recorded.{IsRecordServed};
-ghost use Rattle.b67_promises.specs.Commands.{PrintsAlone, PrintsOver, HasCauses, NeitherFailed, GoesOnThere};
+ghost use Rattle.b67_promises.specs.Commands.{PrintsAlone, PrintsOver, HasCauses, NeitherFailed};
 ghost use Rattle.b67_promises.specs.Described.{IsRunCommand, IsAmpleFor};
-ghost use Rattle.b67_promises.specs.Halts.{AsksForImage, AsksForResume};
 ghost use Rattle.b67_promises.specs.Paged.{PagesOverMirror};
 ghost use Rattle.b67_promises.specs.Paging.{texts, IsWhole, AsksForRun, EndsToo};
 ghost use Rattle.b67_promises.specs.Shipped.{FilesHave, PrintsAsDescribed, PrintsBehind, TookTheSame};
 
-use b67_image::parts_tell_sessions;
 use b67_program::{Devices, Words};
 use b67_recorded::{RecordedProcess, RecordedSink, RecordedSource, serve_recorded};
 use std::alloc::Global;
@@ -46,9 +44,9 @@ pub fn program_described<D: Words + Devices + Drop, R: Read, W: Write>(
     ensures over_file { (words : List (Bor (List ℕ))) → (path : List ℕ) → process.new.words.texts ≡ process.old.words.texts ++ texts words → backing_path words ≡ Some path
         → PrintsOver D.kept (command_line_of words) path process.old process.new input.old input.new printer.old printer.new (exit_status result) }
 
-    // A status that names an end comes only where that failed.
+    // A status that names the reader or the writer comes only where that failed.
     ensures causes { (words : List (Bor (List ℕ))) → process.new.words.texts ≡ process.old.words.texts ++ texts words
-        → HasCauses D.kept (command_line_of words) (backing_path words) process.old process.new input.old input.new printer.old printer.new (exit_status result) }
+        → HasCauses (command_line_of words) input.old input.new printer.old printer.new (exit_status result) }
 
     // Where core and sectors suffice, and neither the reader nor the writer fails, all tasks end or the halt comes, or the file failed, or memory was refused.
     ensures complete { (core sectors : ℕ) → (words : List (Bor (List ℕ))) → IsRunCommand core words → process.new.words.texts ≡ process.old.words.texts ++ texts words → FilesHave process.old sectors
@@ -82,9 +80,9 @@ pub fn program(
     ensures over_file { (words : List (Bor (List ℕ))) → (path : List ℕ) → process.new.words.texts ≡ process.old.words.texts ++ texts words → backing_path words ≡ Some path
         → PrintsOver (λ _ _. None) (command_line_of words) path process.old process.new input.old input.new printer.old printer.new (exit_status result) }
 
-    // A status that names an end comes only where that failed.
+    // A status that names the reader or the writer comes only where that failed.
     ensures causes { (words : List (Bor (List ℕ))) → process.new.words.texts ≡ process.old.words.texts ++ texts words
-        → HasCauses (λ _ _. None) (command_line_of words) (backing_path words) process.old process.new input.old input.new printer.old printer.new (exit_status result) }
+        → HasCauses (command_line_of words) input.old input.new printer.old printer.new (exit_status result) }
 
     // Where core and sectors suffice, and neither the reader nor the writer fails, all tasks end or the halt comes, or the file failed, or memory was refused.
     ensures complete { (core : ℕ) → (words : List (Bor (List ℕ))) → IsRunCommand core words → process.new.words.texts ≡ process.old.words.texts ++ texts words
@@ -156,43 +154,4 @@ pub fn program_twice<
     let one = serve_recorded(alloc, process, input, printer);
     let other = serve_recorded(alloc, other_process, other_input, other_printer);
     (one, other)
-}
-
-/// Two of the program's calls, by two processes: `image`, of a deck that halts, and `resume`, of what the first one's writer took.
-/// If the second one's file is found as the first one's was left, the lines of both are those of the whole deck.
-pub fn program_halted_then_resumed<
-    D: Words + Devices + Drop,
-    R: Read,
-    W: Write,
-    E: Words + Devices + Drop,
-    S: Read,
-    X: Write,
->(
-    alloc: Global,
-    process: &mut RecordedProcess<D>,
-    input: &mut RecordedSource<R>,
-    printer: &mut RecordedSink<W>,
-    other_process: &mut RecordedProcess<E>,
-    other_input: &mut RecordedSource<S>,
-    other_printer: &mut RecordedSink<X>,
-) -> (ExitCode, ExitCode)
-    // Of words that ask for `image` and for `resume`; the second reader gave what the first writer took.
-    ensures together { (path other_path bytes text : List ℕ) → (words other_words : List (Bor (List ℕ))) → AsksForImage words → AsksForResume other_words → backing_path words ≡ Some path → backing_path other_words ≡ Some other_path
-        → process.new.words.texts ≡ process.old.words.texts ++ texts words → other_process.new.words.texts ≡ other_process.old.words.texts ++ texts other_words
-        → input.new.given.bytes ≡ input.old.given.bytes ++ bytes → printer.new.noted.bytes ≡ printer.old.noted.bytes ++ text → other_input.new.given.bytes ≡ other_input.old.given.bytes ++ text
-        → exit_status result.0 ≡ 3 → exit_status result.1 ≡ 0 → GoesOnThere D.kept E.kept bytes text process.new path other_process.old other_path other_printer.old other_printer.new }
-
-    // The first answer is that of a call of `serve_recorded` on the first process, input and printer.
-    ensures call { IsRecordServed D.given D.opened D.kept process.old process.new input.old input.new printer.old printer.new (exit_status result.0) }
-
-    // The second answer is that of a call on the others.
-    ensures other_call { IsRecordServed E.given E.opened E.kept other_process.old other_process.new other_input.old other_input.new other_printer.old other_printer.new (exit_status result.1) }
-
-    // What was noted is what went through, where the readers and the writers tell what they have.
-    ensures faithful { IsFaithful R.remaining input.old input.new printer.old printer.new × IsFaithful S.remaining other_input.old other_input.new other_printer.old other_printer.new }
-{
-    parts_tell_sessions();
-    let halted = serve_recorded(alloc, process, input, printer);
-    let resumed = serve_recorded(alloc, other_process, other_input, other_printer);
-    (halted, resumed)
 }

@@ -5,9 +5,7 @@ ghost use Rattle.b67_promises.specs.Shelves.{shelf_kept};
 
 use crate::given::same;
 use crate::shelf::{Shelf, ShelfFile};
-use crate::shipped::{
-    program_described, program_halted_then_resumed, program_in_memory, program_twice,
-};
+use crate::shipped::{program_described, program_in_memory, program_twice};
 use b67_backing::{Backing, CrookedBacking};
 use b67_program::{Devices, Words, calm_paper, serve, tape_of};
 use b67_recorded::{Mirrored, RecordedProcess, RecordedSink, RecordedSource};
@@ -22,17 +20,9 @@ const TWO: &str =
 
 const LINES: &str = "1.1 23\n1.1 ENDED\n";
 
-/// The same with a halt, once both arrays are there.
-const HALTING: &str =
-    "?HALT 20\n?STACK 256\n?JOB TWO\n?ASM\nSEGMENT MAIN 2\nMKST\nNAMC 0,8\nLT8 200\nENTR\nMKST\nNAMC 0,8\nLT8 200\nENTR\nNAMC 2,2\nLT8 5\nINDX\nNAMC 2,3\nLT8 6\nINDX\nLT8 11\nNAMC 2,4\nSTOD\nLT8 12\nNAMC 2,5\nSTOD\nMKST\nNAMC 0,9\nVALC 2,4\nVALC 2,5\nADD\nENTR\nEXIT\n?END\n";
-
 const SMALL: [&str; 5] = ["run", "--core", "630", "--backing", "b"];
 
 const LARGE: [&str; 5] = ["run", "--core", "4096", "--backing", "b"];
-
-const IMAGE: [&str; 5] = ["image", "--core", "630", "--backing", "b"];
-
-const RESUME: [&str; 3] = ["resume", "--backing", "b"];
 
 /// A process with these words, whose files are on a shelf.
 #[derive(Drop)]
@@ -162,50 +152,6 @@ fn serves_a_text_in_memory(rt: HostRuntime) {
     );
     same(&rt, code == ExitCode::SUCCESS, true);
     same(&rt, lines.as_slice(), LINES.as_bytes());
-}
-
-fn serve_halves(
-    alloc: Global,
-    lines: &mut ByBytes,
-    shelf: Shelf,
-    image: &[u8],
-    rest: &mut ByBytes,
-) -> (ExitCode, ExitCode) {
-    let mut process = RecordedProcess::new(process_of(&IMAGE));
-    let mut input = RecordedSource::new(HALTING.as_bytes());
-    let mut printer = RecordedSink::new(lines);
-    let mut other_process = RecordedProcess::new(Desk {
-        words: &RESUME,
-        shelf,
-    });
-    let mut other_input = RecordedSource::new(image);
-    let mut other_printer = RecordedSink::new(rest);
-    program_halted_then_resumed(
-        alloc,
-        &mut process,
-        &mut input,
-        &mut printer,
-        &mut other_process,
-        &mut other_input,
-        &mut other_printer,
-    )
-}
-
-// What `image` prints, and what it leaves on a shelf, is known from a call of its own. A second process finds that shelf.
-#[test]
-fn goes_on_in_another_process(rt: HostRuntime) {
-    let alloc = rt.alloc();
-    let mut shelf = Shelf::new();
-    let mut tape = tape_of(alloc, HALTING.as_bytes()).expect(&rt, "memory");
-    let mut paper = calm_paper(alloc, 100_000).expect(&rt, "memory");
-    let code = serve(alloc, &IMAGE, &mut shelf, &mut tape, &mut paper);
-    same(&rt, code == ExitCode::from(3), true);
-    let (mut lines, mut rest) = (writer(alloc), writer(alloc));
-    let codes = serve_halves(alloc, &mut lines, shelf, paper.bytes(), &mut rest);
-    same(&rt, codes.0 == ExitCode::from(3), true);
-    same(&rt, codes.1 == ExitCode::SUCCESS, true);
-    same(&rt, lines.lines.as_slice(), paper.bytes());
-    same(&rt, rest.lines.as_slice(), LINES.as_bytes());
 }
 
 // A device that gives one number at every place: what was written comes back as a failure.
