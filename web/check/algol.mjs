@@ -45,6 +45,20 @@ async function stepped(it) {
   it.wants(back.text === source && back.view === 'step' && await it.shown('#thunk') === entered, `the address leads to ${back.view} ${told(back.text)}`);
 }
 
+// Man or Boy, broken at a line: a procedure that a parameter by name has entered says what it works out.
+async function manOrBoy(it) {
+  const source = text('manboy'), {deck} = compile(source, {names: true}), line = source.split('\n').findIndex(it => it.includes('x4 + x5')) + 1;
+  await it.browser.press('d');
+  await it.types(source);
+  await it.click('#step');
+  await it.click(`#algol li:nth-child(${line})`);
+  let entered = '';
+  for (let turn = 0; turn < 11; turn++) await it.pressed('manboy in ALGOL', deck, 'Enter'); // k is 10, 9 and so on to 0
+  for (let k = 0; k < 9 && !entered; k++) { await it.pressed('manboy in ALGOL', deck, 'ArrowRight'); entered = await it.shown('#thunk'); }
+  it.wants(entered === `works out x4, line ${line}`, `when B is entered by x4 the page says ${told(entered)}`);
+  it.wants((await it.browser.value("document.getElementById('stacks').textContent")).includes('= x3'), 'no parameter says what it stands for');
+}
+
 // Mistakes, as one types.
 async function mistaken(it) {
   const {browser} = it;
@@ -68,5 +82,6 @@ async function mistaken(it) {
 export async function algol(it) {
   await written(it);
   await stepped(it);
+  await manOrBoy(it);
   await mistaken(it);
 }
