@@ -17,7 +17,6 @@ import mcp  # noqa: E402
 import operators  # noqa: E402
 import session  # noqa: E402
 from b67ref import Backing, outcome_of  # noqa: E402
-from words import Fault, FaultError, Operand, operand_of  # noqa: E402
 
 Step, McpStep, Session = operators.Step, mcp.McpStep, session.Session
 RUN = ["run", "--core", "1048575", "--backing", "b"]
