@@ -12,6 +12,7 @@ async function written(it) {
   await it.opens('sum,4096');
   const begun = await it.click('#new-algol');
   it.wants(/^begin integer i/.test(begun.text) && await it.shown('#tab-algol') === 'ALGOL', `New in ALGOL gives ${told(begun.text)}`);
+  it.wants(await it.browser.value('document.activeElement.id') === 'deck', 'after New in ALGOL the caret isn’t in the text');
   for (const name of ['manboy', 'jensen2', 'leave']) {
     await it.types(text(name));
     const {ran} = await it.click('#run');
@@ -34,8 +35,9 @@ async function stepped(it) {
   it.wants((await it.shown('#cards .now')).includes('VALC 3,3'), `the card is ${told(await it.shown('#cards .now'))}`);
   const picture = await browser.value("document.getElementById('stacks').textContent");
   for (const name of [' term', ' k', '= A[i]', '= i']) it.wants(picture.includes(name), `the picture has no ${name}`);
-  let entered = '';
-  for (let k = 0; k < 20 && !entered; k++) { await it.pressed('sum in ALGOL', deck, 'ArrowRight'); entered = await it.shown('#thunk'); }
+  let [entered, by] = ['', ''];
+  for (let k = 0; k < 20 && !entered.startsWith('thunk'); k++) { await it.pressed('sum in ALGOL', deck, 'ArrowRight'); [entered, by] = [await it.shown('#thunk'), entered]; }
+  it.wants(by === 'works out term, line 4', `where the thunk is entered the page says ${told(by)}`);
   it.wants(entered === 'thunk: works out A[i], line 8', `in the thunk the page says ${told(entered)}`);
   it.wants(await it.shown('#algol .now.thunk') === source.split('\n')[7], `the thunk's line is ${told(await it.shown('#algol .now.thunk'))}`);
   const address = await browser.value("b67.idle().then(() => new Promise(goes => setTimeout(goes, 500))).then(() => location.hash)");
