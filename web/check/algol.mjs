@@ -12,6 +12,7 @@ async function written(it) {
   await it.opens('sum,4096');
   const begun = await it.click('#new-algol');
   it.wants(/^begin integer i/.test(begun.text) && await it.shown('#tab-algol') === 'ALGOL', `New in ALGOL gives ${told(begun.text)}`);
+  it.wants(await it.browser.value('document.activeElement.id') === 'deck', 'after New in ALGOL the caret isn’t in the text');
   for (const name of ['manboy', 'jensen2', 'leave']) {
     await it.types(text(name));
     const {ran} = await it.click('#run');
@@ -34,8 +35,9 @@ async function stepped(it) {
   it.wants((await it.shown('#cards .now')).includes('VALC 3,3'), `the card is ${told(await it.shown('#cards .now'))}`);
   const picture = await browser.value("document.getElementById('stacks').textContent");
   for (const name of [' term', ' k', '= A[i]', '= i']) it.wants(picture.includes(name), `the picture has no ${name}`);
-  let entered = '';
-  for (let k = 0; k < 20 && !entered; k++) { await it.pressed('sum in ALGOL', deck, 'ArrowRight'); entered = await it.shown('#thunk'); }
+  let [entered, by] = ['', ''];
+  for (let k = 0; k < 20 && !entered.startsWith('thunk'); k++) { await it.pressed('sum in ALGOL', deck, 'ArrowRight'); [entered, by] = [await it.shown('#thunk'), entered]; }
+  it.wants(by === 'works out term, line 4', `where the thunk is entered the page says ${told(by)}`);
   it.wants(entered === 'thunk: works out A[i], line 8', `in the thunk the page says ${told(entered)}`);
   it.wants(await it.shown('#algol .now.thunk') === source.split('\n')[7], `the thunk's line is ${told(await it.shown('#algol .now.thunk'))}`);
   const address = await browser.value("b67.idle().then(() => new Promise(goes => setTimeout(goes, 500))).then(() => location.hash)");
@@ -43,6 +45,20 @@ async function stepped(it) {
   await it.opens('sum,4096');
   const back = await it.opens(address.slice(1));
   it.wants(back.text === source && back.view === 'step' && await it.shown('#thunk') === entered, `the address leads to ${back.view} ${told(back.text)}`);
+}
+
+// Man or Boy, broken at a line: a procedure that a parameter by name has entered says what it works out.
+async function manOrBoy(it) {
+  const source = text('manboy'), {deck} = compile(source, {names: true}), line = source.split('\n').findIndex(it => it.includes('x4 + x5')) + 1;
+  await it.browser.press('d');
+  await it.types(source);
+  await it.click('#step');
+  await it.click(`#algol li:nth-child(${line})`);
+  let entered = '';
+  for (let turn = 0; turn < 11; turn++) await it.pressed('manboy in ALGOL', deck, 'Enter'); // k is 10, 9 and so on to 0
+  for (let k = 0; k < 9 && !entered; k++) { await it.pressed('manboy in ALGOL', deck, 'ArrowRight'); entered = await it.shown('#thunk'); }
+  it.wants(entered === `works out x4, line ${line}`, `when B is entered by x4 the page says ${told(entered)}`);
+  it.wants((await it.browser.value("document.getElementById('stacks').textContent")).includes('= x3'), 'no parameter says what it stands for');
 }
 
 // Mistakes, as one types.
@@ -68,5 +84,6 @@ async function mistaken(it) {
 export async function algol(it) {
   await written(it);
   await stepped(it);
+  await manOrBoy(it);
   await mistaken(it);
 }

@@ -1,6 +1,7 @@
 // A text in ALGOL 60 in the editor: which texts are such, what stands beside the cards, and how large core is made.
 import {test} from 'node:test';
 import assert from 'node:assert/strict';
+import {worksOut} from '../src/words/reading.js';
 import {AlgolRefused, algolBeside, coreFor, deckOf, isAlgol, lineOf, START_ALGOL, thunkAt, translationOf, withData} from '../src/algol/translation.js';
 import {namesIn} from '../src/names/names.js';
 
@@ -40,4 +41,10 @@ test('mistakes are no deck', () => {
 test('core has room for the stack that is asked for', () => {
   assert.equal(coreFor(translationOf(text)), 64 + 2600);
   assert.equal(coreFor(translationOf('begin procedure p; p; p end')), 16383 + 2600);
+});
+
+test('what a procedure works out that a VALC has entered', () => {
+  const record = (level, back, cells, link = '') => ({level, back, link, cells: cells.map(([at, name]) => ({at, name}))}), table = {'1@0:0': [5, 'ENTR'], '2@0:3': [36, 'L1: VALC 2,2'], '2@1:0': [37, 'VALC 3,6'], '2@1:2': [38, 'ADD']};
+  const by = back => worksOut({tasks: [{name: '1.1', records: [record(2, '', [[2, 'total']]), record(3, '1@0:0', [[6, 'x4']], '1.1 1'), record(4, back, [], '1.1 2'), record(-1, '', [])]}]}, '1.1', [table]);
+  assert.deepEqual([by('2@1:2'), by('2@1:0'), by('2@0:3'), by(''), worksOut({tasks: []}, '1.1', [table])], [{name: 'x4', card: 37}, {name: 'total', card: 36}, null, null, null]);
 });

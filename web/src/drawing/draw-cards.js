@@ -4,6 +4,7 @@ import {cardsOf} from '../reader/cards.js';
 import {cardKey} from '../machine/search.js';
 import {explained} from '../words/messages.js';
 import {thunkAt} from '../algol/translation.js';
+import {worksOut} from '../words/reading.js';
 
 const [MOST_ROWS, PART] = [1000, 300]; // of a long deck a part has rows, that around the card that is made
 const lists = new WeakMap(); // by its box: the cards, what makes their rows, and which ones have rows
@@ -89,15 +90,16 @@ export function markCards(box, state, stops, faulty) {
 }
 
 // The text in ALGOL beside the cards: the line of the operator just made, and that of the next one; a click at a line sets a breakpoint
-// where it begins. In a thunk it says what is worked out.
-export function showAlgol(box, {algol, state, stops}, stopsAt) {
+// where it begins. In a thunk, and in a procedure that a name has entered, it says what is worked out. A text that was written so stands above its cards.
+export function showAlgol(box, {algol, state, stops, operators}, stopsAt) {
   box.parentNode.hidden = !algol;
+  box.parentNode.parentNode.classList.toggle('written', Boolean(algol?.firsts));
   if (!algol) return;
   if (box.dataset.text !== algol.lines[0] + algol.lines.length) put(box, algol.lines.map((line, k) => element('li', {onclick: algol.firsts ? () => stopsAt(k) : undefined}, line)));
   box.dataset.text = algol.lines[0] + algol.lines.length;
   const [now, next] = [state.operator, state.next].map(it => box.children[algol.cards.get(it?.card)]);
-  const thunk = thunkAt(algol, state.operator?.card);
-  put(box.parentNode.querySelector('#thunk'), thunk ? `thunk: works out ${thunk.text}, line ${thunk.line}` : '');
+  const thunk = thunkAt(algol, state.operator?.card), by = thunk || !algol.firsts ? null : worksOut(state, state.last, operators), line = algol.cards.get(by?.card);
+  put(box.parentNode.querySelector('#thunk'), thunk ? `thunk: works out ${thunk.text}, line ${thunk.line}` : line === undefined ? '' : `works out ${by.name}, line ${line + 1}`);
   [...box.children].forEach((row, k) => {
     row.classList.toggle('now', row === now);
     row.classList.toggle('next', row === next);

@@ -69,12 +69,17 @@ export class Editor {
     this.open(text, found?.name ?? this.own.begin(text, byId('core').value, from, this.task), found?.about ?? about);
   }
   begin() {
-    byId('core').value = USUAL_CORE;
-    this.take(START.text, START.about);
+    this.begins(START, USUAL_CORE);
   }
   beginAlgol() {
-    byId('core').value = START_ALGOL.core;
-    this.take(START_ALGOL.text, START_ALGOL.about);
+    this.begins(START_ALGOL, START_ALGOL.core);
+  }
+  // Puts a text to begin with there, and the caret into it.
+  begins({text, about}, core) {
+    byId('core').value = core;
+    this.take(text, about);
+    this.area.field.focus();
+    this.area.field.setSelectionRange(0, 0);
   }
 
   open(text, name, about) {

@@ -11,9 +11,9 @@ export function operatorParts(operator) {
   return operator.text.replace(/^[A-Z][A-Z0-9]*: */, '').split(' ');
 }
 
-// The record that a level names for a task: along the static links from its topmost record that is entered.
-export function recordOfLevel(state, task, level) {
-  let [at, record] = [task, recordsOf(state, task).findLast(it => it.level >= 0)];
+// The record that a level names for a task: along the static links from its topmost record that is entered, or from another one.
+export function recordOfLevel(state, task, level, from = recordsOf(state, task).findLast(it => it.level >= 0)) {
+  let [at, record] = [task, from];
   while (record && record.level > level) {
     const [name, number] = record.link.split(' ');
     [at, record] = [name, recordsOf(state, name)[number - 1]];
@@ -26,6 +26,17 @@ export function cellOfCouple(state, task, couple) {
   const [level, at] = couple.split(',').map(Number), found = recordOfLevel(state, task, level);
   const cell = found?.record.cells.find(it => it.at === at);
   return cell ? {...found, cell} : null;
+}
+
+// What the running procedure works out, if a VALC has entered it: the name of the cell that this fetches, and its card. `operators` has
+// those of each job, by their places, in the order of the segments.
+export function worksOut(state, task, operators) {
+  const entered = recordsOf(state, task).filter(it => it.level >= 0), [caller, {back} = {}] = entered.slice(-2);
+  if (!back) return null;
+  const table = operators[task.split('.')[0] - 1] ?? {}, places = Object.keys(table), [card, text = ''] = table[places[places.indexOf(back) - 1]] ?? [];
+  const [name, couple = ''] = operatorParts({text}), [level, at] = couple.split(',').map(Number);
+  const cell = name === 'VALC' && recordOfLevel(state, task, level, caller)?.record.cells.find(it => it.at === at);
+  return cell?.name ? {name: cell.name, card} : null;
 }
 
 // The cell that is named `task record cell`.
