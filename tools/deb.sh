@@ -17,8 +17,10 @@ top=$(cd "$(dirname "$0")/.." && pwd)
 version=$(sed -n 's/^version: //p' "$top/CITATION.cff")
 SOURCE_DATE_EPOCH=$(date -ud "$(sed -n 's/^date-released: //p' "$top/CITATION.cff")" +%s)
 export SOURCE_DATE_EPOCH
-room=$(mktemp -d)
+room=
 trap 'rm -rf "$room"' EXIT
+trap 'exit 130' HUP INT TERM
+room=$(mktemp -d)
 mkdir -p "$room/b67/DEBIAN"
 DESTDIR=$room/b67 sh "$top/tools/install.sh" "$1" /usr >/dev/null
 cat >"$room/b67/DEBIAN/control" <<TEXT

@@ -33,9 +33,10 @@ cd "$top"
 git rev-parse -q --verify HEAD >/dev/null 2>&1 || usage "$top: not a repository of git"
 version=$(sed -n 's/^version: //p' CITATION.cff)
 date=$(sed -n 's/^date-released: //p' CITATION.cff)
-room=$(mktemp -d)
+room=
 trap 'rm -rf "$room" "$archive.part"' EXIT
 trap 'exit 130' HUP INT TERM
+room=$(mktemp -d)
 name=b67-$version
 out=$room/$name
 mkdir -p "$out/bin" "$out/man/man1" "$out/man/man5"

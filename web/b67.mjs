@@ -9,7 +9,7 @@
 // - A run of more than 1,000,000 operators is made in parts of half a second, from image to image by the machine's own steps, and the lines of
 //   each are printed when it ends; so are those of `resume`. A deck with ?HALT, and `image`, print at the end. Arrays that are out of core may
 //   then stand in other sectors. Of more than 1 GiB of lines of a part the beginning is printed, with status 8.
-// - `bind` takes four pairs at most. A closed input is an empty one. `resume` over a file that can't be used is BACKING FAULT at once.
+// - `bind` takes four pairs at most. A closed input is an empty one.
 // - Status 10 and a sentence on standard error: what was asked can't be done here.
 //
 // Three commands for teachers, over the same module and the page's own scripts, in one process:
@@ -194,13 +194,14 @@ function same(before, after, from, to) {
   return before ? part.equals(before.subarray(from, to)) : part.every(it => it === 0);
 }
 
-// What a command gives whose file can't be used: BACKING FAULT, unless its text is refused, or its core or the device is too small for the
-// opening. A deck without a job uses no sector, so it is no fault.
+// What a command gives whose file can't be used: BACKING FAULT, unless it is no `resume` and its text is refused, or its core or the device is too
+// small for the opening. A deck without a job uses no sector, so it is no fault.
 function withoutBacking(module, words, text, file, why) {
-  const resumes = words[0] === 'resume';
-  if (!resumes && opening(module, text, Number(words[words.indexOf('--core') + 1])) !== OPENED) return over(module, words, text, null);
-  const judged = called(module, [resumes ? 'dump' : 'check'], text, {many: 1, room: ROOMS[1]});
-  return judged.status || !judged.bytes.length ? judged : {status: BACKING_FAULT, bytes: Buffer.from('BACKING FAULT\n'), said: `${file}: ${why}`};
+  const fault = {status: BACKING_FAULT, bytes: Buffer.from('BACKING FAULT\n'), said: `${file}: ${why}`};
+  if (words[0] === 'resume') return fault;
+  if (opening(module, text, Number(words[words.indexOf('--core') + 1])) !== OPENED) return over(module, words, text, null);
+  const judged = called(module, ['check'], text, {many: 1, room: ROOMS[1]});
+  return judged.status || !judged.bytes.length ? judged : fault;
 }
 
 // The words as the machine takes them: where no file is named, the sectors have a name all the same.

@@ -224,12 +224,12 @@ static u32 core_of(int count, char **arguments) {
     return 0;
 }
 
-// Carries out a command whose file can't be used: BACKING FAULT, unless its text is refused, or its core or the device is too small for the
-// opening. A deck without a job uses no sector, so it is no fault.
+// Carries out a command whose file can't be used: BACKING FAULT, unless it is no `resume` and its text is refused, or its core or the device is
+// too small for the opening. A deck without a job uses no sector, so it is no fault.
 static int judged(int count, char **arguments, Text text, const char *path, const char *why) {
-    int resumes = is(arguments[0], "resume");
-    if (!resumes && opening(text, core_of(count, arguments)) != 1) return answered(called(count, arguments, text, SECTORS, NULL));
-    Made made = called(1, (char *[]){resumes ? "dump" : "check"}, text, 1, NULL);
+    if (is(arguments[0], "resume")) return without_backing(path, why);
+    if (opening(text, core_of(count, arguments)) != 1) return answered(called(count, arguments, text, SECTORS, NULL));
+    Made made = called(1, (char *[]){"check"}, text, 1, NULL);
     return made.status != 0 || made.printed == 0 ? answered(made) : without_backing(path, why);
 }
 

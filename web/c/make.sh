@@ -26,8 +26,10 @@ for tool in wasm2c base64 sha256sum; do
     command -v $tool >/dev/null || missing "$tool isn't on the path (Debian: apt-get install wabt coreutils)"
 done
 [ "$(wasm2c --version)" = 1.0.32 ] || missing "wasm2c is of version $(wasm2c --version), and this is made for 1.0.32, that of Debian 12"
-room=$(mktemp -d)
+room=
 trap 'rm -rf "$room"' EXIT
+trap 'exit 130' HUP INT TERM
+room=$(mktemp -d)
 
 sed -n '/^AGFzb[A-Za-z0-9+/]*=*$/{p;q;}' "$page" | base64 -d >"$room/b67.wasm"
 [ -s "$room/b67.wasm" ] || missing "$page holds no module of the machine"
