@@ -25,7 +25,7 @@ ERRORS = [
     ("a test of the same file that doesn't call it", LIST, r"test `goes_on_from_an_image`, 3, 0", "test `serves_a_process`, 0", "serves_a_process doesn't call it"),
     ("a test's body is empty", SHELF, r"(?s)(fn goes_on_from_an_image\(rt: HostRuntime\) \{\n).*?\n\}\n", r"\1}\n", "goes_on_from_an_image doesn't call it"),
     ("a test wants another status", SHELF, r"codes\.0, ExitCode::from\(3\)", "codes.0, ExitCode::from(2)", "doesn't want 3, 0"),
-    ("theorems that are met through one another", LIST, r"test `sum_behind_another_job`, 0, 0", "through `run_apart`", "no test or program meets it"),
+    ("theorems that are met through one another", LIST, r"test `sum_as_cards_and_as_a_codefile`, 0, 0", "through `run_one_session`", "no test or program meets it"),
     ("a theorem that has nothing to do with it", LIST, r"test `sum_behind_another_job`, 0, 0", "through `run_described`", "run_described doesn't call it"),
     ("the call is a comment", SHELF, r"\n    serve_halted_then_resumed\(", "\n    // serve_halted_then_resumed(", "goes_on_from_an_image doesn't call it"),
     ("a contract is lost", "crates/b67_promises/src/jobs.rt", r"    ensures jobs \{.*\n.*\n.*\n", "", "it has no clause jobs"),
