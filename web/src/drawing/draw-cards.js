@@ -95,8 +95,8 @@ export function showAlgol(box, {algol, state, stops, operators}, stopsAt) {
   box.parentNode.hidden = !algol;
   box.parentNode.parentNode.classList.toggle('written', Boolean(algol?.firsts));
   if (!algol) return;
-  if (box.dataset.text !== algol.lines[0] + algol.lines.length) put(box, algol.lines.map((line, k) => element('li', {onclick: algol.firsts ? () => stopsAt(k) : undefined}, line)));
-  box.dataset.text = algol.lines[0] + algol.lines.length;
+  if (box.dataset.text !== algol.lines.join('\n')) put(box, algol.lines.map((line, k) => element('li', {onclick: algol.firsts ? () => stopsAt(k) : undefined}, line)));
+  box.dataset.text = algol.lines.join('\n');
   const [now, next] = [state.operator, state.next].map(it => box.children[algol.cards.get(it?.card)]);
   const thunk = thunkAt(algol, state.operator?.card), by = thunk || !algol.firsts ? null : worksOut(state, state.last, operators), line = algol.cards.get(by?.card);
   put(box.parentNode.querySelector('#thunk'), thunk ? `thunk: works out ${thunk.text}, line ${thunk.line}` : line === undefined ? '' : `works out ${by.name}, line ${line + 1}`);

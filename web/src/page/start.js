@@ -121,6 +121,12 @@ function listenToSteps(page) {
 }
 
 function listenToWindow(page) {
+  document.addEventListener('copy', event => { // a card's name in a sentence holds together by a sign that no deck may have
+    const text = String(getSelection());
+    if (!text.includes('\u2060') || !event.clipboardData) return;
+    event.clipboardData.setData('text/plain', text.replaceAll('\u2060', ''));
+    event.preventDefault();
+  });
   document.addEventListener('keydown', event => onKey(page, event));
   window.addEventListener('hashchange', event => page.places.follow(event.newURL ? new URL(event.newURL).hash : location.hash));
   window.addEventListener('resize', () => page.steps.redraw());

@@ -40,6 +40,12 @@ function nothingFound(kind, way, state, followed) {
   return `${thingsOf(state, followed)[kind]} ${way > 0 ? 'after' : 'before'} this moment, so the page stays here.${advice && ` ${advice}`}`;
 }
 
+// The breakpoints of a program in ALGOL after an edit: those of the lines that stand where they stood.
+function keptStops(before, algol) {
+  const firsts = before?.algol?.firsts && algol?.firsts ? algol.firsts : [];
+  return new Set(firsts.flatMap((keys, k) => (algol.lines[k] === before.algol.lines[k] && before.algol.firsts[k]?.some(key => before.stops.has(key)) ? keys : [])));
+}
+
 export class Steps {
   // `size` is that of the letters, in pixels.
   constructor(page, size) {
@@ -68,7 +74,8 @@ export class Steps {
     const {page} = this, {editor} = page, {status} = await page.commands.command(['check'], {text});
     if (status) return page.show('deck');
     if (!hasJob(text)) throw new Error(NO_JOB);
-    this.session = {text, core, raw: page.deck(), name: editor.name, algol: isAlgol(editor.text) ? algolBeside(editor.text) : algolOf(editor.name), code: await editor.addressed(), stops: new Set(), briefs: new Map(),
+    const algol = isAlgol(editor.text) ? algolBeside(editor.text) : algolOf(editor.name), stops = keptStops(this.session, algol);
+    this.session = {text, core, raw: page.deck(), name: editor.name, algol, code: await editor.addressed(), stops, briefs: new Map(),
       states: new Map(), faults: new Map(), end: null, other: null, wanted: null, way: 1};
     Object.assign(this.view, {followed: '', walked: ''});
     page.course.stepsThrough(this.session);
