@@ -11,7 +11,7 @@
 # changed. Of a part that failed the last thirty lines are shown.
 [ -n "${BASH_VERSION:-}" ] || { echo "usage: bash tools/before-landing.sh --list, or PROGRAM" >&2; exit 2; }
 set -u
-parts='gate rows decks algol teaching tracer modules scripts documents python shell manual house signatures premises links names made page browser release edits mends'
+parts='gate rows decks algol teaching tracer modules scripts documents python shell manual house signatures premises claims links names made page browser release edits mends'
 with_program=' decks algol teaching modules scripts documents page browser release '
 usage() {
     printf '%s\nusage: bash tools/before-landing.sh [--skip PART].. [--only PART].. [--since COMMIT] [PROGRAM]\nparts: %s\n' "$1" "$parts" >&2
