@@ -340,7 +340,7 @@ refused sh $tools/paper.sh out.pdf
 tmp=$room/none/such refused bash $tools/paper.sh out.pdf
 if [ -n "${mounted:-}" ]; then tmp=$room/full refused bash $tools/paper.sh out.pdf; else skipped=$((skipped + 1)); fi
 done_with paper.sh
-for name in refill house links sizes trust names heads premises signatures statement compiled mend check-edits check-premises claims edits minutes modules plants shorter unproved; do
+for name in refill house links sizes trust names heads premises signatures statement compiled mend check-edits check-premises claims edits minutes modules plants shorter unproved tables cores; do
     for words in --nonsense -h nothere folder -x --text '--own nothing' 'nothing more' '--nonsense run_twice'; do refused python3 $tools/$name.py $words; done
     done_with $name.py
 done
