@@ -300,8 +300,11 @@ signals sh $tools/check-trace.sh
 done_with check-trace.sh
 for words in '' nothere folder binary --nonsense '../bin/b67 0' '../bin/b67 x' '../bin/b67 -1' '../bin/b67 1 0' '../bin/b67 1 2 3' --jobs '--jobs 0 ../bin/b67'; do refused sh $tools/check-algol.sh $words; done
 done_with check-algol.sh
-for words in '' nothere folder binary --nonsense '../bin/b67 more' /bin/true; do refused bash $tools/check-teaching.sh $words; done
-refused sh $tools/check-teaching.sh
+for words in '' nothere folder binary --nonsense '../bin/b67 more' /bin/true /bin/cat; do refused bash $tools/check-teaching.sh $words; done
+refused sh $tools/check-teaching.sh ../bin/b67
+tmp=$room/none/such refused bash $tools/check-teaching.sh ../bin/b67
+if [ -n "${mounted:-}" ]; then tmp=$room/full refused bash $tools/check-teaching.sh ../bin/b67; else skipped=$((skipped + 1)); fi
+signals bash $tools/check-teaching.sh ../bin/b67
 done_with check-teaching.sh
 for words in 'mark.py' 'mark.py --nonsense' 'mark.py nothing hidden deck' 'mark.py collatz hidden nothere' 'mark.py collatz hidden folder' 'slides.py --nonsense' 'slides.py more words'; do refused python3 ../clone/teaching/$words; done
 for words in 'numbers.py --nonsense' 'numbers.py nothing 1' 'numbers.py collatz' 'wrong.py --nonsense' 'wrong.py 11' 'wrong.py 0' 'wrong.py'; do refused python3 ../clone/teaching/pupils/$words; done

@@ -22,9 +22,10 @@ usage() {
 program=$(cd "$(dirname "$1")" && pwd)/$(basename "$1")
 for tool in node python3; do command -v $tool >/dev/null || usage "$tool isn't on the path"; done
 cd "$(dirname "$0")/.." || exit 2
-room=$(mktemp -d) || exit 2
+room=
 trap 'rm -rf "$room"' EXIT
 trap 'exit 130' HUP INT TERM
+room=$(mktemp -d) || exit 2
 mkdir "$room/bin" || exit 2
 ln -s "$program" "$room/bin/b67" || exit 2
 export PATH="$room/bin:$PATH" B67="$program"
