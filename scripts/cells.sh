@@ -197,8 +197,13 @@ function walks(segment,   k, part, target) {
         if (op[k] == "MPCW") {
             sub(/:.*/, "", target)
             target = by_name[job_of[segment], target] + 0
-            if (target) maker[target] = target in maker && maker[target] != segment ? -1 : segment
-            if (target && !marks && height >= 0) made[segment, height] = (segment, height) in made && made[segment, height] != target ? -1 : target
+            # (not as one assignment: some awks make the element before they look whether it is there)
+            if (target && !(target in maker)) maker[target] = segment
+            else if (target && maker[target] != segment) maker[target] = -1
+            if (target && !marks && height >= 0) {
+                if (!((segment, height) in made)) made[segment, height] = target
+                else if (made[segment, height] != target) made[segment, height] = -1
+            }
             target = ""
         }
         if (op[k] in leaves) pushes(leaves[op[k]])

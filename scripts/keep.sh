@@ -103,16 +103,19 @@ case $# in
     if [ -e "$folder/image" ] && [ ! -e "$folder/SUMS" ]; then
         usage "$3: a call of keep.sh was ended there before it was through: remove the folder, or name another"
     fi
-    mkdir "$folder" 2>/dev/null || usage "$3: name a folder that isn't there yet, in one that can be written"
-    is_whole=
+    refuses() { usage "$1: name a folder that isn't there yet, in one that can be written"; }
+    [ ! -e "$folder" ] || refuses "$3"
     leave() {
         [ -n "$is_whole" ] || {
             for file in README SUMS backing deck image image.5 made-by; do rm -f "$folder/$file"; done
-            rmdir "$folder"
+            [ ! -d "$folder" ] || rmdir "$folder"
         }
     }
+    # before the folder is made, so that a signal in that moment leaves nothing
+    is_whole=
     trap leave EXIT
     trap 'exit 130' HUP INT TERM
+    mkdir "$folder" 2>/dev/null || { is_whole=1; refuses "$3"; }
     fail() {
         echo "keep.sh: $1" >&2
         exit 1

@@ -86,25 +86,27 @@ function take(n,    text) {
     return text
 }
 function place(n) { return n % 8192 ":" int(n / 8192) }
+# 2 to the n: not every awk can compute powers
+function p2(n,   power) { power = 1; for (; n > 0; n--) power *= 2; return power }
 # a couple of 14 bits, split by the level of its segment
 function couple(n, level,    bits, i, left, of) {
     bits = level < 2 ? 1 : level < 4 ? 2 : level < 8 ? 3 : level < 16 ? 4 : 5
     left = n
     of = 0
     for (i = 0; i < bits; i++)
-        if (left >= 2 ^ (13 - i)) { left -= 2 ^ (13 - i); of += 2 ^ i }
+        if (left >= p2(13 - i)) { left -= p2(13 - i); of += p2(i) }
     return of "," left
 }
 # what the 48 bits of a literal are
 function literal(digits,    n) {
     n = number(digits)
-    if (n < 2 ^ 39) return sprintf("%.0f", n)
-    if (n >= 2 ^ 46 && n < 2 ^ 46 + 2 ^ 39) return sprintf("-%.0f", n - 2 ^ 46)
+    if (n < 549755813888) return sprintf("%.0f", n)
+    if (n >= 70368744177664 && n < 70918499991552) return sprintf("-%.0f", n - 70368744177664)
     return "#" digits
 }
 function pcw(digits,    n) {
     n = number(digits)
-    return sprintf("segment %d at %d:%d", n % 16384 - 1, int(n / 2 ^ 20) % 8192, int(n / 2 ^ 33) % 8)
+    return sprintf("segment %d at %d:%d", n % 16384 - 1, int(n / 1048576) % 8192, int(n / 8589934592) % 8)
 }
 function show(from, bytes, text,    card) {
     card = ""

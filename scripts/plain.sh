@@ -30,20 +30,22 @@ function hex(text,   i, n) {
     for (i = 1; i <= length(text); i++) n = n * 16 + index("0123456789abcdef", substr(text, i, 1)) - 1
     return n
 }
-function bits(value, low, width) { return int(value / 2 ^ low) % 2 ^ width }
+# 2 to the n: not every awk can compute powers
+function p2(n,   power) { power = 1; for (; n > 0; n--) power *= 2; return power }
+function bits(value, low, width) { return int(value / p2(low)) % p2(width) }
 function whole(digits,   n) {
     if (digits == "800000000000") return "#800000000000, as READ gives when no number is left"
     n = hex(digits)
     if (bits(n, 39, 7) || bits(n, 47, 1)) return "#" digits
-    return (bits(n, 46, 1) && n % 2 ^ 39 ? "-" : "") sprintf("%.0f", n % 2 ^ 39)
+    return (bits(n, 46, 1) && n % 549755813888 ? "-" : "") sprintf("%.0f", n % 549755813888)
 }
 # a couple of 14 bits as the running level reads it
 function couple(digits,   n, width, i, level, at) {
     n = hex(digits)
     width = running < 4 ? 2 : running < 8 ? 3 : running < 16 ? 4 : 5
     level = 0
-    for (i = 0; i < width; i++) level += bits(n, 13 - i, 1) * 2 ^ i
-    at = n % 2 ^ (14 - width)
+    for (i = 0; i < width; i++) level += bits(n, 13 - i, 1) * p2(i)
+    at = n % p2(14 - width)
     return level "," at (level == 0 && at in intrinsic ? " " intrinsic[at] : "")
 }
 # the record that fields from `at` on name; the field after it is `next_field`
