@@ -26,7 +26,8 @@ room=
 trap 'rm -rf "$room"' EXIT
 trap 'exit 130' HUP INT TERM
 room=$(mktemp -d) || exit 2
-mkdir "$room/bin" || exit 2
+mkdir "$room/bin" "$room/tmp" || exit 2
+export TMPDIR="$room/tmp" # so that what a signal ends leaves nothing
 ln -s "$program" "$room/bin/b67" || exit 2
 export PATH="$room/bin:$PATH" B67="$program"
 [ "$(printf '?JOB A\n?ASM\nSEGMENT M 2\nEXIT\n?END\n' | "$program" run --core 4096 --backing "$room/b")" = '1.1 ENDED' ] || usage "$program: no b67"
